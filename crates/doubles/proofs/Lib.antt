@@ -1,0 +1,13 @@
+pub mod Integers
+pub mod Units
+pub mod Order
+pub mod Bounds
+pub mod Rounding
+pub mod Sums
+pub mod Products
+pub mod Monotone
+pub mod Errors
+pub mod Thousandths
+pub mod ThousandthsByProduct
+pub mod Halves
+pub mod Costs

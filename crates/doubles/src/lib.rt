@@ -1,0 +1,1 @@
+// Laws on doubles, cited by the proofs of the other crates. No code.

@@ -1,0 +1,4 @@
+pub mod LinkedLaws
+pub mod Runs
+pub mod Sets
+pub mod Tests

@@ -1,0 +1,1 @@
+// Laws of lists, cited by the proofs of the other crates. No code.

@@ -1,0 +1,207 @@
+-- Demand 3: `Correspondence`, proved whole. Assumes nothing.
+use mathlib.Core.Path.{_≡_, refl, sym, ap, ap₂, _∙_, subst}
+use Prim.Native.Nat.{ℕ, suc}
+use native.Mathlib.Nat.{zero-add}
+use native.Mathlib.Omega.{arith}
+use mathlib.Core.Bool.{Bool, true, false, cond, not, _&&_, _||_}
+use mathlib.Core.List.{List, [], _∷_, map}
+use mathlib.Core.Option.{Option, none, some}
+use lib.ListN.{length, length-map}
+use lib.Dec.{T, T-not, leb, leb→le}
+use lib.Ieee.{Float}
+use lib.Ieee.Fits.{and-l, and-r}
+use Rattle.pywr.specs.declared.Sentinel.{Sentinel}
+use Rattle.pywr.specs.Result.{value, Result, refused, need}
+use Rattle.pywr.specs.Network.{Node, Period, VirtualStorage, Network, isExclusive}
+use Rattle.pywr.specs.NetworkFile.{parseNetwork}
+use Rattle.pywr.specs.Rows.{columnMap}
+use Rattle.pywr.specs.Programme.{Row, Programme, Built}
+use Rattle.pywr.specs.Build.{nodeShape, placedStorages, assemble, programmeOf, underCeilings, build}
+use Rattle.pywr.specs.StepFile.{StepFile, readStep}
+use Rattle.pywr.specs.StepIntervals.{intervals, Intervals}
+use Rattle.pywr.specs.Step.{periodOf, stepRows, periods}
+use Rattle.pywr.specs.Store.{Store, storeHasRoom, programmeIn}
+use Rattle.pywr.specs.Written.{builtStore}
+use Rattle.pywr.specs.Calls.{wordsNeeded, numbersNeeded, buildRoom, buildAnswer, storeOfBuild, buildStore, isAccepted}
+use Rattle.pywr.specs.Plans.{Plan}
+use Rattle.pywr.specs.Allows.{allows}
+use Rattle.pywr.specs.Admits.{admits}
+use Rattle.pywr.specs.Correspondence.{storeAfter, Report, reports, lastAccepted, periodsOf, readBy, allowsRead, allowsUnder, networkAllows, programmeAdmits, exclusiveConstant, factorsWhole, anyAccepted, Correspondence}
+use Rattle.pywr.proofs.BoundLaws.{or-elim}
+use Rattle.pywr.proofs.Represents.{Roomy, ProgrammeFits, built-represents, programme-back}
+use Rattle.pywr.proofs.RunLaws.{bind-value, need-value, SameElements, Like, Holding, rowsUnder, Settled, Under, run}
+use Rattle.pywr.proofs.ListLaws.{truth, of-true, all-at}
+use Rattle.pywr.proofs.ReadLaws.{same-value, need-test, Sound, read-sound}
+use Rattle.pywr.proofs.StepReadLaws.{StepSound, step-sound, IntervalsOk, intervals-sound}
+use Rattle.pywr.proofs.FitLaws.{OnlyConstant, only-continuous, programme-fits, aggregates-length, forStorages, lengthV}
+use Rattle.pywr.proofs.CountLaws.{sets-under, requests-few}
+use Rattle.pywr.proofs.StepMeets.{step-meets}
+
+-- ---- an accepted build
+
+pub roomy-parts : (s : Store) → T (storeHasRoom s) → Roomy s
+unfolding storeHasRoom
+roomy-parts s h =
+    let a : Bool = leb 640 (length (s .colLower)) in
+    let b : Bool = leb 640 (length (s .colUpper)) in
+    let c : Bool = leb 640 (length (s .colObjCoef)) in
+    let d : Bool = leb 1024 (length (s .rowLower)) in
+    let e : Bool = leb 1024 (length (s .rowUpper)) in
+    let f : Bool = leb 4096 (length (s .elements)) in
+    let g : Bool = leb 4096 (length (s .columns)) in
+    let i : Bool = leb 1025 (length (s .rowStarts)) in
+    let j : Bool = leb 19723 (length (s .shape)) in
+    let h8 = and-l (a && b && c && d && e && f && g && i) j h in
+    let h7 = and-l (a && b && c && d && e && f && g) i h8 in
+    let h6 = and-l (a && b && c && d && e && f) g h7 in
+    let h5 = and-l (a && b && c && d && e) f h6 in
+    let h4 = and-l (a && b && c && d) e h5 in
+    let h3 = and-l (a && b && c) d h4 in
+    let h2 = and-l (a && b) c h3 in
+    record {
+      colLower = leb→le 640 (length (s .colLower)) (and-l a b h2);
+      colUpper = leb→le 640 (length (s .colUpper)) (and-r a b h2);
+      colObjCoef = leb→le 640 (length (s .colObjCoef)) (and-r (a && b) c h3);
+      rowLower = leb→le 1024 (length (s .rowLower)) (and-r (a && b && c) d h4);
+      rowUpper = leb→le 1024 (length (s .rowUpper)) (and-r (a && b && c && d) e h5);
+      elements = leb→le 4096 (length (s .elements)) (and-r (a && b && c && d && e) f h6);
+      columns = leb→le 4096 (length (s .columns)) (and-r (a && b && c && d && e && f) g h7);
+      rowStarts = leb→le 1025 (length (s .rowStarts)) (and-r (a && b && c && d && e && f && g) i h8);
+      shape = leb→le 19723 (length (s .shape)) (and-r (a && b && c && d && e && f && g && i) j h);
+    }
+
+accepted-value : {A : Type 0} (r : Result A) → isAccepted r ≡ true → (x : A) × (r ≡ value x)
+unfolding isAccepted
+accepted-value (value x) e = (x, refl)
+accepted-value (refused n p) e = let z : _≡_ {A = ℕ} 0 1 = cc in absurd (omega arith)
+
+pub record BuildAccepted (s : Sentinel) (net : Network) (old : Store) (file : List ℕ) (words : List ℕ) (numbers : List Float) : Type 0 where
+  pub fits : T (storeHasRoom old)
+  pub room : Roomy old
+  pub under : T (underCeilings (columnMap net) (programmeOf s net .programme))
+  pub store : buildStore s file old words numbers ≡ builtStore old (programmeOf s net)
+
+pub build-accepted : (s : Sentinel) (net : Network) (old : Store) (file : List ℕ) (words : List ℕ) (numbers : List Float) → parseNetwork file ≡ value net → isAccepted (buildAnswer s file old words numbers) ≡ true → BuildAccepted s net old file words numbers
+unfolding buildRoom buildAnswer build buildStore storeOfBuild
+build-accepted s net old file words numbers parsed e =
+    let v = accepted-value (buildAnswer s file old words numbers) e in
+    let a = bind-value _ _ (v .0) (v .1) in
+    let b = bind-value _ _ (v .0) (a .2) in
+    let same : b .0 ≡ net = same-value (b .0) net (sym (b .1) ∙ parsed) in
+    let c : need (underCeilings (columnMap net) (programmeOf s net .programme)) 11 0 (programmeOf s net) ≡ value (v .0) =
+    subst (λ (m : Network). need (underCeilings (columnMap m) (programmeOf s m .programme)) 11 0 (programmeOf s m) ≡ value (v .0)) same (b .2) in
+    let fits = need-test _ 16 0 old (a .0) (a .1) in
+    let w : Bool = leb wordsNeeded (length words) in
+    let n : Bool = leb numbersNeeded (length numbers) in
+    record {
+      fits = and-l (storeHasRoom old) w (and-l (storeHasRoom old && w) n fits);
+      room = roomy-parts old (and-l (storeHasRoom old) w (and-l (storeHasRoom old && w) n fits));
+      under = need-test (underCeilings (columnMap net) (programmeOf s net .programme)) 11 0 (programmeOf s net) (v .0) c;
+      store = ap (storeOfBuild old) (v .1) ∙ ap (builtStore old) (sym (need-value _ 11 0 (programmeOf s net) (v .0) c));
+    }
+
+-- ---- the last accepted file
+
+last-kept : (ts : List Report) (file : List ℕ) → (g : List ℕ) × (lastAccepted (some file) ts ≡ some g)
+unfolding lastAccepted
+last-kept [] file = (file, refl)
+last-kept (t ∷ ts) file = go (t .accepted) (λ k. last-kept ts k)
+  where
+    go : (b : Bool) → ((k : List ℕ) → (g : List ℕ) × (lastAccepted (some k) ts ≡ some g)) → (g : List ℕ) × (lastAccepted (cond b (some (t .file)) (some file)) ts ≡ some g)
+    go true ih = ih (t .file)
+    go false ih = ih file
+
+last-some : (ts : List Report) (o : Option (List ℕ)) → T (anyAccepted ts) → (g : List ℕ) × (lastAccepted o ts ≡ some g)
+unfolding lastAccepted anyAccepted
+last-some [] o h = absurd h
+last-some (t ∷ ts) o h = go (t .accepted) h (λ k q. last-some ts k q)
+  where
+    go : (b : Bool) → T (b || anyAccepted ts) → ((k : Option (List ℕ)) → T (anyAccepted ts) → (g : List ℕ) × (lastAccepted k ts ≡ some g)) → (g : List ℕ) × (lastAccepted (cond b (some (t .file)) o) ts ≡ some g)
+    go true q ih = last-kept ts (t .file)
+    go false q ih = ih o q
+
+-- ---- both sides read the step file alike
+
+same-periods : (vs : List VirtualStorage) (ps : List ℕ) → length vs ≡ length ps → map periodOf (placedStorages vs ps) ≡ map (λ (v : VirtualStorage). v .period) vs
+unfolding placedStorages periodOf
+same-periods [] ps l = refl
+same-periods (v ∷ vs) [] l = let z : suc (length vs) ≡ 0 = l in absurd (omega arith)
+same-periods (v ∷ vs) (p ∷ ps) l = ap (λ (r : List Period). v .period ∷ r) (same-periods vs ps (let z : suc (length vs) ≡ suc (length ps) = l in omega arith))
+
+pub periods-are : (s : Sentinel) (net : Network) (plan : Plan) → periods (programmeOf s net .shape) ≡ periodsOf net
+unfolding periods periodsOf programmeOf assemble
+periods-are s net plan = same-periods (net .virtualStorages) (forStorages s net plan .places) (lengthV s net plan)
+
+periods-length : (net : Network) → length (periodsOf net) ≡ length (net .virtualStorages)
+unfolding periodsOf
+periods-length net = length-map (net .virtualStorages) (λ (v : VirtualStorage). v .period)
+
+storages-length : (s : Sentinel) (net : Network) (plan : Plan) → length (programmeOf s net .shape .virtualStorages) ≡ length (net .virtualStorages)
+unfolding periods periodsOf
+storages-length s net plan =
+    sym (length-map (programmeOf s net .shape .virtualStorages) periodOf) ∙ ap length (periods-are s net plan) ∙ length-map (net .virtualStorages) (λ (v : VirtualStorage). v .period)
+
+pub read-alike : (s : Sentinel) (net : Network) (plan : Plan) (file : List ℕ)
+    → readStep (programmeOf s net .shape .nodes) (length (programmeOf s net .shape .aggregates)) (length (programmeOf s net .shape .virtualStorages)) file ≡ readBy net file
+unfolding readBy programmeOf assemble
+read-alike s net plan file = ap₂ (λ (a v : ℕ). readStep (map nodeShape (net .nodes)) a v file) (aggregates-length s net plan) (storages-length s net plan)
+
+-- ---- the statement
+
+only-constant : (net : Network) → exclusiveConstant net ≡ true → OnlyConstant net
+unfolding exclusiveConstant
+only-constant net e i x h t =
+    let test : ℕ → Node → Bool = (λ n y. not (isExclusive (net .aggregates) n) || y .constant) in
+    let r = subst (λ (k : ℕ). T (test k x)) (zero-add i) (all-at test (net .nodes) 0 .0 (of-true _ e) i x h) in
+    or-elim (not (isExclusive (net .aggregates) i)) (x .constant) r (λ u. absurd (T-not (isExclusive (net .aggregates) i) u t)) (λ u. u)
+
+like-self : (b : Built) → Like b b
+like-self b = record { shape = refl; sentinel = refl; count = refl; lowers = refl; uppers = refl; fixed = refl; varying = same-self (b .programme .varying) }
+  where
+    same-self : (rows : List Row) → SameElements rows rows
+    same-self [] = SameElements.none
+    same-self (x ∷ xs) = SameElements.more refl (same-self xs)
+
+module _ (s : Sentinel) (net : Network) (sound : Sound net) (only : OnlyConstant net) (whole : T (factorsWhole net)) (plan : Plan) where
+  abbrev b : Built
+  b = programmeOf s net
+
+  -- under one accepted file
+  settled-meets : (file : List ℕ) (store : Store) → Under b (some file) store → admits (columnMap net) (programmeIn store) plan ≡ allowsRead s net (readBy net file) plan
+  unfolding Settled rowsUnder allowsRead readBy programmeOf assemble
+  settled-meets file store u =
+      let h : Holding b store = u .holding in
+      let p : Programme = h .now .programme in
+      let f : StepFile = u .settled .0 in
+      let read : readBy net file ≡ value f = sym (read-alike s net plan file) ∙ u .settled .1 in
+      let i : Intervals = intervals s (periodsOf net) f in
+      let long : length (periodsOf net) ≡ length (net .virtualStorages) = periods-length net in
+      let ok : IntervalsOk (length (net .aggregates)) (length (net .virtualStorages)) i =
+      subst (λ (k : ℕ). IntervalsOk (length (net .aggregates)) k i) long
+      (intervals-sound s (periodsOf net) (length (net .aggregates)) f (subst (λ (k : ℕ). StepSound (length (net .aggregates)) k f) (sym long) (step-sound _ (length (net .aggregates)) (length (net .virtualStorages)) file f read))) in
+      let varying = u .settled .2 ∙ ap (λ (q : List Period). stepRows s (b .shape) (intervals s q f) (b .programme .varying)) (periods-are s net plan) in
+      ap (λ (q : Programme). admits (columnMap net) q plan) (programme-back store (h .now) (h .held))
+      ∙ truth (admits (columnMap net) p plan) (allows s net i plan) (step-meets s net sound only whole plan i ok p (h .like .sentinel) (h .like .lowers) (h .like .uppers) varying (h .like .fixed))
+      ∙ sym (ap (λ (r : Result StepFile). allowsRead s net r plan) read)
+
+-- "the programme admits each flow plan exactly when the network allows that plan under the last accepted step"
+pub correspondence : Correspondence
+unfolding programmeAdmits networkAllows allowsUnder Settled
+correspondence networkFile s old words numbers net parsed accepted constant whole calls any plan =
+    let sound : Sound net = read-sound networkFile net parsed in
+    let only : OnlyConstant net = only-constant net constant in
+    let built = build-accepted s net old networkFile words numbers parsed accepted in
+    let b : Built = programmeOf s net in
+    let fits : ProgrammeFits b = programme-fits s net plan (sound .good) (requests-few net (sound .good) (sets-under net (programmeOf s net .programme) (built .under))) (built .under) in
+    let start : Under b none (builtStore old b) = record { holding = record { now = b; held = built-represents old b (built .room) fits; like = like-self b }; settled = tt } in
+    let last = run b (only-continuous s net only) calls (builtStore old b) none start in
+    let ts : List Report = reports (builtStore old b) calls in
+    let any′ : T (anyAccepted ts) = of-true (anyAccepted ts) (ap (λ (q : Store). anyAccepted (reports q calls)) (sym (built .store)) ∙ any) in
+    let file = last-some ts none any′ in
+    let u : Under b (some (file .0)) (storeAfter (builtStore old b) calls) = subst (λ (o : Option (List ℕ)). Under b o (storeAfter (builtStore old b) calls)) (file .1) last in
+    let meet : admits (columnMap net) (programmeIn (storeAfter (builtStore old b) calls)) plan ≡ allowsRead s net (readBy net (file .0)) plan = settled-meets s net sound only (of-true (factorsWhole net) whole) plan (file .0) (storeAfter (builtStore old b) calls) u in
+    let left : programmeAdmits (parseNetwork networkFile) (storeAfter (buildStore s networkFile old words numbers) calls) plan ≡ admits (columnMap net) (programmeIn (storeAfter (builtStore old b) calls)) plan =
+    ap₂ (λ (r : Result Network) (q : Store). programmeAdmits r (storeAfter q calls) plan) parsed (built .store) in
+    let right : networkAllows (parseNetwork networkFile) s (reports (buildStore s networkFile old words numbers) calls) plan ≡ allowsRead s net (readBy net (file .0)) plan =
+    ap₂ (λ (r : Result Network) (q : Store). networkAllows r s (reports q calls) plan) parsed (built .store) ∙ ap (λ (o : Option (List ℕ)). allowsUnder s net o plan) (file .1) in
+    left ∙ meet ∙ sym right

@@ -1,0 +1,355 @@
+-- The programme of a sound network under the ceilings fits the store, every row that it asks for is one of doubles, and where no exclusive node varies
+-- every node row is continuous. Assumes nothing.
+use mathlib.Core.Path.{_≡_, refl, sym, ap, ap₂, _∙_, subst}
+use mathlib.Core.Logic.{_↔_}
+use Prim.Native.Nat.{ℕ, zero, suc, _+_, _≤_, suc-le-suc, zero-le}
+use native.Mathlib.Nat.{zero-add, le-refl, le-trans}
+use native.Mathlib.Omega.{arith}
+use mathlib.Core.Bool.{Bool, true, false, cond, not, _&&_}
+use mathlib.Core.List.{List, [], _∷_, _++_, map}
+use mathlib.Core.Option.{Option, none, some}
+use lib.ListN.{length, getElem?, replicate, length-append, length-map, length-replicate}
+use lib.Dec.{T, eqb, T-not, not-T, leb, le→leb, leb→le}
+use lib.Ieee.{Float, neg}
+use lib.Ieee.Fits.{and-l, and-r}
+use Rattle.pywr.specs.declared.Sentinel.{Sentinel}
+use Rattle.pywr.specs.Numbers.{one64}
+use Rattle.pywr.specs.Network.{output, storage, Node, Edge, Aggregate, Part, VirtualStorage, Network, kindOf, isExclusive}
+use Rattle.pywr.specs.ColEdgeMap.{columns, Columns, columnAt, put, putNew, addSimpleEdge, addEqualEdges, sharesWith, placeEdge, placeEdges, mappedEdges}
+use Rattle.pywr.specs.ExclusiveSets.{exclusiveSets, setsListing}
+use Rattle.pywr.specs.Rows.{Element, addOn, ColumnMap, columnMap, columnsInto, columnsOutOf, addNode, nodeRow, addNodes, addSetsOf, aggregateRow, addParts, virtualStorageRow, upperRow, lowerRow}
+use Rattle.pywr.specs.VariableRows.{addVariableRows, Joined}
+use Rattle.pywr.specs.Programme.{Row, Programme, continuous}
+use Rattle.pywr.specs.VaryingRows.{RowRequest, exclusiveRequests, requestsBySets, requestsFrom, freshRow}
+use Rattle.pywr.specs.Build.{edgeColumn, setColumn, allColumns, nodeShape, placedNodeRows, placedStorages, requestedRow, assemble, programmeOf, elementCount, underCeilings}
+use Rattle.pywr.specs.Step.{rowOf}
+use Rattle.pywr.specs.Written.{integerColumns, rowsOf}
+use Rattle.pywr.specs.Plans.{Plan}
+use Rattle.pywr.proofs.ColumnLaws.{put-length, new-length}
+use Rattle.pywr.proofs.AmountLaws.{pipes-length}
+use Rattle.pywr.proofs.JoinLaws.{AllFit, add-fit, add-on-fit, RowsFit, Placed, JoinKept, joins-kept, placed-stays}
+use Rattle.pywr.proofs.RowsBack.{Typed}
+use Rattle.pywr.proofs.Represents.{ProgrammeFits}
+use Rattle.pywr.proofs.RunLaws.{Continuous}
+use Rattle.pywr.proofs.VaryingLaws.{node-places}
+use Rattle.pywr.proofs.MassLaws.{Every}
+use Rattle.pywr.proofs.ListLaws.{to-true, each-of}
+use Rattle.pywr.proofs.ListingLaws.{unlisted}
+use Rattle.pywr.proofs.ReadLaws.{Good}
+
+pub to-false : (b : Bool) → T (not b) → b ≡ false
+to-false true t = absurd t
+to-false false t = refl
+
+-- ---- the columns' table: as long as the edges, and no more columns than edges
+
+simple-count : (o : Option ℕ) (e : ℕ) (c : Columns) → (length (addSimpleEdge o e c .of) ≡ length (c .of)) × (addSimpleEdge o e c .count ≤ suc (c .count))
+unfolding addSimpleEdge putNew
+simple-count (some k) e c = (refl, omega arith)
+simple-count none e c = (new-length c e, le-refl (suc (c .count)))
+
+equal-count : (o r : Option ℕ) (e p : ℕ) (c : Columns) → (length (addEqualEdges o r e p c .of) ≡ length (c .of)) × (addEqualEdges o r e p c .count ≤ suc (c .count))
+unfolding addEqualEdges putNew put
+equal-count (some k) (some j) e p c = (refl, omega arith)
+equal-count none (some k) e p c = (put-length c e k, omega arith)
+equal-count (some k) none e p c = (put-length c p k, omega arith)
+equal-count none none e p c = (put-length (putNew e c) p (c .count) ∙ new-length c e, le-refl (suc (c .count)))
+
+place-count : (o : Option ℕ) (e : ℕ) (c : Columns) → (length (placeEdge o e c .of) ≡ length (c .of)) × (placeEdge o e c .count ≤ suc (c .count))
+unfolding placeEdge
+place-count none e c = simple-count (columnAt c e) e c
+place-count (some p) e c = equal-count (columnAt c e) (columnAt c p) e p c
+
+places-count : (net : Network) (e : ℕ) (xs : List Edge) (c : Columns) → (length (placeEdges net e xs c .of) ≡ length (c .of)) × (placeEdges net e xs c .count ≤ c .count + length xs)
+unfolding placeEdges
+places-count net e [] c = (refl, omega arith)
+places-count net e (x ∷ xs) c =
+    let a = place-count (sharesWith net x) e c in
+    let b = places-count net (suc e) xs (placeEdge (sharesWith net x) e c) in
+    let p = a .1 in
+    let q = b .1 in
+    (b .0 ∙ a .0, omega arith)
+
+pub columns-long : (net : Network) → length (net .edges) ≡ length (columns net .of)
+unfolding columns
+columns-long net = sym (places-count net 0 (net .edges) _ .0 ∙ length-replicate (length (net .edges)) none)
+
+pub columns-most : (net : Network) → columns net .count ≤ length (net .edges)
+unfolding columns
+columns-most net = let h = places-count net 0 (net .edges) (record { of = replicate (length (net .edges)) none; count = 0 }) .1 in omega arith
+
+-- ---- the columns of the programme
+
+module _ (w : Sentinel) (edges : ℕ) where
+  typed-sets : (n c : ℕ) → edges ≤ c → Typed edges c (replicate n setColumn)
+  unfolding setColumn
+  typed-sets zero c h = Typed.none
+  typed-sets (suc n) c h = Typed.more (sym (to-true (leb edges c) (le→leb edges c h))) (typed-sets n (c + 1) (omega arith))
+
+  typed-all : (k n c : ℕ) → c + k ≡ edges → Typed edges c (replicate k (edgeColumn w) ++ replicate n setColumn)
+  unfolding edgeColumn
+  typed-all zero n c h = typed-sets n c (omega arith)
+  typed-all (suc k) n c h =
+      Typed.more (sym (to-false (leb edges c) (not-T (leb edges c) (λ t. let l = leb→le edges c t in omega arith)))) (typed-all k n (c + 1) (omega arith))
+
+  integers-sets : (n : ℕ) → integerColumns (replicate n setColumn) ≡ n
+  unfolding integerColumns setColumn
+  integers-sets zero = refl
+  integers-sets (suc n) = ap suc (integers-sets n)
+
+  pub integers-all : (k n : ℕ) → integerColumns (replicate k (edgeColumn w) ++ replicate n setColumn) ≡ n
+  unfolding integerColumns edgeColumn
+  integers-all zero n = integers-sets n
+  integers-all (suc k) n = integers-all k n
+
+columns-count : (w : Sentinel) (f : ColumnMap) → length (allColumns w f) ≡ f .edgeColumns + length (f .sets)
+unfolding allColumns
+columns-count w f =
+    length-append (replicate (f .edgeColumns) (edgeColumn w)) (replicate (length (f .sets)) setColumn)
+    ∙ ap₂ (λ (a b : ℕ). a + b) (length-replicate (f .edgeColumns) (edgeColumn w)) (length-replicate (length (f .sets)) setColumn)
+
+-- ---- the rows asked for are rows of doubles
+
+node-fit : (f : ColumnMap) (n : ℕ) (x : Float) (row : List Element) → AllFit row → AllFit (addNode f n x row)
+unfolding addNode
+node-fit f n x row h = go (kindIs output) (kindIs storage)
+  where
+    kindIs : ℕ → Bool
+    kindIs k = eqb (kindOf (f .nodes) n) k
+
+    go : (a b : Bool)
+        → AllFit (cond a (addOn (columnsInto n (f .mappedEdges)) x row) (cond b (addOn (columnsOutOf n (f .mappedEdges)) (neg x) (addOn (columnsInto n (f .mappedEdges)) x row)) (addOn (columnsOutOf n (f .mappedEdges)) x row)))
+    go true b = add-on-fit (columnsInto n (f .mappedEdges)) x row h
+    go false true = add-on-fit (columnsOutOf n (f .mappedEdges)) (neg x) _ (add-on-fit (columnsInto n (f .mappedEdges)) x row h)
+    go false false = add-on-fit (columnsOutOf n (f .mappedEdges)) x row h
+
+nodes-fit : (f : ColumnMap) (ns : List ℕ) (row : List Element) → AllFit row → AllFit (addNodes f ns row)
+unfolding addNodes
+nodes-fit f [] row h = h
+nodes-fit f (n ∷ ns) row h = nodes-fit f ns _ (node-fit f n one64 row h)
+
+sets-fit : (f : ColumnMap) (ss : List (List ℕ)) (row : List Element) → AllFit row → AllFit (addSetsOf f ss row)
+unfolding addSetsOf
+sets-fit f [] row h = h
+sets-fit f (s ∷ ss) row h = sets-fit f ss _ (nodes-fit f s row h)
+
+parts-fit : (f : ColumnMap) (ps : List Part) (row : List Element) → AllFit row → AllFit (addParts f ps row)
+unfolding addParts
+parts-fit f [] row h = h
+parts-fit f (p ∷ ps) row h = parts-fit f ps _ (node-fit f (p .node) (neg (p .factor)) row h)
+
+aggregates-fit : (f : ColumnMap) (xs : List Aggregate) → RowsFit (map (aggregateRow f) xs)
+unfolding aggregateRow
+aggregates-fit f [] = RowsFit.none
+aggregates-fit f (x ∷ xs) = RowsFit.more (sets-fit f (x .sets) [] AllFit.none) (aggregates-fit f xs)
+
+storages-fit : (f : ColumnMap) (xs : List VirtualStorage) → RowsFit (map (virtualStorageRow f) xs)
+unfolding virtualStorageRow
+storages-fit f [] = RowsFit.none
+storages-fit f (x ∷ xs) = RowsFit.more (parts-fit f (x .parts) [] AllFit.none) (storages-fit f xs)
+
+-- the node rows: of each varying node that no set lists
+abbrev pub Plain : ColumnMap → ℕ → RowRequest → Type 0
+Plain f n a = (a .node ≡ n) × (a .rowType ≡ continuous) × (a .row ≡ nodeRow f n)
+
+requests-fit : (f : ColumnMap) (requests : List RowRequest) → Every (λ (a : RowRequest). AllFit (a .row)) requests → RowsFit (map requestedRow requests)
+unfolding requestedRow
+requests-fit f [] h = RowsFit.none
+requests-fit f (a ∷ requests) h = RowsFit.more (h .0) (requests-fit f requests (h .1))
+
+exclusive-fit : (f : ColumnMap) (n : ℕ) (ks : List ℕ) → Every (λ (a : RowRequest). AllFit (a .row)) (exclusiveRequests f n ks)
+unfolding exclusiveRequests upperRow lowerRow
+exclusive-fit f n [] = tt
+exclusive-fit f n (k ∷ ks) = (add-fit _ one64 _ (node-fit f n (neg one64) [] AllFit.none), (add-fit _ (neg one64) _ (node-fit f n one64 [] AllFit.none), exclusive-fit f n ks))
+
+by-sets-fit : (f : ColumnMap) (n : ℕ) (ks : List ℕ) → Every (λ (a : RowRequest). AllFit (a .row)) (requestsBySets f n ks)
+unfolding requestsBySets nodeRow
+by-sets-fit f n [] = (node-fit f n one64 [] AllFit.none, tt)
+by-sets-fit f n (k ∷ ks) = exclusive-fit f n (k ∷ ks)
+
+abbrev pub asksOf : ColumnMap → ℕ → Node → List RowRequest
+asksOf f n x = cond (x .constant) [] (requestsBySets f n (setsListing n 0 (f .sets)))
+
+pub each-ask : (f : ColumnMap) (P : RowRequest → Type 0) (xs : List Node) (n : ℕ) → Every P (requestsFrom f n xs) ↔ ((i : ℕ) (x : Node) → getElem? xs i ≡ some x → Every P (asksOf f (n + i) x))
+unfolding requestsFrom
+each-ask f P xs n = each-of P (asksOf f) (requestsFrom f) (λ m. refl) (λ m x l. refl) xs n
+
+asked-fit : (f : ColumnMap) (xs : List Node) → RowsFit (map requestedRow (requestsFrom f 0 xs))
+asked-fit f xs = requests-fit f (requestsFrom f 0 xs) (each-ask f (λ (a : RowRequest). AllFit (a .row)) xs 0 .1 (λ i x e. go (x .constant) (0 + i)))
+  where
+    go : (b : Bool) (n : ℕ) → Every (λ (a : RowRequest). AllFit (a .row)) (cond b [] (requestsBySets f n (setsListing n 0 (f .sets))))
+    go true n = tt
+    go false n = by-sets-fit f n (setsListing n 0 (f .sets))
+
+-- ---- no exclusive node varies: one continuous row for each varying node
+
+abbrev pub OnlyConstant : Network → Type 0
+OnlyConstant net = (i : ℕ) (x : Node) → getElem? (net .nodes) i ≡ some x → T (isExclusive (net .aggregates) i) → T (x .constant)
+
+module _ (net : Network) (only : OnlyConstant net) where
+  abbrev f : ColumnMap
+  f = columnMap net
+
+  -- a varying node asks for its node row
+  pub varying-asks : (i : ℕ) (x : Node) → getElem? (net .nodes) i ≡ some x → T (not (x .constant)) → asksOf f i x ≡ record { node = i; rowType = continuous; set = 0; row = nodeRow f i } ∷ []
+  unfolding requestsBySets columnMap
+  varying-asks i x e t =
+      let free : T (not (isExclusive (net .aggregates) i)) = not-T (isExclusive (net .aggregates) i) (λ u. T-not (x .constant) t (only i x e u)) in
+      ap (λ (b : Bool). cond b [] (requestsBySets (columnMap net) i (setsListing i 0 (exclusiveSets net)))) (to-false (x .constant) t) ∙ ap (requestsBySets (columnMap net) i) (unlisted net i free)
+
+  pub constant-asks : (i : ℕ) (x : Node) → T (x .constant) → asksOf f i x ≡ []
+  constant-asks i x t = ap (λ (b : Bool). cond b [] (requestsBySets (columnMap net) i (setsListing i 0 (columnMap net .sets)))) (to-true (x .constant) t)
+
+  by-flag : {X : Type 0} (b : Bool) → (T b → X) → (T (not b) → X) → X
+  by-flag true y n = y tt
+  by-flag false y n = n tt
+
+  -- what holds of the varying nodes' rows holds of all that is asked for
+  pub requests-are : (P : RowRequest → Type 0) → Every P (requestsFrom f 0 (net .nodes)) ↔ ((i : ℕ) (x : Node) → getElem? (net .nodes) i ≡ some x → T (not (x .constant)) → P (record { node = i; rowType = continuous; set = 0; row = nodeRow f i }))
+  requests-are P =
+      let each = each-ask f P (net .nodes) 0 in (
+        λ h i x e t. subst (Every P) (varying-asks i x e t) (subst (λ (m : ℕ). Every P (asksOf f m x)) (zero-add i) (each .0 h i x e)) .0,
+        λ k. each .1 (λ i x e.
+            subst (λ (m : ℕ). Every P (asksOf f m x)) (sym (zero-add i))
+            (by-flag (x .constant) (λ t. subst (Every P) (sym (constant-asks i x t)) tt) (λ t. subst (Every P) (sym (varying-asks i x e t)) (k i x e t, tt)))),
+      )
+
+placed-few : (requests : List RowRequest) (ps : List ℕ) → length (placedNodeRows requests ps) ≤ length requests
+unfolding placedNodeRows
+placed-few [] ps = zero-le
+placed-few (a ∷ requests) [] = zero-le
+placed-few (a ∷ requests) (p ∷ ps) = suc-le-suc (placed-few requests ps)
+
+placed-continuous : (requests : List RowRequest) (ps : List ℕ) → Every (λ (a : RowRequest). a .rowType ≡ continuous) requests → Continuous (placedNodeRows requests ps)
+unfolding placedNodeRows
+placed-continuous [] ps h = Continuous.none
+placed-continuous (a ∷ requests) [] h = Continuous.none
+placed-continuous (a ∷ requests) (p ∷ ps) h = Continuous.more (h .0) (placed-continuous requests ps (h .1))
+
+pub placed-length : (f : ColumnMap) (plan : Plan) (rows asked : List (List Element)) (ps : List ℕ) → Placed f plan rows asked ps → length asked ≡ length ps
+placed-length f plan rows [] [] Placed.none = refl
+placed-length f plan rows (r ∷ rs) (p ∷ ps) (Placed.more h e rest) = ap suc (placed-length f plan rows rs ps rest)
+
+pub same-places : (requests : List RowRequest) (ps : List ℕ) → length requests ≡ length ps → node-places (placedNodeRows requests ps) ≡ ps
+unfolding placedNodeRows node-places
+same-places [] [] l = refl
+same-places [] (p ∷ ps) l = let z : 0 ≡ suc (length ps) = l in absurd (omega arith)
+same-places (a ∷ requests) [] l = let z : suc (length requests) ≡ 0 = l in absurd (omega arith)
+same-places (a ∷ requests) (p ∷ ps) l = ap (λ (r : List ℕ). p ∷ r) (same-places requests ps (let z : suc (length requests) ≡ suc (length ps) = l in omega arith))
+
+pub same-storages : (vs : List VirtualStorage) (ps : List ℕ) → length vs ≡ length ps → map rowOf (placedStorages vs ps) ≡ ps
+unfolding placedStorages rowOf
+same-storages [] [] l = refl
+same-storages [] (p ∷ ps) l = let z : 0 ≡ suc (length ps) = l in absurd (omega arith)
+same-storages (v ∷ vs) [] l = let z : suc (length vs) ≡ 0 = l in absurd (omega arith)
+same-storages (v ∷ vs) (p ∷ ps) l = ap (λ (r : List ℕ). p ∷ r) (same-storages vs ps (let z : suc (length vs) ≡ suc (length ps) = l in omega arith))
+
+pub elements-append : (v f : List Row) → elementCount (v ++ f) ≡ elementCount v + elementCount f
+unfolding elementCount
+elements-append [] f = sym (zero-add (elementCount f))
+elements-append (r ∷ v) f = let ih = elements-append v f in omega arith
+
+-- ---- what the build joins
+
+pub record Asked (w : Sentinel) (net : Network) (plan : Plan) (joined : List (List Element)) : Type 0 where
+  pub varying : programmeOf w net .programme .varying ≡ map (freshRow w) joined
+  pub nodes : Placed (columnMap net) plan joined (map requestedRow (requestsFrom (columnMap net) 0 (net .nodes))) (node-places (programmeOf w net .shape .nodeRows))
+  pub aggregates : Placed (columnMap net) plan joined (map (aggregateRow (columnMap net)) (net .aggregates)) (programmeOf w net .shape .aggregates)
+  pub storages : Placed (columnMap net) plan joined (map (virtualStorageRow (columnMap net)) (net .virtualStorages)) (map rowOf (programmeOf w net .shape .virtualStorages))
+
+module _ (w : Sentinel) (net : Network) (plan : Plan) where
+  abbrev pub g : ColumnMap
+  g = columnMap net
+
+  abbrev pub requests : List RowRequest
+  requests = requestsFrom g 0 (net .nodes)
+
+  abbrev pub forNodes : Joined
+  forNodes = addVariableRows (map requestedRow requests) (record { rows = []; places = [] })
+
+  abbrev pub forAggregates : Joined
+  forAggregates = addVariableRows (map (aggregateRow g) (net .aggregates)) (record { rows = forNodes .rows; places = [] })
+
+  abbrev pub forStorages : Joined
+  forStorages = addVariableRows (map (virtualStorageRow g) (net .virtualStorages)) (record { rows = forAggregates .rows; places = [] })
+
+  keptN : JoinKept g plan (map requestedRow requests) forNodes
+  keptN = joins-kept g plan (map requestedRow requests) [] _ (asked-fit g (net .nodes)) (record { fit = RowsFit.none; placed = Placed.none })
+
+  keptA : JoinKept g plan (map (aggregateRow g) (net .aggregates)) forAggregates
+  keptA = joins-kept g plan (map (aggregateRow g) (net .aggregates)) [] _ (aggregates-fit g (net .aggregates)) (record { fit = keptN .fit; placed = Placed.none })
+
+  keptV : JoinKept g plan (map (virtualStorageRow g) (net .virtualStorages)) forStorages
+  keptV = joins-kept g plan (map (virtualStorageRow g) (net .virtualStorages)) [] _ (storages-fit g (net .virtualStorages)) (record { fit = keptA .fit; placed = Placed.none })
+
+  pub lengthN : length requests ≡ length (forNodes .places)
+  lengthN = sym (length-map requests requestedRow) ∙ placed-length g plan (forNodes .rows) (map requestedRow requests) (forNodes .places) (keptN .placed)
+
+  pub lengthA : length (net .aggregates) ≡ length (forAggregates .places)
+  lengthA = sym (length-map (net .aggregates) (aggregateRow g)) ∙ placed-length g plan (forAggregates .rows) _ (forAggregates .places) (keptA .placed)
+
+  pub lengthV : length (net .virtualStorages) ≡ length (forStorages .places)
+  lengthV = sym (length-map (net .virtualStorages) (virtualStorageRow g)) ∙ placed-length g plan (forStorages .rows) _ (forStorages .places) (keptV .placed)
+
+  pub aggregates-length : length (programmeOf w net .shape .aggregates) ≡ length (net .aggregates)
+  unfolding programmeOf assemble
+  aggregates-length = sym lengthA
+
+  pub asked : Asked w net plan (forStorages .rows)
+  unfolding programmeOf assemble
+  asked =
+      record {
+        varying = refl;
+        nodes =
+            subst (λ (ps : List ℕ). Placed g plan (forStorages .rows) (map requestedRow requests) ps) (sym (same-places requests (forNodes .places) lengthN))
+            (placed-stays g plan (map requestedRow requests) (forNodes .places) (map (virtualStorageRow g) (net .virtualStorages)) (record { rows = forAggregates .rows; places = [] })
+            (placed-stays g plan (map requestedRow requests) (forNodes .places) (map (aggregateRow g) (net .aggregates)) (record { rows = forNodes .rows; places = [] }) (keptN .placed)));
+        aggregates =
+            placed-stays g plan (map (aggregateRow g) (net .aggregates)) (forAggregates .places) (map (virtualStorageRow g) (net .virtualStorages)) (record { rows = forAggregates .rows; places = [] })
+            (keptA .placed);
+        storages =
+            subst (λ (ps : List ℕ). Placed g plan (forStorages .rows) (map (virtualStorageRow g) (net .virtualStorages)) ps) (sym (same-storages (net .virtualStorages) (forStorages .places) lengthV))
+            (keptV .placed);
+      }
+
+-- ---- the ceilings
+
+pub storages-few : (vs : List VirtualStorage) (ps : List ℕ) → length (placedStorages vs ps) ≤ length vs
+unfolding placedStorages
+storages-few [] ps = zero-le
+storages-few (v ∷ vs) [] = zero-le
+storages-few (v ∷ vs) (p ∷ ps) = suc-le-suc (storages-few vs ps)
+
+pub only-continuous : (w : Sentinel) (net : Network) → OnlyConstant net → Continuous (programmeOf w net .shape .nodeRows)
+unfolding programmeOf assemble
+only-continuous w net only = placed-continuous (requestsFrom (columnMap net) 0 (net .nodes)) _ (requests-are net only (λ (a : RowRequest). a .rowType ≡ continuous) .1 (λ i x e t. refl))
+
+pub programme-fits : (w : Sentinel) (net : Network) (plan : Plan) → Good net → length (requestsFrom (columnMap net) 0 (net .nodes)) ≤ 4352 → T (underCeilings (columnMap net) (programmeOf w net .programme)) → ProgrammeFits (programmeOf w net)
+unfolding underCeilings programmeOf assemble columnMap mappedEdges rowsOf allColumns
+programme-fits w net plan good fewAsks under =
+    let p : Programme = programmeOf w net .programme in
+    let sets : ℕ = length (exclusiveSets net) in
+    let a = leb→le sets 128 (and-l (leb sets 128) (leb (length (p .varying) + length (p .fixed)) 1024) (and-l (leb sets 128 && leb (length (p .varying) + length (p .fixed)) 1024) (leb (elementCount (p .varying) + elementCount (p .fixed)) 4096) under)) in
+    let b = leb→le (length (p .varying) + length (p .fixed)) 1024 (and-r (leb sets 128) (leb (length (p .varying) + length (p .fixed)) 1024) (and-l (leb sets 128 && leb (length (p .varying) + length (p .fixed)) 1024) (leb (elementCount (p .varying) + elementCount (p .fixed)) 4096) under)) in
+    let c = leb→le (elementCount (p .varying) + elementCount (p .fixed)) 4096 (and-r (leb sets 128 && leb (length (p .varying) + length (p .fixed)) 1024) (leb (elementCount (p .varying) + elementCount (p .fixed)) 4096) under) in
+    let most = columns-most net in
+    let nn = good .nodeCount in
+    let ne = good .edgeCount in
+    let na = good .aggregateCount in
+    let nv = good .storageCount in
+    let cc′ = columns-count w (columnMap net) in
+    record {
+      tables =
+          record {
+            nodes = subst (λ (k : ℕ). k ≤ 256) (sym (length-map (net .nodes) nodeShape)) nn;
+            mappedEdges = subst (λ (k : ℕ). k ≤ 512) (sym (pipes-length (net .edges) (columns net .of) (columns-long net))) ne;
+            nodeRows = let h = placed-few (requestsFrom (columnMap net) 0 (net .nodes)) (forNodes w net plan .places) in le-trans h fewAsks;
+            aggregates = subst (λ (k : ℕ). k ≤ 64) (sym (aggregates-length w net plan)) na;
+            virtualStorages = let h = storages-few (net .virtualStorages) (forStorages w net plan .places) in omega arith;
+          };
+      columns = subst (λ (k : ℕ). k ≤ 640) (sym cc′) (omega arith);
+      rows = let l = length-append (p .varying) (p .fixed) in omega arith;
+      elements = subst (λ (k : ℕ). k ≤ 4096) (sym (elements-append (p .varying) (p .fixed))) c;
+      typed = typed-all w (columns net .count) (columns net .count) sets 0 (zero-add (columns net .count));
+      integers = ap (λ (k : ℕ). columns net .count + k) (integers-all w (columns net .count) (columns net .count) sets) ∙ sym cc′;
+    }

@@ -1,0 +1,177 @@
+-- Rows that are joined: the row at a place has the sum of the row that was asked for. Assumes nothing.
+use mathlib.Core.Path.{_≡_, refl, sym, ap, ap₂, _∙_, subst}
+use Prim.Native.Nat.{ℕ, zero, suc, _<_, _≤_, suc-le-suc, zero-le, compare, Ordering, Ordering·lt, Ordering·eq, Ordering·gt}
+use native.Mathlib.Nat.{not-suc-le-zero, le-of-suc-le-suc}
+use native.Mathlib.Omega.{arith}
+use mathlib.Core.Bool.{Bool, true, false, cond, not, _&&_}
+use mathlib.Core.List.{List, [], _∷_, _++_, append-nil, append-assoc}
+use lib.ListN.{length, getD, length-append, List·getD-append}
+use lib.Seq.{getD-at}
+use lib.IntN.{ℤ, pos, negsuc, _+ℤ_, _*ℤ_}
+use lib.Signed.{leZ}
+use lib.Dec.{T, eqb, ltb, eqb→eq, leb→le, ltb→lt, nltb→le}
+use lib.Ieee.{Float, nan, inf, fin, binary64, fits, eq, le, lt}
+use lib.Ieee.Fits.{and-l, and-r, add-fits}
+use Rattle.pywr.specs.Rows.{Element, insert, addElement, addOn, ColumnMap}
+use Rattle.pywr.specs.VariableRows.{sameRow, position, addVariableRows, Joined, addVariableRow}
+use Rattle.pywr.specs.Plans.{exact, Plan}
+use Rattle.pywr.specs.Admits.{onColumn, rowSum}
+use Rattle.pywr.proofs.BoundLaws.{exact-of-le, or-r, eq-flip}
+
+-- every factor is a double
+pub data AllFit : List Element → Type 0 where
+  none : AllFit []
+  more : {e : Element} {es : List Element} → T (fits binary64 (e .factor)) → AllFit es → AllFit (e ∷ es)
+
+pub add-fit : (c : ℕ) (x : Float) (row : List Element) → AllFit row → AllFit (addElement c x row)
+unfolding addElement insert
+add-fit c x [] none = more (add-fits binary64 _ x) none
+add-fit c x (e ∷ es) (more h hs) = go (add-fit c x es hs) (compare c (e .column))
+  where
+    go : AllFit (addElement c x es) → (o : Ordering) → AllFit (insert o c x e es (addElement c x es))
+    go ih Ordering·lt = more (add-fits binary64 _ x) (more h hs)
+    go ih Ordering·eq = more (add-fits binary64 (e .factor) x) hs
+    go ih Ordering·gt = more h ih
+
+pub add-on-fit : (cs : List ℕ) (x : Float) (row : List Element) → AllFit row → AllFit (addOn cs x row)
+unfolding addOn
+add-on-fit [] x row h = h
+add-on-fit (c ∷ cs) x row h = add-on-fit cs x (addElement c x row) (add-fit c x row h)
+
+antisym : (a b : ℤ) → T (leZ a b) → T (leZ b a) → a ≡ b
+antisym (pos a) (pos b) h k = let x = leb→le a b h in let y = leb→le b a k in ap pos (omega arith)
+antisym (pos a) (negsuc b) h k = absurd h
+antisym (negsuc a) (pos b) h k = absurd k
+antisym (negsuc a) (negsuc b) h k = let x = leb→le b a h in let y = leb→le a b k in ap negsuc (omega arith)
+
+-- equal doubles have equal exact values
+pub eq-exact : (x y : Float) → T (fits binary64 x) → T (fits binary64 y) → T (eq x y) → exact x ≡ exact y
+unfolding eq le exact
+eq-exact nan y fx fy h = absurd h
+eq-exact (inf s) nan fx fy h = absurd h
+eq-exact (inf s) (inf t) fx fy h = refl
+eq-exact (inf s) (fin t n d) fx fy h = absurd h
+eq-exact (fin s m e) nan fx fy h = absurd h
+eq-exact (fin s m e) (inf t) fx fy h = absurd h
+eq-exact (fin s m e) (fin t n d) fx fy h =
+    antisym (exact (fin s m e)) (exact (fin t n d))
+    (exact-of-le s t m n e d fx fy (or-r (lt (fin s m e) (fin t n d)) (eq (fin s m e) (fin t n d)) h))
+    (exact-of-le t s n m d e fy fx (or-r (lt (fin t n d) (fin s m e)) (eq (fin t n d) (fin s m e)) (eq-flip s t m n e d h)))
+
+module _ (f : ColumnMap) (plan : Plan) where
+  pub same-sum : (a b : List Element) → AllFit a → AllFit b → T (sameRow a b) → rowSum f plan a ≡ rowSum f plan b
+  unfolding sameRow rowSum
+  same-sum [] [] none none h = refl
+  same-sum [] (y ∷ ys) fa fb h = absurd h
+  same-sum (x ∷ xs) [] fa fb h = absurd h
+  same-sum (x ∷ xs) (y ∷ ys) (more fx fa) (more fy fb) h =
+      let both : T (eqb (x .column) (y .column) && eq (x .factor) (y .factor)) = and-l (eqb (x .column) (y .column) && eq (x .factor) (y .factor)) (sameRow xs ys) h in
+      let c : x .column ≡ y .column = eqb→eq (x .column) (y .column) (and-l (eqb (x .column) (y .column)) (eq (x .factor) (y .factor)) both) in
+      let e : exact (x .factor) ≡ exact (y .factor) = eq-exact (x .factor) (y .factor) fx fy (and-r (eqb (x .column) (y .column)) (eq (x .factor) (y .factor)) both) in
+      ap₂ (λ (u v : ℤ). u +ℤ v) (ap₂ (λ (u : ℤ) (k : ℕ). u *ℤ pos (onColumn f plan k)) e c)
+      (same-sum xs ys fa fb (and-r (eqb (x .column) (y .column) && eq (x .factor) (y .factor)) (sameRow xs ys) h))
+
+-- ---- places
+
+pub data RowsFit : List (List Element) → Type 0 where
+  none : RowsFit []
+  more : {r : List Element} {rs : List (List Element)} → AllFit r → RowsFit rs → RowsFit (r ∷ rs)
+
+fit-append : (rs : List (List Element)) (r : List Element) → RowsFit rs → AllFit r → RowsFit (rs ++ (r ∷ []))
+fit-append [] r none h = more h none
+fit-append (x ∷ xs) r (more hx hs) h = more hx (fit-append xs r hs h)
+
+fit-at : (rs : List (List Element)) (p : ℕ) → RowsFit rs → AllFit (getD rs p [])
+fit-at [] p none = none
+fit-at (x ∷ xs) zero (more hx hs) = hx
+fit-at (x ∷ xs) (suc p) (more hx hs) = fit-at xs p hs
+
+pub position-found : (row : List Element) (rows : List (List Element)) → position row rows < length rows → T (sameRow (getD rows (position row rows) []) row)
+unfolding position
+position-found row [] h = absurd (not-suc-le-zero h)
+position-found row (r ∷ rs) h = go (sameRow r row) refl (λ k. position-found row rs k) h
+  where
+    go : (b : Bool) → sameRow r row ≡ b → (position row rs < length rs → T (sameRow (getD rs (position row rs) []) row))
+        → cond b 0 (suc (position row rs)) < suc (length rs) → T (sameRow (getD (r ∷ rs) (cond b 0 (suc (position row rs))) []) row)
+    go true e ih k = subst T (sym e) tt
+    go false e ih k = ih (le-of-suc-le-suc k)
+
+pub position-most : (row : List Element) (rows : List (List Element)) → position row rows ≤ length rows
+unfolding position
+position-most row [] = zero-le
+position-most row (r ∷ rs) = go (sameRow r row) (position-most row rs)
+  where
+    go : (b : Bool) → position row rs ≤ length rs → cond b 0 (suc (position row rs)) ≤ suc (length rs)
+    go true h = zero-le
+    go false h = suc-le-suc h
+
+pub not-below : (a b : ℕ) → ltb a b ≡ false → b ≤ a
+not-below a b e = nltb→le a b (subst (λ (t : Bool). T (not t)) (sym e) tt)
+
+module _ (f : ColumnMap) (plan : Plan) where
+  -- each asked row's place is a row of its sum
+  pub data Placed (rows : List (List Element)) : List (List Element) → List ℕ → Type 0 where
+    none : Placed rows [] []
+    more : {r : List Element} {rs : List (List Element)} {p : ℕ} {ps : List ℕ} → p < length rows → rowSum f plan (getD rows p []) ≡ rowSum f plan r → Placed rows rs ps → Placed rows (r ∷ rs) (p ∷ ps)
+
+  placed-later : (rows asked : List (List Element)) (ps : List ℕ) (r : List Element) → Placed rows asked ps → Placed (rows ++ (r ∷ [])) asked ps
+  placed-later rows [] [] r none = none
+  placed-later rows (a ∷ as′) (p ∷ ps) r (more h e rest) =
+      let l = length-append rows (r ∷ []) in
+      let k : p < length (rows ++ (r ∷ [])) = omega arith in
+      more k (ap (rowSum f plan) (List·getD-append rows (r ∷ []) [] p h) ∙ e) (placed-later rows as′ ps r rest)
+
+  placed-snoc : (rows asked : List (List Element)) (ps : List ℕ) (r : List Element) (p : ℕ) → Placed rows asked ps → p < length rows → rowSum f plan (getD rows p []) ≡ rowSum f plan r
+      → Placed rows (asked ++ (r ∷ [])) (ps ++ (p ∷ []))
+  placed-snoc rows [] [] r p none h e = more h e none
+  placed-snoc rows (a ∷ as′) (q ∷ ps) r p (more k e′ rest) h e = more k e′ (placed-snoc rows as′ ps r p rest h e)
+
+  -- what the join keeps
+  pub record JoinKept (asked : List (List Element)) (j : Joined) : Type 0 where
+    pub fit : RowsFit (j .rows)
+    pub placed : Placed (j .rows) asked (j .places)
+
+  pub join-kept : (asked : List (List Element)) (r : List Element) (j : Joined) → AllFit r → JoinKept asked j → JoinKept (asked ++ (r ∷ [])) (addVariableRow r j)
+  unfolding addVariableRow
+  join-kept asked r j h k = go (ltb (position r (j .rows)) (length (j .rows))) refl
+    where
+      p : ℕ
+      p = position r (j .rows)
+
+      go : (b : Bool) → ltb p (length (j .rows)) ≡ b → JoinKept (asked ++ (r ∷ [])) (record { rows = cond b (j .rows) (j .rows ++ (r ∷ [])); places = j .places ++ (p ∷ []) })
+      go true e =
+          let l : p < length (j .rows) = ltb→lt p (length (j .rows)) (subst T (sym e) tt) in
+          record {
+            fit = k .fit;
+            placed = placed-snoc (j .rows) asked (j .places) r p (k .placed) l (same-sum f plan (getD (j .rows) p []) r (fit-at (j .rows) p (k .fit)) h (position-found r (j .rows) l));
+          }
+      go false e =
+          let n = length-append (j .rows) (r ∷ []) in
+          let same : p ≡ length (j .rows) = (let m = position-most r (j .rows) in let g = not-below p (length (j .rows)) e in omega arith) in
+          record {
+            fit = fit-append (j .rows) r (k .fit) h;
+            placed =
+                placed-snoc (j .rows ++ (r ∷ [])) asked (j .places) r p (placed-later (j .rows) asked (j .places) r (k .placed)) (omega arith)
+                (ap (rowSum f plan) (getD-at (j .rows) r [] [] p (sym same)));
+          }
+
+  -- the whole list, after what was joined before
+  pub joins-kept : (asked before : List (List Element)) (j : Joined) → RowsFit asked → JoinKept before j → JoinKept (before ++ asked) (addVariableRows asked j)
+  unfolding addVariableRows
+  joins-kept [] before j RowsFit.none k = subst (λ l. JoinKept l j) (sym (append-nil before)) k
+  joins-kept (r ∷ rs) before j (RowsFit.more h hs) k =
+      subst (λ l. JoinKept l (addVariableRows rs (addVariableRow r j))) (append-assoc before (r ∷ []) rs) (joins-kept rs (before ++ (r ∷ [])) (addVariableRow r j) hs (join-kept before r j h k))
+
+  -- places stay good while more rows are joined
+  one-stays : (asked : List (List Element)) (ps : List ℕ) (r : List Element) (j : Joined) → Placed (j .rows) asked ps → Placed (addVariableRow r j .rows) asked ps
+  unfolding addVariableRow
+  one-stays asked ps r j p = go (ltb (position r (j .rows)) (length (j .rows)))
+    where
+      go : (b : Bool) → Placed (cond b (j .rows) (j .rows ++ (r ∷ []))) asked ps
+      go true = p
+      go false = placed-later (j .rows) asked ps r p
+
+  pub placed-stays : (asked : List (List Element)) (ps : List ℕ) (rs : List (List Element)) (j : Joined) → Placed (j .rows) asked ps → Placed (addVariableRows rs j .rows) asked ps
+  unfolding addVariableRows
+  placed-stays asked ps [] j p = p
+  placed-stays asked ps (r ∷ rs) j p = placed-stays asked ps rs (addVariableRow r j) (one-stays asked ps r j p)

@@ -1,0 +1,504 @@
+-- Under one step's intervals, a programme with the build's fixed rows and the step's varying rows admits a plan exactly if the network allows it. Assumes nothing.
+use mathlib.Core.Path.{_≡_, refl, sym, ap, ap₂, _∙_, subst}
+use mathlib.Core.Logic.{_↔_}
+use Prim.Native.Nat.{ℕ, zero, suc, _+_, _*_, _<_, _≤_, zero-le}
+use native.Mathlib.Nat.{zero-add, lt-of-le-of-lt, mul-le-mul}
+use native.Mathlib.Omega.{arith}
+use mathlib.Core.Bool.{Bool, not, _&&_, _||_}
+use mathlib.Core.List.{List, [], _∷_, _++_, map, List·Memᴰ, List·Memᴰ·head, List·Memᴰ·tail, List·Memᴰ·not-nil}
+use mathlib.Core.Option.{none, some}
+use lib.ListN.{length, getD, getElem?, length-map}
+use lib.IntN.{ℤ}
+use lib.Dec.{T, T-not, not-T, eqb, leb, eqb→eq, lit<}
+use lib.Ieee.Fits.{and-i, and-l, and-r, eq→eqb}
+use Rattle.pywr.specs.declared.Sentinel.{Sentinel}
+use Rattle.pywr.specs.declared.Interval.{Interval}
+use Rattle.pywr.specs.Network.{link, Node, Aggregate, Part, VirtualStorage, Network, noNode, kindOf, isExclusive}
+use Rattle.pywr.specs.ColEdgeMap.{MappedEdge, mappedEdges}
+use Rattle.pywr.specs.ExclusiveSets.{exclusiveSets, setNumber, setsListing}
+use Rattle.pywr.specs.Rows.{Element, ColumnMap, columnMap, aggregateRow, virtualStorageRow}
+use Rattle.pywr.specs.Programme.{Column, Row, Programme, NodeRow}
+use Rattle.pywr.specs.VaryingRows.{RowRequest, requestsFrom, freshRow}
+use Rattle.pywr.specs.FixedRows.{massRowsFrom, constantRowsFrom, exclusivityRows}
+use Rattle.pywr.specs.Build.{allColumns, placedNodeRows, requestedRow, assemble, programmeOf}
+use Rattle.pywr.specs.Interval.{sentinels}
+use Rattle.pywr.specs.StepIntervals.{Intervals}
+use Rattle.pywr.specs.Step.{rowOf, stepRows}
+use Rattle.pywr.specs.Plans.{meets, Plan, scaled, allFrom}
+use Rattle.pywr.specs.Allows.{allows, inflow, outflow, nodeAmount, setsAmount, partsAmount, balanced, ownInterval, nodeMeets, aggregateMeets, storageMeets, exclusiveMeets, memberMeets, setsMeet, onCount, exclusivityMeets}
+use Rattle.pywr.specs.Admits.{admits, carried, equalInColumn, rowSum, rowMet, columnMet}
+use Rattle.pywr.specs.Correspondence.{isWhole, factorsWhole}
+use Rattle.pywr.proofs.BoundLaws.{IsInterval, or-l, or-r, or-elim, by-cases, cond-yes, cond-no}
+use Rattle.pywr.proofs.AmountLaws.{Carries, listings, aggregate-sum, Factors, no-more, one-more, storage-sum}
+use Rattle.pywr.proofs.EvenLaws.{Balanced, balanced-even, carries}
+use Rattle.pywr.proofs.MassLaws.{Every, every-append, Met, every-met, Joined, mass-met}
+use Rattle.pywr.proofs.JoinLaws.{Placed}
+use Rattle.pywr.proofs.RowLaws.{elementsAt, Fitting}
+use Rattle.pywr.proofs.VaryingLaws.{node-places, node-intervals, Asked, varying-met}
+use Rattle.pywr.proofs.SetLaws.{number-found}
+use Rattle.pywr.proofs.ListLaws.{AllMem, all-cons, found-mem, mem-found, not-found, same-some, found-get, below-found, all-at}
+use Rattle.pywr.proofs.StepReadLaws.{at-interval, IntervalsOk}
+use Rattle.pywr.proofs.ListingLaws.{From, lists-exclusive, set-from, from-known, listing-sound, exclusive-listed}
+use Rattle.pywr.proofs.ReadLaws.{SetOk, StorageOk, PartOk, Sound}
+use Rattle.pywr.proofs.FitLaws.{OnlyConstant, requests-are, only-continuous, columns-long, asked, forNodes, forStorages, lengthN, aggregates-length, placed-length}
+use Rattle.pywr.proofs.CoefficientLaws.{whole-factor}
+use Rattle.pywr.proofs.FixedLaws.{bounds, room, node-amount, ConstantMet, constant-met, active-met, columns-met}
+
+-- ---- lists
+
+kind-found : (xs : List Node) (n : ℕ) → T (eqb (kindOf xs n) link) → (x : Node) × (getElem? xs n ≡ some x) × T (eqb (x .kind) link)
+unfolding kindOf noNode
+kind-found [] n t = absurd t
+kind-found (y ∷ ys) zero t = (y, refl, t)
+kind-found (y ∷ ys) (suc n) t = kind-found ys n t
+
+fresh-elements : (w : Sentinel) (joined : List (List Element)) (p : ℕ) → elementsAt p (map (freshRow w) joined) ≡ getD joined p []
+unfolding elementsAt freshRow
+fresh-elements w [] p = refl
+fresh-elements w (r ∷ rs) zero = refl
+fresh-elements w (r ∷ rs) (suc p) = fresh-elements w rs p
+
+-- ---- intervals and places in pairs
+
+module _ (w : Sentinel) (f : ColumnMap) (plan : Plan) (joined : List (List Element)) where
+  fit-nodes : (is : List Interval) → AllMem IsInterval is → (rows : List NodeRow) (wanted : List (List Element)) → Placed f plan joined wanted (node-places rows) → Fitting (length joined) (node-places rows) (node-intervals w is rows)
+  unfolding node-places node-intervals
+  fit-nodes is ok [] [] Placed.none = Fitting.none
+  fit-nodes is ok (n ∷ ns) (r ∷ rs) (Placed.more h e rest) = Fitting.more h (at-interval w is (n .node) ok) (fit-nodes is ok ns rs rest)
+
+  fit-plain : (ps : List ℕ) (is : List Interval) (wanted : List (List Element)) → Placed f plan joined wanted ps → length is ≡ length ps → AllMem IsInterval is → Fitting (length joined) ps is
+  fit-plain [] [] [] Placed.none l ok = Fitting.none
+  fit-plain [] (i ∷ is) [] Placed.none l ok = let z : suc (length is) ≡ 0 = l in absurd (omega arith)
+  fit-plain (p ∷ ps) [] (r ∷ rs) (Placed.more h e rest) l ok = let z : 0 ≡ suc (length ps) = l in absurd (omega arith)
+  fit-plain (p ∷ ps) (i ∷ is) (r ∷ rs) (Placed.more h e rest) l ok =
+      Fitting.more h (ok i (List·Memᴰ·head refl)) (fit-plain ps is rs rest (let z : suc (length is) ≡ suc (length ps) = l in omega arith) (λ x m. ok x (List·Memᴰ·tail m)))
+
+module _ (w : Sentinel) (f : ColumnMap) (plan : Plan) where
+  asked-at : {A : Type 0} (row : A → List Element) (xs : List A) (is : List Interval) → length xs ≡ length is
+      → Asked w f plan (map row xs) is ↔ ((n : ℕ) (x : A) → getElem? xs n ≡ some x → T (meets w (getD is n (sentinels w)) (rowSum f plan (row x))))
+  unfolding Asked
+  asked-at row [] is l = (λ h n x e. not-found x e, λ h. tt)
+  asked-at row (x ∷ xs) [] l = let z : suc (length xs) ≡ 0 = l in absurd (omega arith)
+  asked-at {A} row (x ∷ xs) (i ∷ is) l = both (asked-at row xs is (let z : suc (length xs) ≡ suc (length is) = l in omega arith))
+    where
+      Meets : (m : ℕ) → A → Type 0
+      Meets m y = T (meets w (getD (i ∷ is) m (sentinels w)) (rowSum f plan (row y)))
+
+      both : {P : Type 0} → P ↔ ((n : ℕ) (y : A) → getElem? xs n ≡ some y → T (meets w (getD is n (sentinels w)) (rowSum f plan (row y))))
+          → (T (meets w i (rowSum f plan (row x))) × P) ↔ ((n : ℕ) (y : A) → getElem? (x ∷ xs) n ≡ some y → T (meets w (getD (i ∷ is) n (sentinels w)) (rowSum f plan (row y))))
+      both ih = (λ h. at (h .0) (ih .0 (h .1)), λ h. (h 0 x refl, ih .1 (λ n y e. h (suc n) y e)))
+        where
+          at : T (meets w i (rowSum f plan (row x))) → ((n : ℕ) (y : A) → getElem? xs n ≡ some y → T (meets w (getD is n (sentinels w)) (rowSum f plan (row y))))
+              → (n : ℕ) (y : A) → getElem? (x ∷ xs) n ≡ some y → T (meets w (getD (i ∷ is) n (sentinels w)) (rowSum f plan (row y)))
+          at a b zero y e = subst (λ (z : A). T (meets w i (rowSum f plan (row z)))) (same-some x y e) a
+          at a b (suc n) y e = b n y e
+
+  asked-nodes : (is : List Interval) (wanted : List RowRequest) (ps : List ℕ) → length wanted ≡ length ps
+      → Asked w f plan (map requestedRow wanted) (node-intervals w is (placedNodeRows wanted ps)) ↔ Every (λ (a : RowRequest). T (meets w (getD is (a .node) (sentinels w)) (rowSum f plan (a .row)))) wanted
+  unfolding Asked placedNodeRows node-intervals requestedRow
+  asked-nodes is [] ps l = (λ h. tt, λ h. tt)
+  asked-nodes is (a ∷ wanted) [] l = let z : suc (length wanted) ≡ 0 = l in absurd (omega arith)
+  asked-nodes is (a ∷ wanted) (p ∷ ps) l =
+      let ih = asked-nodes is wanted ps (let z : suc (length wanted) ≡ suc (length ps) = l in omega arith) in
+      (λ h. (h .0, ih .0 (h .1)), λ h. (h .0, ih .1 (h .1)))
+
+-- ---- the rooms
+
+pub listings-few : (n : ℕ) (ss : List (List ℕ)) → AllMem (SetOk n) ss → listings ss ≤ length ss * 16
+unfolding listings
+listings-few n [] ok = zero-le
+listings-few n (s ∷ ss) ok =
+    let a = ok s (List·Memᴰ·head refl) .small in
+    let b = listings-few n ss (λ t m. ok t (List·Memᴰ·tail m)) in
+    omega arith
+
+-- ---- the network's side of exclusive sets
+
+module _ (w : Sentinel) (net : Network) (i : Intervals) (plan : Plan) where
+  abbrev MemberRule : List ℕ → ℕ → Type 0
+  MemberRule s m = T (exclusiveMeets (plan .on s) (ownInterval w i m (getD (net .nodes) m noNode)) (nodeAmount net plan m))
+
+  member-rule : (s ms : List ℕ) → T (memberMeets w net i plan s ms) ↔ AllMem (MemberRule s) ms
+  unfolding memberMeets
+  member-rule s [] = (λ h m k. absurd (List·Memᴰ·not-nil k), λ h. tt)
+  member-rule s (m ∷ ms) =
+      let a : Bool = exclusiveMeets (plan .on s) (ownInterval w i m (getD (net .nodes) m noNode)) (nodeAmount net plan m) in
+      let b : Bool = memberMeets w net i plan s ms in
+      let ih = member-rule s ms in
+      (λ h. all-cons (MemberRule s) m ms (and-l a b h) (ih .0 (and-r a b h)), λ h. and-i a b (h m (List·Memᴰ·head refl)) (ih .1 (λ k j. h k (List·Memᴰ·tail j))))
+
+  sets-rule : (ss : List (List ℕ)) → T (setsMeet w net i plan ss) ↔ AllMem (λ (s : List ℕ). AllMem (MemberRule s) s) ss
+  unfolding setsMeet
+  sets-rule [] = (λ h m k. absurd (List·Memᴰ·not-nil k), λ h. tt)
+  sets-rule (s ∷ ss) =
+      let a : Bool = memberMeets w net i plan s s in
+      let b : Bool = setsMeet w net i plan ss in
+      let one = member-rule s s in
+      let ih = sets-rule ss in
+      (λ h. all-cons (λ (t : List ℕ). AllMem (MemberRule t) t) s ss (one .0 (and-l a b h)) (ih .0 (and-r a b h)), λ h. and-i a b (one .1 (h s (List·Memᴰ·head refl))) (ih .1 (λ k j. h k (List·Memᴰ·tail j))))
+
+-- ---- both sides, where each edge's column carries its amount
+
+module _ (w : Sentinel) (net : Network) (sound : Sound net) (only : OnlyConstant net) (whole : T (factorsWhole net)) (plan : Plan) (i : Intervals)
+    (ok : IntervalsOk (length (net .aggregates)) (length (net .virtualStorages)) i) (each : Carries net plan) where
+  abbrev f : ColumnMap
+  f = columnMap net
+
+  abbrev At : {A : Type 0} → List A → (ℕ → A → Type 0) → Type 0
+  At {A} xs P = (n : ℕ) (x : A) → getElem? xs n ≡ some x → P n x
+
+  abbrev ofNodes : ℕ → Interval
+  ofNodes n = getD (i .nodes) n (sentinels w)
+
+  aggregate-amount : (a : Aggregate) → List·Memᴰ a (net .aggregates) → rowSum f plan (aggregateRow f a) ≡ scaled (setsAmount net plan (a .sets))
+  aggregate-amount a m =
+      let g = sound .good .aggregates a m in
+      let few = g .few in
+      let l = listings-few (length (net .nodes)) (a .sets) (g .sets) in
+      let e = sound .good .edgeCount in
+      let x : listings (a .sets) ≤ 256 = omega arith in
+      let y : length (net .edges) * 1 + length (net .edges) * 1 ≤ 1024 = omega arith in
+      aggregate-sum 0 zero-le net plan (columns-long net) each a (lt-of-le-of-lt (mul-le-mul x y) (lit< tt))
+
+  part-factors : (v : VirtualStorage) → StorageOk v → T (allFrom (λ (k : ℕ) (p : Part). isWhole p) 0 (v .parts)) → Factors 0 zero-le net plan (columns-long net) each 1000000 (v .parts)
+  part-factors v okv t = go (v .parts) (okv .parts) (λ n p e. all-at (λ (k : ℕ) (q : Part). isWhole q) (v .parts) 0 .0 t n p e)
+    where
+      go : (ps : List Part) → AllMem PartOk ps → ((n : ℕ) (p : Part) → getElem? ps n ≡ some p → T (isWhole p)) → Factors 0 zero-le net plan (columns-long net) each 1000000 ps
+      go [] k h = no-more
+      go (p ∷ ps) k h = one-more (whole-factor p (k p (List·Memᴰ·head refl)) (h 0 p refl)) (go ps (λ q m. k q (List·Memᴰ·tail m)) (λ n q e. h (suc n) q e))
+
+  storage-amount : (n : ℕ) (v : VirtualStorage) → getElem? (net .virtualStorages) n ≡ some v → rowSum f plan (virtualStorageRow f v) ≡ partsAmount net plan (v .parts)
+  unfolding factorsWhole
+  storage-amount n v e =
+      let okv = sound .good .storages v (found-mem (net .virtualStorages) n v e) in
+      let few = okv .few in
+      let ne = sound .good .edgeCount in
+      let t = all-at (λ (m : ℕ) (u : VirtualStorage). allFrom (λ (k : ℕ) (p : Part). isWhole p) 0 (u .parts)) (net .virtualStorages) 0 .0 whole n v e in
+      let y : length (net .edges) * 1000000 + length (net .edges) * 1000000 ≤ 1024000000 = omega arith in
+      storage-sum 0 zero-le net plan (columns-long net) each 1000000 v (part-factors v okv t) (lt-of-le-of-lt (mul-le-mul few y) (lit< tt))
+
+  -- the varying rows
+  record VaryingMet : Type 0 where
+    nodes : At (net .nodes) (λ n x. T (not (x .constant)) → T (meets w (ofNodes n) (scaled (nodeAmount net plan n))))
+    aggregates : At (net .aggregates) (λ n a. T (aggregateMeets w net i plan n a))
+    storages : At (net .virtualStorages) (λ n v. T (storageMeets w net i plan n v))
+
+  nodes-asked : Asked w f plan (map requestedRow (requestsFrom f 0 (net .nodes))) (node-intervals w (i .nodes) (programmeOf w net .shape .nodeRows)) ↔ Every (λ (a : RowRequest). T (meets w (ofNodes (a .node)) (rowSum f plan (a .row)))) (requestsFrom f 0 (net .nodes))
+  unfolding programmeOf assemble
+  nodes-asked = asked-nodes w f plan (i .nodes) (requestsFrom f 0 (net .nodes)) (forNodes w net plan .places) (lengthN w net plan)
+
+  varying-is : T (allFrom (rowMet w f plan) 0 (stepRows w (programmeOf w net .shape) i (programmeOf w net .programme .varying))) ↔ VaryingMet
+  unfolding aggregateMeets storageMeets
+  varying-is =
+      let a = asked w net plan in
+      let joined : List (List Element) = forStorages w net plan .rows in
+      let rows : List Row = programmeOf w net .programme .varying in
+      let long : length rows ≡ length joined = ap length (a .varying) ∙ length-map joined (freshRow w) in
+      let same : (p : ℕ) → elementsAt p rows ≡ getD joined p [] = (λ p. ap (elementsAt p) (a .varying) ∙ fresh-elements w joined p) in
+      let lA : length (i .aggregates) ≡ length (programmeOf w net .shape .aggregates) = ok .aggregateCount ∙ sym (aggregates-length w net plan) in
+      let lV : length (i .virtualStorages) ≡ length (map rowOf (programmeOf w net .shape .virtualStorages)) = ok .storageCount ∙ sym (length-map (net .virtualStorages) (virtualStorageRow f)) ∙ placed-length f plan joined _ _ (a .storages) in
+      let met = varying-met w f plan (programmeOf w net .shape) i joined rows long same (only-continuous w net only)
+      (map requestedRow (requestsFrom f 0 (net .nodes))) (map (aggregateRow f) (net .aggregates)) (map (virtualStorageRow f) (net .virtualStorages))
+      (a .nodes) (a .aggregates) (a .storages)
+      (fit-nodes w f plan joined (i .nodes) (ok .nodes) (programmeOf w net .shape .nodeRows) _ (a .nodes))
+      (fit-plain w f plan joined (programmeOf w net .shape .aggregates) (i .aggregates) _ (a .aggregates) lA (ok .aggregates-are))
+      (fit-plain w f plan joined (map rowOf (programmeOf w net .shape .virtualStorages)) (i .virtualStorages) _ (a .storages) lV (ok .storages-are)) 0 in
+      let n1 = nodes-asked in
+      let n2 = requests-are net only (λ (k : RowRequest). T (meets w (ofNodes (k .node)) (rowSum f plan (k .row)))) in
+      let g = asked-at w f plan (aggregateRow f) (net .aggregates) (i .aggregates) (sym (ok .aggregateCount)) in
+      let v = asked-at w f plan (virtualStorageRow f) (net .virtualStorages) (i .virtualStorages) (sym (ok .storageCount)) in (
+        λ h.
+            let r = met .0 h in
+            record {
+              nodes = λ n x e t. subst (λ (z : ℤ). T (meets w (ofNodes n) z)) (node-amount w net sound plan each n) (n2 .0 (n1 .0 (r .0)) n x e t);
+              aggregates = λ n x e. subst (λ (z : ℤ). T (meets w (getD (i .aggregates) n (sentinels w)) z)) (aggregate-amount x (found-mem (net .aggregates) n x e)) (g .0 (r .1) n x e);
+              storages = λ n x e. subst (λ (z : ℤ). T (meets w (getD (i .virtualStorages) n (sentinels w)) z)) (storage-amount n x e) (v .0 (r .2) n x e);
+            },
+        λ h.
+            met .1 (
+              n1 .1 (n2 .1 (λ n x e t. subst (λ (z : ℤ). T (meets w (ofNodes n) z)) (sym (node-amount w net sound plan each n)) (h .nodes n x e t))),
+              g .1 (λ n x e. subst (λ (z : ℤ). T (meets w (getD (i .aggregates) n (sentinels w)) z)) (sym (aggregate-amount x (found-mem (net .aggregates) n x e))) (h .aggregates n x e)),
+              v .1 (λ n x e. subst (λ (z : ℤ). T (meets w (getD (i .virtualStorages) n (sentinels w)) z)) (sym (storage-amount n x e)) (h .storages n x e)),
+            ),
+      )
+
+  -- the fixed rows
+  abbrev Level : ℕ → Node → Type 0
+  Level n x = T (eqb (x .kind) link) → inflow net plan n ≡ outflow net plan n
+
+  abbrev Counted : Aggregate → Type 0
+  Counted a = T (leb (a .minActive) (onCount plan (a .sets)) && leb (onCount plan (a .sets)) (a .maxActive))
+
+  record FixedMet : Type 0 where
+    links : At (net .nodes) Level
+    constants : At (net .nodes) (λ n x. T (x .constant) → ConstantMet w net sound plan each n x)
+    counts : At (net .aggregates) (λ n a. T (a .exclusive) → Counted a)
+
+  links-are : Every (Met w f plan) (massRowsFrom f 0 (net .nodes)) ↔ At (net .nodes) Level
+  links-are =
+      let m = mass-met w net (sound .noself) plan (columns-long net) each (room w net sound plan each) (net .nodes) 0 (λ n x e t. subst (λ (k : ℕ). Joined net k) (sym (zero-add n)) (sound .links n x e t)) in (
+        λ h n x e t. subst (λ (k : ℕ). inflow net plan k ≡ outflow net plan k) (zero-add n) (m .0 h n x e t),
+        λ h. m .1 (λ n x e t. subst (λ (k : ℕ). inflow net plan k ≡ outflow net plan k) (sym (zero-add n)) (h n x e t)),
+      )
+
+  fixed-is : T (allFrom (rowMet w f plan) 0 (programmeOf w net .programme .fixed)) ↔ FixedMet
+  unfolding programmeOf assemble
+  fixed-is =
+      let mass : List Row = massRowsFrom f 0 (net .nodes) in
+      let cons : List Row = constantRowsFrom w f 0 (net .nodes) in
+      let exc : List Row = exclusivityRows f (net .aggregates) in
+      let all = every-met w f plan (mass ++ cons ++ exc) 0 in
+      let cut = every-append (Met w f plan) (mass ++ cons) exc in
+      let cut2 = every-append (Met w f plan) mass cons in
+      let c = constant-met w net sound plan each in
+      let a = active-met w net sound plan each in (
+        λ h.
+            let r = cut .0 (all .0 h) in
+            let q = cut2 .0 (r .0) in
+            record { links = links-are .0 (q .0); constants = c .0 (q .1); counts = a .0 (r .1) },
+        λ h. all .1 (cut .1 (cut2 .1 (links-are .1 (h .links), c .1 (h .constants)), a .1 (h .counts))),
+      )
+
+  -- the network's side
+  record NetworkMet : Type 0 where
+    links : At (net .nodes) Level
+    nodes : At (net .nodes) (λ n x. T (nodeMeets w net i plan n x))
+    aggregates : At (net .aggregates) (λ n a. T (aggregateMeets w net i plan n a))
+    storages : At (net .virtualStorages) (λ n v. T (storageMeets w net i plan n v))
+    exclusives : At (net .aggregates) (λ n a. T (exclusivityMeets w net i plan n a))
+
+  own-constant : (n : ℕ) (x : Node) → T (x .constant) → ownInterval w i n x ≡ bounds x
+  unfolding ownInterval
+  own-constant n x t = cond-yes (x .constant) (bounds x) (ofNodes n) t
+
+  own-varying : (n : ℕ) (x : Node) → T (not (x .constant)) → ownInterval w i n x ≡ ofNodes n
+  unfolding ownInterval
+  own-varying n x t = cond-no (x .constant) (bounds x) (ofNodes n) t
+
+  -- a member of an exclusive set is a constant node, and its rule is that of the rows of the set's number
+  record Member (s : List ℕ) (m : ℕ) : Type 0 where
+    node : Node
+    found : getElem? (net .nodes) m ≡ some node
+    constant : T (node .constant)
+    own : ownInterval w i m (getD (net .nodes) m noNode) ≡ bounds node
+
+  member-of : (s : List ℕ) (m : ℕ) → From (net .aggregates) s → List·Memᴰ m s → Member s m
+  member-of s m from k =
+      let under : m < length (net .nodes) = sound .good .aggregates (from .aggregate) (from .known) .sets s (from .has) .members m k in
+      let b = below-found (net .nodes) m under in
+      let t = only m (b .0) (b .1) (lists-exclusive (net .aggregates) m s from k) in
+      record {
+        node = b .0;
+        found = b .1;
+        constant = t;
+        own = ap (ownInterval w i m) (found-get (net .nodes) m (b .0) noNode (b .1)) ∙ own-constant m (b .0) t;
+      }
+
+  abbrev Rules : Type 0
+  Rules = (s : List ℕ) → From (net .aggregates) s → (m : ℕ) → List·Memᴰ m s → MemberRule w net i plan s m
+
+  rows-rules : At (net .nodes) (λ n x. T (x .constant) → ConstantMet w net sound plan each n x) → Rules
+  unfolding columnMap
+  rows-rules h s from m k =
+      let b = member-of s m from k in
+      let c = h m (b .node) (b .found) (b .constant) .exclusive (setNumber s (exclusiveSets net)) (exclusive-listed net m s from k) in
+      subst (λ (j : Interval). T (exclusiveMeets (plan .on s) j (nodeAmount net plan m))) (sym (b .own))
+      (subst (λ (t : List ℕ). T (exclusiveMeets (plan .on t) (bounds (b .node)) (nodeAmount net plan m))) (number-found s (exclusiveSets net) (from-known net s from)) c)
+
+  rules-rows : Rules → (n : ℕ) (x : Node) → getElem? (net .nodes) n ≡ some x → T (x .constant) → (k : ℕ) → List·Memᴰ k (setsListing n 0 (f .sets)) → T (exclusiveMeets (plan .on (getD (f .sets) k [])) (bounds x) (nodeAmount net plan n))
+  unfolding columnMap
+  rules-rows h n x e t k m =
+      let r = listing-sound n 0 k (exclusiveSets net) m in
+      let s : List ℕ = r .set in
+      let from = set-from net s (found-mem (exclusiveSets net) (r .at) s (r .found)) in
+      let own : ownInterval w i n (getD (net .nodes) n noNode) ≡ bounds x = ap (ownInterval w i n) (found-get (net .nodes) n x noNode e) ∙ own-constant n x t in
+      let same : getD (exclusiveSets net) k [] ≡ s = ap (λ (j : ℕ). getD (exclusiveSets net) j []) (r .where-at ∙ zero-add (r .at)) ∙ found-get (exclusiveSets net) (r .at) s [] (r .found) in
+      subst (λ (u : List ℕ). T (exclusiveMeets (plan .on u) (bounds x) (nodeAmount net plan n))) (sym same)
+      (subst (λ (j : Interval). T (exclusiveMeets (plan .on s) j (nodeAmount net plan n))) own (h s from n (r .member)))
+
+  abbrev Exclusives : Type 0
+  Exclusives = At (net .aggregates) (λ n a. T (exclusivityMeets w net i plan n a))
+
+  rules-sets : Rules → At (net .aggregates) (λ n a. T (a .exclusive) → Counted a) → Exclusives
+  unfolding exclusivityMeets
+  rules-sets h c n a e =
+      let s : Bool = setsMeet w net i plan (a .sets) in
+      let x : Bool = leb (a .minActive) (onCount plan (a .sets)) in
+      let y : Bool = leb (onCount plan (a .sets)) (a .maxActive) in
+      by-cases (a .exclusive)
+      (λ t.
+      let q = c n a e t in
+      let r = sets-rule w net i plan (a .sets) .1 (λ u m k j. h u (record { aggregate = a; known = found-mem (net .aggregates) n a e; exclusive = t; has = m }) k j) in
+      or-r (not (a .exclusive)) (s && x && y) (and-i (s && x) y (and-i s x r (and-l x y q)) (and-r x y q)))
+      (λ t. or-l (not (a .exclusive)) (s && x && y) t)
+
+  open-sets : Exclusives → (n : ℕ) (a : Aggregate) → getElem? (net .aggregates) n ≡ some a → T (a .exclusive) → T (setsMeet w net i plan (a .sets)) × Counted a
+  unfolding exclusivityMeets
+  open-sets h n a e t =
+      let s : Bool = setsMeet w net i plan (a .sets) in
+      let x : Bool = leb (a .minActive) (onCount plan (a .sets)) in
+      let y : Bool = leb (onCount plan (a .sets)) (a .maxActive) in
+      let r : T (s && x && y) = or-elim (not (a .exclusive)) (s && x && y) (h n a e) (λ k. absurd (T-not (a .exclusive) k t)) (λ k. k) in
+      (and-l s x (and-l (s && x) y r), and-i x y (and-r s x (and-l (s && x) y r)) (and-r (s && x) y r))
+
+  sets-rules : Exclusives → Rules
+  sets-rules h s from m k =
+      let j = mem-found (net .aggregates) (from .aggregate) (from .known) in
+      sets-rule w net i plan (from .aggregate .sets) .0 (open-sets h (j .0) (from .aggregate) (j .1) (from .exclusive) .0) s (from .has) m k
+
+  to-network : VaryingMet → FixedMet → NetworkMet
+  unfolding nodeMeets
+  to-network v g =
+      record {
+        links = g .links;
+        nodes = λ n x e.
+            let ex : Bool = isExclusive (net .aggregates) n in
+            let me : Bool = meets w (ownInterval w i n x) (scaled (nodeAmount net plan n)) in
+            by-cases ex (λ t. or-l ex me t)
+            (λ t.
+            or-r ex me
+            (by-cases (x .constant)
+            (λ c. subst (λ (j : Interval). T (meets w j (scaled (nodeAmount net plan n)))) (sym (own-constant n x c)) (g .constants n x e c .plain t))
+            (λ c. subst (λ (j : Interval). T (meets w j (scaled (nodeAmount net plan n)))) (sym (own-varying n x c)) (v .nodes n x e c))));
+        aggregates = v .aggregates;
+        storages = v .storages;
+        exclusives = rules-sets (rows-rules (g .constants)) (g .counts);
+      }
+
+  node-held : NetworkMet → (n : ℕ) (x : Node) → getElem? (net .nodes) n ≡ some x → T (not (isExclusive (net .aggregates) n)) → T (meets w (ownInterval w i n x) (scaled (nodeAmount net plan n)))
+  unfolding nodeMeets
+  node-held h n x e t =
+      let ex : Bool = isExclusive (net .aggregates) n in
+      or-elim ex (meets w (ownInterval w i n x) (scaled (nodeAmount net plan n))) (h .nodes n x e) (λ u. absurd (T-not ex t u)) (λ u. u)
+
+  to-varying : NetworkMet → VaryingMet
+  to-varying h =
+      record {
+        nodes = λ n x e c.
+            subst (λ (j : Interval). T (meets w j (scaled (nodeAmount net plan n)))) (own-varying n x c)
+            (node-held h n x e (not-T (isExclusive (net .aggregates) n) (λ u. T-not (x .constant) c (only n x e u))));
+        aggregates = h .aggregates;
+        storages = h .storages;
+      }
+
+  to-fixed : NetworkMet → FixedMet
+  to-fixed h =
+      record {
+        links = h .links;
+        constants = λ n x e c.
+            record {
+              plain = λ t. subst (λ (j : Interval). T (meets w j (scaled (nodeAmount net plan n)))) (own-constant n x c) (node-held h n x e t);
+              exclusive = rules-rows (sets-rules (h .exclusives)) n x e c;
+            };
+        counts = λ n a e t. open-sets (h .exclusives) n a e t .1;
+      }
+
+  rows-are : (T (allFrom (rowMet w f plan) 0 (stepRows w (programmeOf w net .shape) i (programmeOf w net .programme .varying))) × T (allFrom (rowMet w f plan) 0 (programmeOf w net .programme .fixed))) ↔ NetworkMet
+  rows-are = (λ h. to-network (varying-is .0 (h .0)) (fixed-is .0 (h .1)), λ h. (varying-is .1 (to-varying h), fixed-is .1 (to-fixed h)))
+
+-- ---- the two tests
+
+module _ (w : Sentinel) (net : Network) (i : Intervals) (plan : Plan) where
+  abbrev Links : Type 0
+  Links = (n : ℕ) (x : Node) → getElem? (net .nodes) n ≡ some x → T (eqb (x .kind) link) → inflow net plan n ≡ outflow net plan n
+
+  links-test : T (allFrom (balanced net plan) 0 (net .nodes)) ↔ Links
+  unfolding balanced
+  links-test =
+      let a = all-at (balanced net plan) (net .nodes) 0 in (
+        λ h n x e t.
+            let r = subst (λ (k : ℕ). T (not (eqb (x .kind) link) || eqb (inflow net plan k) (outflow net plan k))) (zero-add n) (a .0 h n x e) in
+            or-elim (not (eqb (x .kind) link)) (eqb (inflow net plan n) (outflow net plan n)) r (λ u. absurd (T-not (eqb (x .kind) link) u t)) (λ u. eqb→eq (inflow net plan n) (outflow net plan n) u),
+        λ h.
+            a .1 (λ n x e.
+            subst (λ (k : ℕ). T (not (eqb (x .kind) link) || eqb (inflow net plan k) (outflow net plan k))) (sym (zero-add n))
+            (by-cases (eqb (x .kind) link)
+            (λ t. or-r (not (eqb (x .kind) link)) (eqb (inflow net plan n) (outflow net plan n)) (eq→eqb (h n x e t)))
+            (λ t. or-l (not (eqb (x .kind) link)) (eqb (inflow net plan n) (outflow net plan n)) t))),
+      )
+
+  at-zero : {A : Type 0} (test : ℕ → A → Bool) (xs : List A) → T (allFrom test 0 xs) ↔ ((n : ℕ) (x : A) → getElem? xs n ≡ some x → T (test n x))
+  at-zero test xs =
+      let a = all-at test xs 0 in
+      (λ h n x e. subst (λ (k : ℕ). T (test k x)) (zero-add n) (a .0 h n x e), λ h. a .1 (λ n x e. subst (λ (k : ℕ). T (test k x)) (sym (zero-add n)) (h n x e)))
+
+  even-test : T (allFrom (equalInColumn plan (mappedEdges net)) 0 (mappedEdges net)) ↔ ((e : ℕ) (p : MappedEdge) → getElem? (mappedEdges net) e ≡ some p → plan .amount e ≡ carried plan (p .column) 0 (mappedEdges net))
+  unfolding equalInColumn
+  even-test =
+      let a = at-zero (equalInColumn plan (mappedEdges net)) (mappedEdges net) in
+      (λ h n p e. eqb→eq (plan .amount n) (carried plan (p .column) 0 (mappedEdges net)) (a .0 h n p e), λ h. a .1 (λ n p e. eq→eqb (h n p e)))
+
+module _ (w : Sentinel) (net : Network) (sound : Sound net) (only : OnlyConstant net) (whole : T (factorsWhole net)) (plan : Plan) (i : Intervals)
+    (ok : IntervalsOk (length (net .aggregates)) (length (net .virtualStorages)) i) where
+  -- what the rest of the network's side says, whatever the columns carry
+  allowed : (each : Carries net plan) → T (allows w net i plan) ↔ NetworkMet w net sound only whole plan i ok each
+  unfolding allows
+  allowed each =
+      let a : Bool = allFrom (balanced net plan) 0 (net .nodes) in
+      let b : Bool = allFrom (nodeMeets w net i plan) 0 (net .nodes) in
+      let c : Bool = allFrom (aggregateMeets w net i plan) 0 (net .aggregates) in
+      let d : Bool = allFrom (storageMeets w net i plan) 0 (net .virtualStorages) in
+      let e : Bool = allFrom (exclusivityMeets w net i plan) 0 (net .aggregates) in
+      let ta = links-test w net i plan in
+      let tb = at-zero w net i plan (nodeMeets w net i plan) (net .nodes) in
+      let tc = at-zero w net i plan (aggregateMeets w net i plan) (net .aggregates) in
+      let td = at-zero w net i plan (storageMeets w net i plan) (net .virtualStorages) in
+      let te = at-zero w net i plan (exclusivityMeets w net i plan) (net .aggregates) in (
+        λ h.
+            let h4 = and-l (a && b && c && d) e h in
+            let h3 = and-l (a && b && c) d h4 in
+            let h2 = and-l (a && b) c h3 in
+            record {
+              links = ta .0 (and-l a b h2);
+              nodes = tb .0 (and-r a b h2);
+              aggregates = tc .0 (and-r (a && b) c h3);
+              storages = td .0 (and-r (a && b && c) d h4);
+              exclusives = te .0 (and-r (a && b && c && d) e h);
+            },
+        λ h.
+            and-i (a && b && c && d) e
+            (and-i (a && b && c) d (and-i (a && b) c (and-i a b (ta .1 (h .links)) (tb .1 (h .nodes))) (tc .1 (h .aggregates))) (td .1 (h .storages)))
+            (te .1 (h .exclusives)),
+      )
+
+  allows-balanced : T (allows w net i plan) → Balanced net plan
+  unfolding allows
+  allows-balanced h n t =
+      let a : Bool = allFrom (balanced net plan) 0 (net .nodes) in
+      let b : Bool = allFrom (nodeMeets w net i plan) 0 (net .nodes) in
+      let c : Bool = allFrom (aggregateMeets w net i plan) 0 (net .aggregates) in
+      let d : Bool = allFrom (storageMeets w net i plan) 0 (net .virtualStorages) in
+      let e : Bool = allFrom (exclusivityMeets w net i plan) 0 (net .aggregates) in
+      let k = kind-found (net .nodes) n t in
+      links-test w net i plan .0 (and-l a b (and-l (a && b) c (and-l (a && b && c) d (and-l (a && b && c && d) e h)))) n (k .0) (k .1) (k .2)
+
+  -- "the programme admits each flow plan exactly when the network allows that plan"
+  pub step-meets : (p : Programme) → p .sentinel ≡ w
+      → map (λ (c : Column). c .lower) (p .columns) ≡ map (λ (c : Column). c .lower) (allColumns w (columnMap net))
+      → map (λ (c : Column). c .upper) (p .columns) ≡ map (λ (c : Column). c .upper) (allColumns w (columnMap net))
+      → p .varying ≡ stepRows w (programmeOf w net .shape) i (programmeOf w net .programme .varying)
+      → p .fixed ≡ programmeOf w net .programme .fixed
+      → T (admits (columnMap net) p plan) ↔ T (allows w net i plan)
+  unfolding admits columnMap
+  step-meets p hs hl hu hv hf =
+      let g : ColumnMap = columnMap net in
+      let a : Bool = allFrom (equalInColumn plan (mappedEdges net)) 0 (mappedEdges net) in
+      let b : Bool = allFrom (columnMet (p .sentinel) g plan) 0 (p .columns) in
+      let c : Bool = allFrom (rowMet (p .sentinel) g plan) 0 (p .varying) in
+      let d : Bool = allFrom (rowMet (p .sentinel) g plan) 0 (p .fixed) in
+      let even = even-test w net i plan in
+      let cv : c ≡ allFrom (rowMet w g plan) 0 (stepRows w (programmeOf w net .shape) i (programmeOf w net .programme .varying)) = ap₂ (λ (s : Sentinel) (rows : List Row). allFrom (rowMet s g plan) 0 rows) hs hv in
+      let df : d ≡ allFrom (rowMet w g plan) 0 (programmeOf w net .programme .fixed) = ap₂ (λ (s : Sentinel) (rows : List Row). allFrom (rowMet s g plan) 0 rows) hs hf in (
+        λ h.
+            let h3 = and-l (a && b && c) d h in
+            let h2 = and-l (a && b) c h3 in
+            let each : Carries net plan = carries net plan (sound .noself) (even .0 (and-l a b h2)) in
+            allowed each .1 (rows-are w net sound only whole plan i ok each .0 (subst T cv (and-r (a && b) c h3), subst T df (and-r (a && b && c) d h))),
+        λ h.
+            let bal : Balanced net plan = allows-balanced h in
+            let level = balanced-even net plan (sound .noself) bal in
+            let each : Carries net plan = carries net plan (sound .noself) level in
+            let r = rows-are w net sound only whole plan i ok each .1 (allowed each .0 h) in
+            let cols : T b = subst (λ (s : Sentinel). T (allFrom (columnMet s g plan) 0 (p .columns))) (sym hs) (columns-met w g plan (p .columns) hl hu) in
+            and-i (a && b && c) d (and-i (a && b) c (and-i a b (even .1 level) cols) (subst T (sym cv) (r .0))) (subst T (sym df) (r .1)),
+      )

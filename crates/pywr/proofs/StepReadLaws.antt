@@ -1,0 +1,200 @@
+-- A step file that was read: every interval that the step applies is one of doubles, and there are as many as aggregates and virtual storages. Assumes nothing.
+use mathlib.Core.Path.{_≡_, refl, sym, ap, _∙_, subst}
+use Prim.Native.Nat.{ℕ, zero, suc, _+_}
+use native.Mathlib.Nat.{add-zero}
+use native.Mathlib.Omega.{arith}
+use mathlib.Core.Bool.{Bool, true, false, cond, not, _||_}
+use mathlib.Core.List.{List, [], _∷_, _++_, List·Memᴰ·head, List·Memᴰ·tail}
+use mathlib.Core.Option.{Option, none, some}
+use lib.ListN.{length, getD, length-append}
+use lib.Dec.{T}
+use lib.Ieee.{Float}
+use Rattle.pywr.specs.declared.Sentinel.{Sentinel}
+use Rattle.pywr.specs.declared.Interval.{Interval}
+use Rattle.pywr.specs.declared.NodeBounds.{NodeBounds}
+use Rattle.pywr.specs.declared.NodeBounds.the-variants.{Flow}
+use Rattle.pywr.specs.Result.{value}
+use Rattle.pywr.specs.Numbers.{isFlow, isSmall, isDays, ofPattern}
+use Rattle.pywr.specs.Network.{Period}
+use Rattle.pywr.specs.NetworkFile.{Read}
+use Rattle.pywr.specs.Programme.{NodeShape}
+use Rattle.pywr.specs.Interval.{sentinels, storageBounds}
+use Rattle.pywr.specs.Period.{isActive, virtualInterval}
+use Rattle.pywr.specs.StepFile.{NodeStep, StepFile, readDate, isStorage, boundFits, volumeFits, boundsRead, readNodeStep, readNodeSteps, readAggregateStep, readAggregateSteps, readStorageStep, readStorageSteps, readStep}
+use Rattle.pywr.specs.StepIntervals.{intervals, nodeInterval, nodeIntervals, storageIntervals, Intervals}
+use Rattle.pywr.proofs.BoundLaws.{IsInterval}
+use Rattle.pywr.proofs.NumberLaws.{flow-bound, small-is, Divisor, days-is, storage-interval, virtual-interval, flow-interval}
+use Rattle.pywr.proofs.VaryingLaws.{sentinels-interval}
+use Rattle.pywr.proofs.RunLaws.{bind-value, need-value}
+use Rattle.pywr.proofs.ListLaws.{AllMem, all-none, all-cons, all-snoc}
+use Rattle.pywr.proofs.ReadLaws.{same-value, checked-value}
+
+-- ---- the date
+
+read-date : (file : List ℕ) (r : Read StepFile) → readDate file ≡ value r → Divisor (r .item .days)
+unfolding readDate
+read-date file r e =
+    let a = bind-value _ _ r e in
+    let b = bind-value _ _ r (a .2) in
+    let c = bind-value _ _ r (b .2) in
+    let d = bind-value _ _ r (c .2) in
+    subst (λ (q : Read StepFile). Divisor (q .item .days)) (same-value _ r (d .2)) (days-is (d .0) (checked-value 13 (a .0) isDays _ (d .0) (d .1)))
+
+-- ---- nodes: whatever the days
+
+-- a node's bounds give an interval under any step's days
+abbrev pub BoundsOk : Option NodeBounds → Type 0
+BoundsOk o = (s : Sentinel) (days : Float) → Divisor days → IsInterval (nodeInterval s days o)
+
+bounds-ok : (c st : Bool) (min max now : ℕ) → T (c || cond st (isSmall min) (isFlow min)) → T (c || cond st (isSmall max) (isFlow max)) → T (not st || isSmall now)
+    → BoundsOk (cond {A = Option NodeBounds} c none (cond {A = Option NodeBounds} st (some (storageBounds (ofPattern min) (ofPattern max) (ofPattern now))) (some (Flow (ofPattern min) (ofPattern max)))))
+unfolding nodeInterval
+bounds-ok true st min max now hmin hmax hnow s days d = sentinels-interval s
+bounds-ok false true min max now hmin hmax hnow s days d = storage-interval days (ofPattern min) (ofPattern max) (ofPattern now) d (small-is min hmin .0) (small-is max hmax .0) (small-is now hnow .0)
+bounds-ok false false min max now hmin hmax hnow s days d = flow-interval days (ofPattern min) (ofPattern max) (flow-bound min hmin) (flow-bound max hmax)
+
+abbrev pub StepOk : NodeStep → Type 0
+StepOk n = BoundsOk (n .bounds)
+
+read-node-step : (file : List ℕ) (n : NodeShape) (place : ℕ) (r : NodeStep) → readNodeStep file n place ≡ value r → StepOk r
+unfolding readNodeStep boundFits volumeFits boundsRead
+read-node-step file n place r e =
+    let a = bind-value _ _ r e in
+    let b = bind-value _ _ r (a .2) in
+    let c = bind-value _ _ r (b .2) in
+    let d = bind-value _ _ r (c .2) in
+    let g = bind-value _ _ r (d .2) in
+    subst StepOk (same-value _ r (g .2))
+    (bounds-ok (n .constant) (isStorage n) (c .0) (d .0) (g .0)
+    (checked-value 13 (a .0) (boundFits n) _ (c .0) (c .1))
+    (checked-value 13 (a .0) (boundFits n) _ (d .0) (d .1))
+    (checked-value 13 (a .0) (volumeFits n) _ (g .0) (g .1)))
+
+read-node-steps : (file : List ℕ) (ns : List NodeShape) (soFar : List NodeStep) (at : ℕ) (r : Read (List NodeStep)) → readNodeSteps file ns soFar at ≡ value r → AllMem StepOk soFar → AllMem StepOk (r .item)
+unfolding readNodeSteps
+read-node-steps file [] soFar at r e h = subst (λ (q : Read (List NodeStep)). AllMem StepOk (q .item)) (same-value _ r e) h
+read-node-steps file (n ∷ ns) soFar at r e h =
+    let a = bind-value _ _ r e in
+    read-node-steps file ns (soFar ++ (a .0 ∷ [])) (at + 34) r (a .2) (all-snoc StepOk soFar (a .0) h (read-node-step file n at (a .0) (a .1)))
+
+-- ---- aggregates
+
+read-group : (file : List ℕ) (place : ℕ) (r : Interval) → readAggregateStep file place ≡ value r → IsInterval r
+unfolding readAggregateStep
+read-group file place r e =
+    let a = bind-value _ _ r e in
+    let b = bind-value _ _ r (a .2) in
+    let c = bind-value _ _ r (b .2) in
+    subst IsInterval (same-value _ r (c .2))
+    (record { lower = flow-bound (b .0) (checked-value 13 (a .0) isFlow _ (b .0) (b .1)); upper = flow-bound (c .0) (checked-value 13 (a .0) isFlow _ (c .0) (c .1)) })
+
+read-groups : (file : List ℕ) (count : ℕ) (soFar : List Interval) (at : ℕ) (r : Read (List Interval)) → readAggregateSteps file count soFar at ≡ value r → AllMem IsInterval soFar
+    → AllMem IsInterval (r .item) × (length (r .item) ≡ length soFar + count)
+unfolding readAggregateSteps
+read-groups file zero soFar at r e h = subst (λ (q : Read (List Interval)). AllMem IsInterval (q .item) × (length (q .item) ≡ length soFar + 0)) (same-value _ r e) (h, sym (add-zero (length soFar)))
+read-groups file (suc count) soFar at r e h =
+    let a = bind-value _ _ r e in
+    let ih = read-groups file count (soFar ++ (a .0 ∷ [])) (at + 18) r (a .2) (all-snoc IsInterval soFar (a .0) h (read-group file at (a .0) (a .1))) in
+    let l = length-append soFar (a .0 ∷ []) in
+    (ih .0, ih .1 ∙ (let k : length (soFar ++ (a .0 ∷ [])) + count ≡ length soFar + suc count = omega arith in k))
+
+-- ---- virtual storages
+
+abbrev pub VolumeOk : NodeBounds → Type 0
+VolumeOk b = (s : Sentinel) (days : Float) (active : Bool) → Divisor days → IsInterval (virtualInterval s days active b)
+
+read-store : (file : List ℕ) (place : ℕ) (r : NodeBounds) → readStorageStep file place ≡ value r → VolumeOk r
+unfolding readStorageStep
+read-store file place r e =
+    let a = bind-value _ _ r e in
+    let b = bind-value _ _ r (a .2) in
+    let c = bind-value _ _ r (b .2) in
+    let d = bind-value _ _ r (c .2) in
+    subst VolumeOk (same-value _ r (d .2))
+    (λ s days active k.
+    virtual-interval s days (ofPattern (b .0)) (ofPattern (c .0)) (ofPattern (d .0)) active k
+    (small-is (b .0) (checked-value 13 (a .0) isSmall _ (b .0) (b .1)) .0)
+    (small-is (c .0) (checked-value 13 (a .0) isSmall _ (c .0) (c .1)) .0)
+    (small-is (d .0) (checked-value 13 (a .0) isSmall _ (d .0) (d .1)) .0))
+
+read-stores : (file : List ℕ) (count : ℕ) (soFar : List NodeBounds) (at : ℕ) (r : Read (List NodeBounds)) → readStorageSteps file count soFar at ≡ value r → AllMem VolumeOk soFar
+    → AllMem VolumeOk (r .item) × (length (r .item) ≡ length soFar + count)
+unfolding readStorageSteps
+read-stores file zero soFar at r e h = subst (λ (q : Read (List NodeBounds)). AllMem VolumeOk (q .item) × (length (q .item) ≡ length soFar + 0)) (same-value _ r e) (h, sym (add-zero (length soFar)))
+read-stores file (suc count) soFar at r e h =
+    let a = bind-value _ _ r e in
+    let ih = read-stores file count (soFar ++ (a .0 ∷ [])) (at + 26) r (a .2) (all-snoc VolumeOk soFar (a .0) h (read-store file at (a .0) (a .1))) in
+    let l = length-append soFar (a .0 ∷ []) in
+    (ih .0, ih .1 ∙ (let k : length (soFar ++ (a .0 ∷ [])) + count ≡ length soFar + suc count = omega arith in k))
+
+-- ---- the whole file
+
+pub record StepSound (aggregates storages : ℕ) (f : StepFile) : Type 0 where
+  pub days : Divisor (f .days)
+  pub nodes : AllMem StepOk (f .nodes)
+  pub groups : AllMem IsInterval (f .aggregates)
+  pub groupCount : length (f .aggregates) ≡ aggregates
+  pub stores : AllMem VolumeOk (f .virtualStorages)
+  pub storeCount : length (f .virtualStorages) ≡ storages
+
+pub step-sound : (shapes : List NodeShape) (aggregates storages : ℕ) (file : List ℕ) (f : StepFile) → readStep shapes aggregates storages file ≡ value f → StepSound aggregates storages f
+unfolding readStep
+step-sound shapes aggregates storages file f e =
+    let a = bind-value _ _ f e in
+    let b = bind-value _ _ f (a .2) in
+    let c = bind-value _ _ f (b .2) in
+    let d = bind-value _ _ f (c .2) in
+    let g = read-groups file aggregates [] (b .0 .next) (c .0) (c .1) (all-none IsInterval) in
+    let h = read-stores file storages [] (c .0 .next) (d .0) (d .1) (all-none VolumeOk) in
+    let gl : length (c .0 .item) ≡ 0 + aggregates = g .1 in
+    let hl : length (d .0 .item) ≡ 0 + storages = h .1 in
+    subst (StepSound aggregates storages) (need-value _ 12 (d .0 .next) _ f (d .2))
+    (record {
+      days = read-date file (a .0) (a .1);
+      nodes = read-node-steps file shapes [] (a .0 .next) (b .0) (b .1) (all-none StepOk);
+      groups = g .0;
+      groupCount = omega arith;
+      stores = h .0;
+      storeCount = omega arith;
+    })
+
+-- ---- the intervals
+
+pub at-interval : (s : Sentinel) (is : List Interval) (n : ℕ) → AllMem IsInterval is → IsInterval (getD is n (sentinels s))
+at-interval s [] n h = sentinels-interval s
+at-interval s (i ∷ is) zero h = h i (List·Memᴰ·head refl)
+at-interval s (i ∷ is) (suc n) h = at-interval s is n (λ x m. h x (List·Memᴰ·tail m))
+
+node-sound : (s : Sentinel) (days : Float) → Divisor days → (ns : List NodeStep) → AllMem StepOk ns → AllMem IsInterval (nodeIntervals s days ns)
+unfolding nodeIntervals
+node-sound s days d [] h = all-none IsInterval
+node-sound s days d (n ∷ ns) h =
+    all-cons IsInterval _ (nodeIntervals s days ns) (h n (List·Memᴰ·head refl) s days d) (node-sound s days d ns (λ x m. h x (List·Memᴰ·tail m)))
+
+store-sound : (s : Sentinel) (f : StepFile) → Divisor (f .days) → (ps : List Period) (bs : List NodeBounds) → length ps ≡ length bs → AllMem VolumeOk bs
+    → AllMem IsInterval (storageIntervals s f ps bs) × (length (storageIntervals s f ps bs) ≡ length ps)
+unfolding storageIntervals
+store-sound s f d [] bs l h = (all-none IsInterval, refl)
+store-sound s f d (p ∷ ps) [] l h = let z : suc (length ps) ≡ 0 = l in absurd (omega arith)
+store-sound s f d (p ∷ ps) (b ∷ bs) l h =
+    let ih = store-sound s f d ps bs (let z : suc (length ps) ≡ suc (length bs) = l in omega arith) (λ x m. h x (List·Memᴰ·tail m)) in
+    (all-cons IsInterval _ (storageIntervals s f ps bs) (h b (List·Memᴰ·head refl) s (f .days) (isActive p (f .month) (f .day)) d) (ih .0), ap suc (ih .1))
+
+pub record IntervalsOk (aggregates storages : ℕ) (i : Intervals) : Type 0 where
+  pub nodes : AllMem IsInterval (i .nodes)
+  pub aggregates-are : AllMem IsInterval (i .aggregates)
+  pub aggregateCount : length (i .aggregates) ≡ aggregates
+  pub storages-are : AllMem IsInterval (i .virtualStorages)
+  pub storageCount : length (i .virtualStorages) ≡ storages
+
+pub intervals-sound : (s : Sentinel) (ps : List Period) (aggregates : ℕ) (f : StepFile) → StepSound aggregates (length ps) f → IntervalsOk aggregates (length ps) (intervals s ps f)
+unfolding intervals
+intervals-sound s ps aggregates f ok =
+    let v = store-sound s f (ok .days) ps (f .virtualStorages) (sym (ok .storeCount)) (ok .stores) in
+    record {
+      nodes = node-sound s (f .days) (ok .days) (f .nodes) (ok .nodes);
+      aggregates-are = ok .groups;
+      aggregateCount = ok .groupCount;
+      storages-are = v .0;
+      storageCount = v .1;
+    }

@@ -1,0 +1,86 @@
+-- The programme and the shape of a network, and the build's answer to a file (SolverBuilder::create). Assumes nothing.
+use Prim.Native.Nat.{ℕ, _+_}
+use mathlib.Core.List.{List, [], _∷_, _++_, map}
+use mathlib.Core.Bool.{Bool, true, false, _&&_}
+use lib.ListN.{length, replicate}
+use lib.Dec.{leb}
+use Rattle.pywr.specs.declared.Sentinel.{Sentinel}
+use Rattle.pywr.specs.Result.{Result, _>>=_, need}
+use Rattle.pywr.specs.Numbers.{zero64, one64, high}
+use Rattle.pywr.specs.Network.{Node, VirtualStorage, Network}
+use Rattle.pywr.specs.NetworkFile.{parseNetwork}
+use Rattle.pywr.specs.Rows.{Element, ColumnMap, columnMap, aggregateRow, virtualStorageRow}
+use Rattle.pywr.specs.VariableRows.{addVariableRows, Joined}
+use Rattle.pywr.specs.Programme.{Column, Row, Programme, NodeShape, NodeRow, StorageShape, Built}
+use Rattle.pywr.specs.VaryingRows.{RowRequest, requestsFrom, freshRow}
+use Rattle.pywr.specs.FixedRows.{massRowsFrom, constantRowsFrom, exclusivityRows}
+
+-- "edges, lower 0, upper the high sentinel; then one 0..1 integer column per distinct exclusive set"
+unfoldable pub edgeColumn : Sentinel → Column
+edgeColumn s = record { integer = false; lower = zero64; upper = high s; cost = zero64 }
+
+unfoldable pub setColumn : Column
+setColumn = record { integer = true; lower = zero64; upper = one64; cost = zero64 }
+
+unfoldable pub allColumns : Sentinel → ColumnMap → List Column
+allColumns s f = replicate (f .edgeColumns) (edgeColumn s) ++ replicate (length (f .sets)) setColumn
+
+unfoldable pub nodeShape : Node → NodeShape
+nodeShape n = record { kind = n .kind; constant = n .constant }
+
+unfoldable pub placedNodeRows : List RowRequest → List ℕ → List NodeRow
+placedNodeRows [] places = []
+placedNodeRows (a ∷ rest) [] = []
+placedNodeRows (a ∷ rest) (r ∷ places) = record { node = a .node; row = r; rowType = a .rowType; set = a .set } ∷ placedNodeRows rest places
+
+unfoldable pub placedStorages : List VirtualStorage → List ℕ → List StorageShape
+placedStorages [] places = []
+placedStorages (v ∷ vs) [] = []
+placedStorages (v ∷ vs) (r ∷ places) = record { row = r; period = v .period } ∷ placedStorages vs places
+
+unfoldable pub requestedRow : RowRequest → List Element
+requestedRow a = a .row
+
+-- "varying first (nodes, aggregates, virtual storages), then fixed (mass, constant nodes, exclusivity)"
+unfoldable pub assemble : Sentinel → Network → ColumnMap → Built
+assemble s net f =
+    let requests : List RowRequest = requestsFrom f 0 (net .nodes) in
+    let forNodes : Joined = addVariableRows (map requestedRow requests) (record { rows = []; places = [] }) in
+    let forAggregates : Joined = addVariableRows (map (aggregateRow f) (net .aggregates)) (record { rows = forNodes .rows; places = [] }) in
+    let forStorages : Joined = addVariableRows (map (virtualStorageRow f) (net .virtualStorages)) (record { rows = forAggregates .rows; places = [] }) in
+    record {
+      programme =
+          record {
+            sentinel = s;
+            columns = allColumns s f;
+            varying = map (freshRow s) (forStorages .rows);
+            fixed = massRowsFrom f 0 (net .nodes) ++ constantRowsFrom s f 0 (net .nodes) ++ exclusivityRows f (net .aggregates);
+          };
+      shape =
+          record {
+            nodes = map nodeShape (net .nodes);
+            mappedEdges = f .mappedEdges;
+            edgeColumns = f .edgeColumns;
+            nodeRows = placedNodeRows requests (forNodes .places);
+            aggregates = forAggregates .places;
+            virtualStorages = placedStorages (net .virtualStorages) (forStorages .places);
+          };
+    }
+
+unfoldable pub programmeOf : Sentinel → Network → Built
+programmeOf s net = assemble s net (columnMap net)
+
+-- "at most 128 sets, 1,024 rows, 4,096 elements, after equal rows join"
+unfoldable pub elementCount : List Row → ℕ
+elementCount [] = 0
+elementCount (r ∷ rs) = length (r .elements) + elementCount rs
+
+unfoldable pub underCeilings : ColumnMap → Programme → Bool
+underCeilings f p =
+    leb (length (f .sets)) 128
+    && leb (length (p .varying) + length (p .fixed)) 1024
+    && leb (elementCount (p .varying) + elementCount (p .fixed)) 4096
+
+-- a build's answer: the refusals 1 to 10 of the file, then 11 "programme over its ceilings (place 0)"
+unfoldable pub build : Sentinel → List ℕ → Result Built
+build s file = parseNetwork file >>= λ net. need (underCeilings (columnMap net) (programmeOf s net .programme)) 11 0 (programmeOf s net)

@@ -1,0 +1,108 @@
+-- Demand 3, as one statement over any list of steps. Assumes nothing.
+use mathlib.Core.Path.{_≡_}
+use Prim.Native.Nat.{ℕ, _/_, _%_}
+use mathlib.Core.List.{List, [], _∷_, map}
+use mathlib.Core.Bool.{Bool, true, false, cond, not, _&&_, _||_}
+use mathlib.Core.Option.{Option, none, some}
+use lib.ListN.{length}
+use lib.IntN.{natAbs}
+use lib.Dec.{leb, eqb}
+use lib.Ieee.{Float}
+use Rattle.pywr.specs.declared.Sentinel.{Sentinel}
+use Rattle.pywr.specs.Result.{value, Result, refused}
+use Rattle.pywr.specs.Network.{Node, Period, Part, VirtualStorage, Network, isExclusive}
+use Rattle.pywr.specs.NetworkFile.{parseNetwork}
+use Rattle.pywr.specs.Rows.{columnMap}
+use Rattle.pywr.specs.Build.{nodeShape}
+use Rattle.pywr.specs.StepFile.{StepFile, readStep}
+use Rattle.pywr.specs.StepIntervals.{intervals}
+use Rattle.pywr.specs.Store.{Store, programmeIn}
+use Rattle.pywr.specs.Calls.{buildAnswer, buildStore, stepAnswer, stepStore, isAccepted}
+use Rattle.pywr.specs.Plans.{exact, Plan, unit, allFrom}
+use Rattle.pywr.specs.Allows.{allows}
+use Rattle.pywr.specs.Admits.{admits}
+
+-- a step as it is called: its file and the work area lent to it, of any length and content
+pub record Call : Type 0 where
+  pub file : List ℕ
+  pub work : List Float
+
+-- ---- the port's side: each step is handed the store as the call before it left it
+
+unfoldable pub storeAfter : Store → List Call → Store
+storeAfter store [] = store
+storeAfter store (c ∷ cs) = storeAfter (stepStore store (c .file) (c .work)) cs
+
+-- ---- what the network's side is told: the step files in turn, and which were accepted
+
+pub record Report : Type 0 where
+  pub file : List ℕ
+  pub accepted : Bool
+
+unfoldable pub reports : Store → List Call → List Report
+reports store [] = []
+reports store (c ∷ cs) =
+    record { file = c .file; accepted = isAccepted (stepAnswer store (c .file) (c .work)) } ∷ reports (stepStore store (c .file) (c .work)) cs
+
+-- "It keeps the last accepted file; a refused step changes nothing."
+unfoldable pub lastAccepted : Option (List ℕ) → List Report → Option (List ℕ)
+lastAccepted kept [] = kept
+lastAccepted kept (t ∷ ts) = lastAccepted (cond (t .accepted) (some (t .file)) kept) ts
+
+unfoldable pub periodsOf : Network → List Period
+periodsOf net = map (λ (v : VirtualStorage). v .period) (net .virtualStorages)
+
+-- the network's own reading of a step file
+unfoldable pub readBy : Network → List ℕ → Result StepFile
+readBy net file = readStep (map nodeShape (net .nodes)) (length (net .aggregates)) (length (net .virtualStorages)) file
+
+unfoldable pub allowsRead : Sentinel → Network → Result StepFile → Plan → Bool
+allowsRead s net (refused number place) plan = false
+allowsRead s net (value f) plan = allows s net (intervals s (periodsOf net) f) plan
+
+unfoldable pub allowsUnder : Sentinel → Network → Option (List ℕ) → Plan → Bool
+allowsUnder s net none plan = false
+allowsUnder s net (some file) plan = allowsRead s net (readBy net file) plan
+
+-- "The network's side is fed the network file, the sentinel picked and the step files in turn; of the port it is told only which steps were accepted."
+unfoldable pub networkAllows : Result Network → Sentinel → List Report → Plan → Bool
+networkAllows (refused number place) s ts plan = false
+networkAllows (value net) s ts plan = allowsUnder s net (lastAccepted none ts) plan
+
+-- the columns are those of col_edge_map.rs on the network file
+unfoldable pub programmeAdmits : Result Network → Store → Plan → Bool
+programmeAdmits (refused number place) store plan = false
+programmeAdmits (value net) store plan = admits (columnMap net) (programmeIn store) plan
+
+-- ---- premises
+
+-- exclusive nodes have constant bounds
+unfoldable pub exclusiveConstant : Network → Bool
+exclusiveConstant net = allFrom (λ (n : ℕ) (x : Node). not (isExclusive (net .aggregates) n) || x .constant) 0 (net .nodes)
+
+-- virtual-storage factors are whole, at most 1,000,000 in magnitude
+unfoldable pub isWhole : Part → Bool
+isWhole p = eqb (natAbs (exact (p .factor)) % unit) 0 && leb (natAbs (exact (p .factor)) / unit) 1000000
+
+unfoldable pub factorsWhole : Network → Bool
+factorsWhole net = allFrom (λ (n : ℕ) (v : VirtualStorage). allFrom (λ (k : ℕ) (p : Part). isWhole p) 0 (v .parts)) 0 (net .virtualStorages)
+
+unfoldable pub anyAccepted : List Report → Bool
+anyAccepted [] = false
+anyAccepted (t ∷ ts) = t .accepted || anyAccepted ts
+
+-- Demand 3: for every list of steps, refused ones included, from the store that any successful build left: after the list, if at least one was accepted,
+-- the programme admits each flow plan exactly when the network allows that plan under the last accepted step.
+-- The build and each step have a work area of any length and content. Premises: only these steps write the store (the fold), and the two above.
+abbrev pub Correspondence : Type 0
+Correspondence =
+    (networkFile : List ℕ) (s : Sentinel) (old : Store) (words : List ℕ) (numbers : List Float) (net : Network)
+    → parseNetwork networkFile ≡ value net
+    → isAccepted (buildAnswer s networkFile old words numbers) ≡ true
+    → exclusiveConstant net ≡ true
+    → factorsWhole net ≡ true
+    → (calls : List Call)
+    → anyAccepted (reports (buildStore s networkFile old words numbers) calls) ≡ true
+    → (plan : Plan)
+    → programmeAdmits (parseNetwork networkFile) (storeAfter (buildStore s networkFile old words numbers) calls) plan
+    ≡ networkAllows (parseNetwork networkFile) s (reports (buildStore s networkFile old words numbers) calls) plan

@@ -1,0 +1,46 @@
+-- The cost of an edge and of a column (edge.rs, node.rs). Assumes nothing.
+use Prim.Native.Nat.{ℕ, zero, suc}
+use mathlib.Core.List.{List, [], _∷_}
+use mathlib.Core.Bool.{cond}
+use lib.ListN.{getD, set, replicate}
+use lib.Dec.{eqb}
+use lib.Ieee.{Float, binary64, add, div, neg}
+use Rattle.pywr.specs.Numbers.{zero64, two64}
+use Rattle.pywr.specs.Network.{link, storage}
+use Rattle.pywr.specs.ColEdgeMap.{MappedEdge}
+use Rattle.pywr.specs.Programme.{NodeShape, Shape}
+use Rattle.pywr.specs.StepFile.{NodeStep}
+
+-- "A link gives half its cost either way; storage minus its cost out, plus in."
+unfoldable pub outgoingCost : ℕ → Float → Float
+outgoingCost kind cost = cond (eqb kind link) (div binary64 cost two64) (cond (eqb kind storage) (neg cost) cost)
+
+unfoldable pub incomingCost : ℕ → Float → Float
+incomingCost kind cost = cond (eqb kind link) (div binary64 cost two64) cost
+
+-- "Cost: from's outgoing plus to's incoming."
+unfoldable pub edgeCost : ℕ → Float → ℕ → Float → Float
+edgeCost fromKind fromCost toKind toCost = add binary64 (outgoingCost fromKind fromCost) (incomingCost toKind toCost)
+
+unfoldable pub kindAt : List NodeShape → ℕ → ℕ
+kindAt [] n = 0
+kindAt (x ∷ xs) zero = x .kind
+kindAt (x ∷ xs) (suc n) = kindAt xs n
+
+unfoldable pub costAt : List NodeStep → ℕ → Float
+costAt [] n = zero64
+costAt (x ∷ xs) zero = x .cost
+costAt (x ∷ xs) (suc n) = costAt xs n
+
+-- "Costs add into the column in edge order from 0.0."
+-- Invariant of the loop: `stepCosts .. ≡ addCosts shapes steps (drop e mappedEdges) costsNow`
+unfoldable pub addCosts : List NodeShape → List NodeStep → List MappedEdge → List Float → List Float
+addCosts shapes steps [] costs = costs
+addCosts shapes steps (p ∷ ps) costs =
+    addCosts shapes steps ps
+    (set costs (p .column)
+    (add binary64 (getD costs (p .column) zero64)
+    (edgeCost (kindAt shapes (p .from)) (costAt steps (p .from)) (kindAt shapes (p .to)) (costAt steps (p .to)))))
+
+unfoldable pub stepCosts : Shape → ℕ → List NodeStep → List Float
+stepCosts shape columns steps = addCosts (shape .nodes) steps (shape .mappedEdges) (replicate columns zero64)

@@ -1,0 +1,37 @@
+-- The bytes of files, written out record by record, for the worked cases. Assumes nothing.
+use Prim.Native.Nat.{ℕ, _/_, _%_, _^_}
+use mathlib.Core.List.{List, [], _∷_, _++_, flatMap}
+use lib.ListN.{length}
+use lib.Ieee.{Float, binary64, toBits}
+use Rattle.pywr.specs.Numbers.{zero64}
+
+unfoldable pub w16 : ℕ → List ℕ
+w16 n = n % 256 ∷ n / 256 % 256 ∷ []
+
+unfoldable pub w32 : ℕ → List ℕ
+w32 n = w16 n ++ w16 (n / 2 ^ 16)
+
+unfoldable pub w64 : Float → List ℕ
+w64 x = w32 (toBits binary64 x) ++ w32 (toBits binary64 x / 2 ^ 32)
+
+-- a varying node, and a constant one
+unfoldable pub varying : ℕ → List ℕ
+varying kind = 78 ∷ 68 ∷ kind ∷ 0 ∷ w64 zero64 ++ w64 zero64
+
+unfoldable pub constant : ℕ → Float → Float → List ℕ
+constant kind min max = 78 ∷ 68 ∷ kind ∷ 1 ∷ w64 min ++ w64 max
+
+unfoldable pub edge : ℕ → ℕ → List ℕ
+edge from to = 69 ∷ 68 ∷ w16 from ++ w16 to
+
+unfoldable pub setBytes : List ℕ → List ℕ
+setBytes s = length s ∷ flatMap w16 s
+
+unfoldable pub exclusive : ℕ → ℕ → List (List ℕ) → List ℕ
+exclusive least most sets = 65 ∷ 71 ∷ 1 ∷ length sets ∷ w32 least ++ w32 most ++ flatMap setBytes sets
+
+unfoldable pub date : ℕ → ℕ → Float → List ℕ
+date month day days = 83 ∷ 84 ∷ month ∷ day ∷ w64 days
+
+unfoldable pub nodeStep : Float → Float → Float → Float → List ℕ
+nodeStep cost min max volume = 78 ∷ 66 ∷ w64 cost ++ w64 min ++ w64 max ++ w64 volume

@@ -1,0 +1,60 @@
+-- A programme: its columns and rows; and its shape, what the store keeps beside it for the steps. Assumes nothing.
+use Prim.Native.Nat.{ℕ}
+use mathlib.Core.List.{List}
+use mathlib.Core.Bool.{Bool}
+use lib.Ieee.{Float}
+use Rattle.pywr.specs.declared.Sentinel.{Sentinel}
+use Rattle.pywr.specs.Network.{Period}
+use Rattle.pywr.specs.ColEdgeMap.{MappedEdge}
+use Rattle.pywr.specs.Rows.{Element}
+
+pub record Column : Type 0 where
+  pub integer : Bool
+  pub lower : Float
+  pub upper : Float
+  pub cost : Float
+
+pub record Row : Type 0 where
+  pub lower : Float
+  pub upper : Float
+  pub elements : List Element
+
+-- "Rows: varying first .., then fixed"
+pub record Programme : Type 0 where
+  pub sentinel : Sentinel
+  pub columns : List Column
+  pub varying : List Row
+  pub fixed : List Row
+
+-- ---- what a step needs
+
+pub record NodeShape : Type 0 where
+  pub kind : ℕ
+  pub constant : Bool
+
+-- NodeRowType: what a step does to the row, apply the node's interval or set the coefficient on the set's column
+pub data RowType : Type 0 where
+  continuous binaryUpper binaryLower : RowType
+
+-- NodeRowId, for each row that a varying node asked for: `set` is a set's number, and 0 in a continuous one
+pub record NodeRow : Type 0 where
+  pub node : ℕ
+  pub row : ℕ
+  pub rowType : RowType
+  pub set : ℕ
+
+pub record StorageShape : Type 0 where
+  pub row : ℕ
+  pub period : Period
+
+pub record Shape : Type 0 where
+  pub nodes : List NodeShape
+  pub mappedEdges : List MappedEdge
+  pub edgeColumns : ℕ
+  pub nodeRows : List NodeRow
+  pub aggregates : List ℕ
+  pub virtualStorages : List StorageShape
+
+pub record Built : Type 0 where
+  pub programme : Programme
+  pub shape : Shape
