@@ -1,0 +1,43 @@
+-- `edge::bad_edge` meets its contract: at each return, the tests that led there. Assumes nothing.
+use borrow.Author.Tests.{eq-eqb, ne-eqb}
+use Rattle.edge.specs.Edge.{badEdgeAt}
+use borrow.Author.Needs.{needs}
+use Rattle.edge.proofs.bad_edge.Statement.{statement}
+use Rattle.edge.proofs.bad_edge.Tie as tie
+
+returns : tie.Need-returns
+unfolding badEdgeAt
+returns c =
+    rw (eq-eqb _ _ (c .if1 .taken))
+
+returns-2 : tie.Need-returns-2
+unfolding badEdgeAt
+returns-2 c =
+    rw (ne-eqb _ _ (c .before .before .if1 .left), eq-eqb _ _ (c .if2 .taken))
+
+returns-3 : tie.Need-returns-3
+unfolding badEdgeAt
+returns-3 c =
+    rw (ne-eqb _ _ (c .before .before .before .if1 .left), ne-eqb _ _ (c .before .if2 .left), eq-eqb _ _ (c .if3 .taken))
+
+returns-4 : tie.Need-returns-4
+unfolding badEdgeAt
+returns-4 c =
+    rw (ne-eqb _ _ (c .before .before .before .before .if1 .left), ne-eqb _ _ (c .before .before .if2 .left), ne-eqb _ _ (c .before .if3 .left)) (c .pair-among .ensures)
+
+pub bad-edge-spec : {M : Type 1} → statement M
+bad-edge-spec =
+    tie.close
+    (tie.spec
+    (λ c. search needs)
+    (λ c. search needs)
+    (λ c. search needs)
+    returns
+    (λ c. search needs)
+    (λ c. search needs)
+    (λ c. search needs)
+    returns-2
+    returns-3
+    (λ c. search needs)
+    (λ c κs. search needs)
+    returns-4)

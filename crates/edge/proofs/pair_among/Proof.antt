@@ -1,0 +1,55 @@
+-- `edge::pair_among` meets its contract. The invariant: the answer is that of the edges from `at` on. Assumes nothing.
+use Rattle.pywr.specs.Bytes.{le16}
+use native.Mathlib.Omega.{arith}
+use native.Mathlib.Nat.{sub-zero}
+use mathlib.Core.Path.{_≡_, sym, _∙_}
+use Prim.Native.Nat.{_+_, _*_, _-_, _<_, _≤_}
+use Rattle.edge.specs.Edge.{pairAmong}
+use Rattle.edge.proofs.Loops.{pair-here, pair-next, pair-end}
+use borrow.Author.Needs.{needs}
+use Rattle.edge.proofs.pair_among.Statement.{statement}
+use Rattle.edge.proofs.pair_among.Tie as tie
+
+abbrev Inv-loop : tie.InvT-loop
+Inv-loop s count start from to pair at₀ i₀ at i =
+    (i ≤ count) × (at ≡ start + 6 * i) × (pairAmong s count start from to ≡ pairAmong s (count - i) at from to)
+
+abbrev μ-loop : tie.MeasureT-loop
+μ-loop s count start from to pair at₀ i₀ at i = count - i
+
+loop-holds : tie.Need-loop-holds Inv-loop μ-loop
+loop-holds c =
+    (search needs, search needs, rw sub-zero)
+
+returns : tie.Need-returns Inv-loop μ-loop
+returns c =
+    let k = c .before .before .before .before .loop .at + 2 in
+    let h : le16 (c .before .before .before .before .before .before .args .s .now) k < 65536 = omega (arith, c .before .before .before .before .before .shared-slice-known .given k, c .before .before .before .before .before .shared-slice-known .given (k + 1)) in
+    sym (c .before .before .before .before .loop .inv .2 ∙ pair-here _ _ _ _ _ _ (c .before .before .before .loop-test .taken) h (c .before .before .before .before .before .before .pre .1) (sym (c .before .wide32 .ensures .0 ∙ c .before .before .u32-at .ensures) ∙ c .if1 .taken))
+
+loop-again : tie.Need-loop-again Inv-loop μ-loop
+loop-again c =
+    (search needs, search needs, c .before .before .before .before .loop .inv .2 ∙ pair-next _ _ _ _ _ _ (c .before .before .before .loop-test .taken) (λ q. c .if1 .left (c .before .wide32 .ensures .0 ∙ c .before .before .u32-at .ensures ∙ q)))
+
+returns-2 : tie.Need-returns-2 Inv-loop μ-loop
+returns-2 c =
+    sym (c .before .loop .inv .2 ∙ pair-end _ _ _ _ _ _ (c .loop-test .left))
+
+pub pair-among-spec : {M : Type 1} → statement M
+pair-among-spec =
+    tie.close
+    (tie.spec
+    Inv-loop
+    μ-loop
+    (λ c. search needs)
+    (λ c. search needs)
+    loop-holds
+    (λ c. search needs)
+    (λ c κs. search needs)
+    (λ c κs. search needs)
+    returns
+    (λ c. search needs)
+    (λ c. search needs)
+    (λ c. search needs)
+    loop-again
+    returns-2)

@@ -1,0 +1,4 @@
+pub mod Left
+pub mod Nan
+pub mod Within
+pub mod RecordLaws

@@ -1,0 +1,48 @@
+-- `network_checks::check_constants` meets its contract: the marks are those of the nodes that an exclusive aggregate lists. Assumes nothing.
+use native.Mathlib.Omega.{arith}
+use mathlib.Core.Path.{_∙_, ap}
+use mathlib.Core.List.{List}
+use mathlib.Core.Bool.{Bool, false}
+use lib.ListN.{getD}
+use Rattle.network_laws.specs.NetworkAt.{networkAt}
+use Rattle.network_laws.proofs.Accepted.{fixed-within, node-accepted, aggregate-accepted}
+use Rattle.network_laws.proofs.Passed.{aggregate-more}
+use Rattle.network_checks.proofs.MarkLaws.{exclusive-marked}
+use borrow.Author.Needs.{needs}
+use Rattle.network_checks.proofs.check_constants.Statement.{statement}
+use Rattle.network_checks.proofs.check_constants.Tie as tie
+
+mul-mark-exclusive : tie.Need-mul-mark-exclusive
+mul-mark-exclusive c =
+    omega (arith, c .before .before .pre .few-nodes)
+
+mul-mark-exclusive-2 : tie.Need-mul-mark-exclusive-2
+mul-mark-exclusive-2 c =
+    omega (arith, c .before .before .before .pre .few-edges)
+
+add-mark-exclusive : tie.Need-add-mark-exclusive
+add-mark-exclusive c =
+    omega (arith, c .before .before .before .pre .few-nodes, c .before .before .before .pre .few-edges)
+
+mark-exclusive-requires : tie.Need-mark-exclusive-requires
+mark-exclusive-requires c κs =
+    (fixed-within _ _ _ _ _ _ (c .before .before .before .before .pre), λ k lt. aggregate-more _ _ _ _ (c .before .before .before .before .pre .few-nodes) (aggregate-accepted _ _ _ _ _ _ (c .before .before .before .before .pre) k lt))
+
+first-bad-constant-requires : tie.Need-first-bad-constant-requires
+unfolding networkAt
+first-bad-constant-requires c κs = (
+  c .before .before .before .before .before .before .pre .few-nodes,
+  node-accepted _ _ _ _ _ _ (c .before .before .before .before .before .before .pre),
+  λ i lt. ap (λ (marks : List Bool). getD marks i false) (c .before .mark-exclusive .ensures) ∙ exclusive-marked _ 256 i (omega (arith, lt, c .before .before .before .before .before .before .pre .few-nodes)),
+)
+
+pub check-constants-spec : {M : Type 1} → statement M
+check-constants-spec =
+    tie.close
+    (tie.spec
+    mul-mark-exclusive
+    mul-mark-exclusive-2
+    add-mark-exclusive
+    mark-exclusive-requires
+    first-bad-constant-requires
+    (λ c. search needs))

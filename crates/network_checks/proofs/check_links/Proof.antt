@@ -1,0 +1,39 @@
+-- `network_checks::check_links` meets its contract: the marks of the edges' ends say which nodes have an edge in or out. Assumes nothing.
+use native.Mathlib.Omega.{arith}
+use mathlib.Core.Path.{_∙_, ap}
+use mathlib.Core.List.{List}
+use mathlib.Core.Bool.{Bool, false}
+use Prim.Native.Nat.{ℕ, _<_}
+use lib.ListN.{getD}
+use Rattle.pywr.specs.Network.{source, target, incoming, outgoing}
+use Rattle.network_laws.specs.NetworkAt.{edgesAt, networkAt}
+use Rattle.network_laws.proofs.Accepted.{fixed-within, edge-accepted}
+use Rattle.network_checks.proofs.MarkLaws.{ends-marked}
+use borrow.Author.Needs.{needs}
+use Rattle.network_checks.proofs.check_links.Statement.{statement}
+use Rattle.network_checks.proofs.check_links.Tie as tie
+
+mark-ends-requires : tie.Need-mark-ends-requires
+mark-ends-requires c κs =
+    (c .before .before .before .pre .few-nodes, c .before .before .before .pre .few-edges, edge-accepted _ _ _ _ _ _ (c .before .before .before .pre))
+
+first-unconnected-requires : tie.Need-first-unconnected-requires
+unfolding incoming outgoing networkAt
+first-unconnected-requires c κs =
+    let s = c .before .before .before .before .before .before .args .s .now in
+    let n = c .before .before .before .before .before .before .args .c .nodes in
+    let e = c .before .before .before .before .before .before .args .c .edges in
+    let below : (i : ℕ) → i < n → i < 256 = λ i lt. omega (arith, lt, c .before .before .before .before .before .before .pre .few-nodes) in (
+      c .before .before .before .before .before .before .pre .few-nodes,
+      omega (arith, fixed-within _ _ _ _ _ _ (c .before .before .before .before .before .before .pre)),
+      λ i lt. ap (λ (marks : List Bool). getD marks i false) (c .before .before .mark-ends .ensures .0) ∙ ends-marked target (edgesAt s n e) 256 i (below i lt),
+      λ i lt. ap (λ (marks : List Bool). getD marks i false) (c .before .before .mark-ends .ensures .1) ∙ ends-marked source (edgesAt s n e) 256 i (below i lt),
+    )
+
+pub check-links-spec : {M : Type 1} → statement M
+check-links-spec =
+    tie.close
+    (tie.spec
+    mark-ends-requires
+    first-unconnected-requires
+    (λ c. search needs))

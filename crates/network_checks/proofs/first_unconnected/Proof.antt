@@ -1,0 +1,61 @@
+-- `network_checks::first_unconnected` meets its contract. The invariant: the answer is that of the nodes from i on. Assumes nothing.
+use native.Mathlib.Nat.{sub-zero}
+use mathlib.Core.Path.{_≡_, sym, _∙_}
+use Prim.Native.Nat.{_+_, _*_, _-_, _≤_}
+use Rattle.pywr.specs.NetworkFile.{firstRefused, unconnectedLink}
+use Rattle.fields.specs.Records.{recordsAt}
+use Rattle.node.specs.Node.{nodeAt}
+use Rattle.network_laws.specs.NetworkAt.{nodesAt}
+use Rattle.network_record.specs.Counts.{networkOf}
+use Rattle.network_checks.proofs.NodeLoops.{refused-here, refused-later, refused-none}
+use Rattle.network_checks.proofs.Links.{unconnected, connected}
+use borrow.Author.Needs.{needs}
+use Rattle.network_checks.proofs.first_unconnected.Statement.{statement}
+use Rattle.network_checks.proofs.first_unconnected.Tie as tie
+
+abbrev Inv-loop : tie.InvT-loop
+Inv-loop s c into out i₀ i =
+    (i ≤ c .nodes)
+    × (firstRefused (unconnectedLink (networkOf s c)) 0 (nodesAt s (c .nodes))
+    ≡ firstRefused (unconnectedLink (networkOf s c)) i (recordsAt (nodeAt s) (λ at. at + 20) (c .nodes - i) (20 * i)))
+
+abbrev μ-loop : tie.MeasureT-loop
+μ-loop s c into out i₀ i = c .nodes - i
+
+loop-holds : tie.Need-loop-holds Inv-loop μ-loop
+loop-holds c =
+    (search needs, rw sub-zero)
+
+is-unconnected-requires : tie.Need-is-unconnected-requires Inv-loop μ-loop
+is-unconnected-requires c κs =
+    search needs
+
+returns : tie.Need-returns Inv-loop μ-loop
+returns c =
+    sym (c .before .before .before .before .loop .inv .1 ∙ refused-here _ (c .before .before .before .before .before .before .args .s .now) _ _ _ (c .before .before .if1 .taken)
+    (unconnected _ _ _ _ _ (c .before .before .before .before .before .before .pre .2 _ (c .before .before .if1 .taken)) (c .before .before .before .before .before .before .pre .3 _ (c .before .before .if1 .taken)) (sym (c .before .is-unconnected .ensures) ∙ c .if2 .taken)))
+
+loop-again : tie.Need-loop-again Inv-loop μ-loop
+loop-again c = (
+  search needs,
+  c .before .before .before .before .loop .inv .1 ∙ refused-later _ (c .before .before .before .before .before .before .args .s .now) _ _ (c .before .before .if1 .taken)
+      (connected _ _ _ _ _ (c .before .before .before .before .before .before .pre .2 _ (c .before .before .if1 .taken)) (c .before .before .before .before .before .before .pre .3 _ (c .before .before .if1 .taken)) (sym (c .before .is-unconnected .ensures) ∙ c .if2 .left)),
+)
+
+returns-2 : tie.Need-returns-2 Inv-loop μ-loop
+returns-2 c =
+    sym (c .before .before .loop .inv .1 ∙ refused-none _ (c .before .before .before .before .args .s .now) _ _ (c .if1 .left))
+
+pub first-unconnected-spec : {M : Type 1} → statement M
+first-unconnected-spec =
+    tie.close
+    (tie.spec
+    Inv-loop
+    μ-loop
+    loop-holds
+    is-unconnected-requires
+    returns
+    (λ c. search needs)
+    (λ c. search needs)
+    loop-again
+    returns-2)

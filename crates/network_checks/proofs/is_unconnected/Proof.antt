@@ -1,0 +1,37 @@
+-- `network_checks::is_unconnected` meets its contract: at each return, the tests that led there. Assumes nothing.
+use borrow.Author.Tests.{eq-eqb, ne-eqb}
+use mathlib.Core.Path.{sym, _∙_, ap}
+use Prim.Native.Nat.{ℕ, _+_, _*_}
+use Rattle.pywr.specs.Bytes.{byte}
+use borrow.Author.Needs.{needs}
+use Rattle.network_checks.proofs.is_unconnected.Statement.{statement}
+use Rattle.network_checks.proofs.is_unconnected.Tie as tie
+
+returns : tie.Need-returns
+returns c =
+    rw (sym (c .before .before .before .before .before .kind .ensures ∙ ap (λ (k : ℕ). byte (c .before .before .before .before .before .before .before .before .args .s .now) (20 * k + 2)) (c .before .before .before .before .before .before .narrow16 .ensures)), eq-eqb _ _ (c .before .before .before .before .if1 .taken), c .before .before .if2 .taken, c .if3 .taken)
+
+returns-2 : tie.Need-returns-2
+returns-2 c =
+    rw (sym (c .before .before .before .before .before .kind .ensures ∙ ap (λ (k : ℕ). byte (c .before .before .before .before .before .before .before .before .args .s .now) (20 * k + 2)) (c .before .before .before .before .before .before .narrow16 .ensures)), eq-eqb _ _ (c .before .before .before .before .if1 .taken), c .before .before .if2 .taken, c .if3 .left)
+
+returns-3 : tie.Need-returns-3
+returns-3 c =
+    rw (sym (c .before .before .before .kind .ensures ∙ ap (λ (k : ℕ). byte (c .before .before .before .before .before .before .args .s .now) (20 * k + 2)) (c .before .before .before .before .narrow16 .ensures)), eq-eqb _ _ (c .before .before .if1 .taken), c .if2 .left)
+
+returns-4 : tie.Need-returns-4
+returns-4 c =
+    rw (sym (c .before .kind .ensures ∙ ap (λ (k : ℕ). byte (c .before .before .before .before .args .s .now) (20 * k + 2)) (c .before .before .narrow16 .ensures)), ne-eqb _ _ (c .if1 .left))
+
+pub is-unconnected-spec : {M : Type 1} → statement M
+is-unconnected-spec =
+    tie.close
+    (tie.spec
+    (λ c κs. search needs)
+    (λ c κs. search needs)
+    (λ c. search needs)
+    (λ c. search needs)
+    returns
+    returns-2
+    returns-3
+    returns-4)

@@ -1,0 +1,3 @@
+pub mod NetworkAt
+pub mod Passed
+pub mod Sections

@@ -1,0 +1,35 @@
+-- The network of a file, each record read where it stands and nothing tested: node i at 20 i, edge j at 20 n + 6 j, the aggregates behind the edges,
+-- the virtual storages behind the aggregates. Assumes nothing.
+use Prim.Native.Nat.{ℕ, _+_, _*_}
+use mathlib.Core.List.{List}
+use Rattle.pywr.specs.Network.{Node, Edge, Network}
+use Rattle.fields.specs.Records.{recordsAt, recordsEnd}
+use Rattle.node.specs.Node.{nodeAt}
+use Rattle.edge.specs.Edge.{edgeAt}
+use Rattle.aggregated_node.specs.AggregatedNode.{aggregateAt, aggregateEnd}
+use Rattle.virtual_storage.specs.VirtualStorage.{virtualStorageAt, virtualStorageEnd}
+
+module _ (file : List ℕ) where
+  abbrev pub nodesAt : ℕ → List Node
+  nodesAt n = recordsAt (nodeAt file) (λ at. at + 20) n 0
+
+  abbrev pub edgesAt : ℕ → ℕ → List Edge
+  edgesAt n e = recordsAt (edgeAt file) (λ at. at + 6) e (20 * n)
+
+  -- where aggregate k starts
+  abbrev pub aggregateStart : ℕ → ℕ → ℕ → ℕ
+  aggregateStart n e k = recordsEnd (aggregateEnd file) k (20 * n + 6 * e)
+
+  -- where virtual storage k starts
+  abbrev pub virtualStorageStart : ℕ → ℕ → ℕ → ℕ → ℕ
+  virtualStorageStart n e a k = recordsEnd (virtualStorageEnd file) k (aggregateStart n e a)
+
+  -- the network of a file with n nodes, e edges, a aggregates and v virtual storages
+  unfoldable pub networkAt : ℕ → ℕ → ℕ → ℕ → Network
+  networkAt n e a v =
+      record {
+        nodes = nodesAt n;
+        edges = edgesAt n e;
+        aggregates = recordsAt (aggregateAt file) (aggregateEnd file) a (20 * n + 6 * e);
+        virtualStorages = recordsAt (virtualStorageAt file) (virtualStorageEnd file) v (aggregateStart n e a);
+      }

@@ -1,0 +1,63 @@
+-- `node::check_node` meets its contract: at each return, what each field answered. Assumes nothing.
+use native.Mathlib.Omega.{arith}
+use mathlib.Core.Path.{sym, _∙_}
+use Rattle.node.specs.Node.{checkNode}
+use Rattle.node.proofs.BoundWithin.{bound-within}
+use borrow.Author.Needs.{needs}
+use Rattle.node.proofs.check_node.Statement.{statement}
+use Rattle.node.proofs.check_node.Tie as tie
+
+returns : tie.Need-returns
+unfolding checkNode
+returns c =
+    (rw (← (c .before .before .before .byte-field .ensures), c .before .k .given .1), tt)
+
+returns-2 : tie.Need-returns-2
+unfolding checkNode
+returns-2 c =
+    (rw (← (c .before .before .before .before .before .before .before .before .byte-field .ensures), c .before .before .before .before .before .before .k2 .given .1, ← (c .before .before .before .before .most-constant .ensures), ← (c .before .before .before .byte-field2 .ensures), c .before .c .given .1), tt)
+
+returns-3 : tie.Need-returns-3
+unfolding checkNode
+returns-3 c =
+    (rw (← (c .before .before .before .before .before .before .before .before .before .before .before .before .byte-field .ensures), c .before .before .before .before .before .before .before .before .before .before .k2 .given .1, ← (c .before .before .before .before .before .before .before .before .most-constant .ensures), ← (c .before .before .before .before .before .before .before .byte-field2 .ensures), c .before .before .before .before .before .c2 .given .1, ← (c .before .before .before .check-bound .ensures), c .before .lo .given .1), tt)
+
+returns-4 : tie.Need-returns-4
+unfolding checkNode
+returns-4 c =
+    (rw (← (c .before .before .before .before .before .before .before .before .before .before .before .before .before .before .before .byte-field .ensures), c .before .before .before .before .before .before .before .before .before .before .before .before .before .k2 .given .1, ← (c .before .before .before .before .before .before .before .before .before .before .before .most-constant .ensures), ← (c .before .before .before .before .before .before .before .before .before .before .byte-field2 .ensures), c .before .before .before .before .before .before .before .before .c2 .given .1, ← (c .before .before .before .before .before .before .check-bound .ensures), c .before .before .before .before .enum-told .given .1, ← (c .before .before .before .check-bound2 .ensures), c .before .hi .given .1), tt)
+
+returns-5 : tie.Need-returns-5
+unfolding checkNode
+returns-5 c = (
+  rw (← (c .before .before .before .before .before .before .before .before .before .before .before .before .before .before .byte-field .ensures), c .before .before .before .before .before .before .before .before .before .before .before .before .k2 .given .1, ← (c .before .before .before .before .before .before .before .before .before .before .most-constant .ensures), ← (c .before .before .before .before .before .before .before .before .before .byte-field2 .ensures), c .before .before .before .before .before .before .before .c2 .given .1, ← (c .before .before .before .before .before .check-bound .ensures), c .before .before .before .enum-told .given .1, ← (c .before .before .check-bound2 .ensures), c .enum-told2 .given .1),
+  omega (arith, bound-within _ _ _ _ _ (sym (c .before .before .check-bound2 .ensures) ∙ c .enum-told2 .given .1) .0),
+)
+
+pub check-node-spec : {M : Type 1} → statement M
+check-node-spec =
+    tie.close
+    (tie.spec
+    (λ c. search needs)
+    (λ c κs. search needs)
+    (λ c. search needs)
+    (λ c. search needs)
+    (λ c. search needs)
+    (λ c κs. search needs)
+    (λ c κs. search needs)
+    (λ c. search needs)
+    (λ c. search needs)
+    (λ c. search needs)
+    (λ c κs. search needs)
+    (λ c. search needs)
+    (λ c. search needs)
+    (λ c. search needs)
+    (λ c κs. search needs)
+    (λ c. search needs)
+    (λ c. search needs)
+    (λ c. search needs)
+    returns
+    returns-2
+    returns-3
+    returns-4
+    returns-5)

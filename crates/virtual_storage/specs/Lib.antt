@@ -1,0 +1,2 @@
+pub mod VirtualStorage
+pub mod PeriodOf
