@@ -1,0 +1,3 @@
+pub mod MappedLaws
+pub mod Turn
+pub mod EdgeColumns

@@ -1,0 +1,54 @@
+-- `constant_rows::add_constant_rows` meets its contract. Assumes nothing.
+use mathlib.Core.Path.{sym, _∙_}
+use native.Mathlib.Omega.{arith}
+use borrow.Author.Tests.{not-true, not-false}
+use Rattle.constant_rows.proofs.ConstantRows.{varying-none, no-listing, some-listing}
+use borrow.Author.Needs.{needs}
+use Rattle.constant_rows.proofs.add_constant_rows.Statement.{statement}
+use Rattle.constant_rows.proofs.add_constant_rows.Tie as tie
+
+is-constant-requires : tie.Need-is-constant-requires
+is-constant-requires c κs =
+    omega (arith, c .before .before .before .pre .0 .sections .fixed, c .before .before .before .pre .0 .sections .inside, c .before .before .before .pre .1)
+
+returns : tie.Need-returns
+returns c =
+    varying-none _ _ _ _ (sym (c .before .is-constant .ensures) ∙ not-true (c .before .is-constant .result) (c .if1 .taken)) _ _ _
+
+element-copy-out-if2 : tie.Need-element-copy-out-if2
+element-copy-out-if2 c =
+    omega (arith, c .wide16 .ensures, c .before .before .before .before .before .before .pre .1, c .before .before .before .before .before .before .pre .0 .sections .few-nodes)
+
+add-node-row-requires : tie.Need-add-node-row-requires
+add-node-row-requires c κs =
+    let p = c .before .before .before .before .before .before .before .before .before .before .before .pre in (p .0, p .1, p .4, p .5, p .6)
+
+returns-2 : tie.Need-returns-2
+returns-2 c =
+    no-listing _ _ _ _ (c .before .before .before .before .before .before .before .before .before .before .before .before .before .before .before .before .pre .3) _ _ (c .before .before .before .before .before .before .before .before .before .before .wide16 .ensures .0) (omega (arith, c .before .before .before .before .before .before .before .before .before .before .before .before .before .before .before .before .pre .1, c .before .before .before .before .before .before .before .before .before .before .before .before .before .before .before .before .pre .0 .sections .few-nodes)) _ _ (sym (c .before .before .before .before .before .before .before .before .before .before .before .before .is-constant .ensures) ∙ not-false (c .before .before .before .before .before .before .before .before .before .before .before .before .is-constant .result) (c .before .before .before .before .before .before .before .before .before .before .before .if1 .left)) _ _ _ _ _ _ (c .before .before .before .before .before .before .before .before .if2 .taken) (c .before .before .before .before .add-node-row .ensures)
+
+add-exclusive-rows-requires : tie.Need-add-exclusive-rows-requires
+add-exclusive-rows-requires c κs =
+    c .before .before .before .before .before .before .before .before .before .before .before .pre
+
+returns-3 : tie.Need-returns-3
+returns-3 c =
+    some-listing _ _ _ _ (c .before .before .before .before .before .before .before .before .before .before .before .before .before .before .before .before .pre .3) _ _ (c .before .before .before .before .before .before .before .before .before .before .wide16 .ensures .0) (omega (arith, c .before .before .before .before .before .before .before .before .before .before .before .before .before .before .before .before .pre .1, c .before .before .before .before .before .before .before .before .before .before .before .before .before .before .before .before .pre .0 .sections .few-nodes)) _ _ (sym (c .before .before .before .before .before .before .before .before .before .before .before .before .is-constant .ensures) ∙ not-false (c .before .before .before .before .before .before .before .before .before .before .before .before .is-constant .result) (c .before .before .before .before .before .before .before .before .before .before .before .if1 .left)) _ _ _ _ _ _ (c .before .before .before .before .before .before .before .before .if2 .left) (c .before .before .before .before .add-exclusive-rows .ensures)
+
+pub add-constant-rows-spec : {M : Type 1} → statement M
+add-constant-rows-spec =
+    tie.close
+    (tie.spec
+    is-constant-requires
+    returns
+    (λ c κs. search needs)
+    (λ c. search needs)
+    element-copy-out-if2
+    add-node-row-requires
+    (λ c. search needs)
+    (λ c. search needs)
+    returns-2
+    add-exclusive-rows-requires
+    (λ c. search needs)
+    (λ c. search needs)
+    returns-3)

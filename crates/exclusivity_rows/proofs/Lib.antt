@@ -1,0 +1,3 @@
+pub mod KnownSets
+pub mod Gathering
+pub mod ExclusivityRows

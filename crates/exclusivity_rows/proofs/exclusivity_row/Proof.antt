@@ -1,0 +1,80 @@
+-- `exclusivity_rows::exclusivity_row` meets its contract: the first i sets were added. Assumes nothing.
+use mathlib.Core.Path.{_≡_, refl, _∙_}
+use Prim.Native.Nat.{_-_}
+use native.Mathlib.Omega.{arith}
+use lib.ListN.{length}
+use lib.Ieee.{ofBits}
+use Rattle.pywr.specs.Numbers.{one64}
+use Rattle.exclusivity_rows.proofs.Gathering.{Gathering, gathering-first, next-known, gathering-next, gathering-done}
+use borrow.Author.Needs.{needs}
+use Rattle.exclusivity_rows.proofs.exclusivity_row.Statement.{statement}
+use Rattle.exclusivity_rows.proofs.exclusivity_row.Tie as tie
+
+abbrev Inv-loop : tie.InvT-loop
+Inv-loop s set-at sets edge-columns at columns₀ elements₀ count n₀ here₀ i₀ columns elements n here i =
+    Gathering s set-at sets edge-columns at count columns elements n here i × (length elements ≡ length elements₀)
+
+abbrev μ-loop : tie.MeasureT-loop
+μ-loop s set-at sets edge-columns at columns₀ elements₀ count n₀ here₀ i₀ columns elements n here i = count - i
+
+set-count-requires : tie.Need-set-count-requires Inv-loop μ-loop
+set-count-requires c κs =
+    c .before .before .pre .2
+
+loop-holds : tie.Need-loop-holds Inv-loop μ-loop
+loop-holds c =
+    (gathering-first _ _ _ _ _ _ (c .set-count .ensures .0) _ _, refl)
+
+set-number-requires : tie.Need-set-number-requires Inv-loop μ-loop
+set-number-requires c κs =
+    (c .before .before .before .before .before .pre .0, next-known _ _ _ _ _ _ _ _ _ _ _ (c .before .loop .inv .0) (c .loop-test .taken) (c .before .before .before .before .before .pre .3) .0)
+
+add-column-index : tie.Need-add-column-index Inv-loop μ-loop
+add-column-index c =
+    let k = next-known _ _ _ _ _ _ _ _ _ _ _ (c .before .before .loop .inv .0) (c .before .loop-test .taken) (c .before .before .before .before .before .before .pre .3) .1 in omega (arith, k, c .set-number .ensures, c .before .before .before .before .before .before .pre .0 .few, c .before .before .before .before .before .before .pre .1)
+
+column-index-requires : tie.Need-column-index-requires Inv-loop μ-loop
+column-index-requires c κs =
+    let k = next-known _ _ _ _ _ _ _ _ _ _ _ (c .before .before .loop .inv .0) (c .before .loop-test .taken) (c .before .before .before .before .before .before .pre .3) .1 in omega (arith, k, c .set-number .ensures, c .before .before .before .before .before .before .pre .0 .few, c .before .before .before .before .before .before .pre .1)
+
+add-element-requires : tie.Need-add-element-requires Inv-loop μ-loop
+add-element-requires c κs =
+    let k = next-known _ _ _ _ _ _ _ _ _ _ _ (c .before .before .before .before .before .loop .inv .0) (c .before .before .before .before .loop-test .taken) (c .before .before .before .before .before .before .before .before .before .pre .3) .1 in
+    (c .before .before .before .before .before .loop .inv .0 .few, omega (arith, c .before .before .before .before .before .loop .inv .1, c .before .before .before .before .before .before .before .before .before .pre .4), omega (arith, k, c .before .before .column-index .ensures, c .before .before .before .set-number .ensures, c .before .before .before .before .before .before .before .before .before .pre .0 .few, c .before .before .before .before .before .before .before .before .before .pre .1), c .before .before .before .before .before .loop .inv .0 .rising)
+
+set-end-requires : tie.Need-set-end-requires Inv-loop μ-loop
+set-end-requires c κs =
+    let k = next-known _ _ _ _ _ _ _ _ _ _ _ (c .before .before .before .before .before .before .before .before .loop .inv .0) (c .before .before .before .before .before .before .before .loop-test .taken) (c .before .before .before .before .before .before .before .before .before .before .before .before .pre .3) .0 in omega (arith, k)
+
+loop-again : tie.Need-loop-again Inv-loop μ-loop
+unfolding one64 ofBits
+loop-again c =
+    (rw (c .set-end .ensures) (gathering-next _ _ _ _ _ _ _ _ _ _ _ (c .before .before .before .before .before .before .before .before .before .loop .inv .0) (c .before .before .before .before .before .before .before .before .loop-test .taken) _ _ _ _ _ _ (c .before .before .before .before .before .before .before .set-number .ensures) (c .before .before .before .before .before .before .column-index .ensures) refl (c .before .before .before .add-element .ensures)), c .before .before .before .add-element .kept .1 .0 ∙ c .before .before .before .before .before .before .before .before .before .loop .inv .1)
+
+same-length : tie.Need-same-length Inv-loop μ-loop
+same-length c =
+    c .before .loop .inv .1
+
+returns : tie.Need-returns Inv-loop μ-loop
+returns c =
+    gathering-done _ _ _ _ _ _ _ _ _ _ _ (c .before .loop .inv .0) (c .loop-test .left)
+
+pub exclusivity-row-spec : {M : Type 1} → statement M
+exclusivity-row-spec =
+    tie.close
+    (tie.spec
+    Inv-loop
+    μ-loop
+    set-count-requires
+    (λ c. search needs)
+    loop-holds
+    set-number-requires
+    add-column-index
+    column-index-requires
+    add-element-requires
+    set-end-requires
+    (λ c. search needs)
+    (λ c. search needs)
+    loop-again
+    same-length
+    returns)

@@ -1,0 +1,3 @@
+pub mod AddingRows
+pub mod LentRow
+pub mod NodeRows

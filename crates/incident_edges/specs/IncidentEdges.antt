@@ -1,0 +1,17 @@
+-- The edges of each node, as two tables list them. Assumes nothing.
+use Prim.Native.Nat.{ℕ}
+use mathlib.Core.List.{List}
+use mathlib.Core.Bool.{cond}
+use lib.ListN.{getD}
+use lib.Dec.{eqb}
+use Rattle.pywr.specs.Network.{Edge, source, target, edgesWith}
+use Rattle.network_laws.specs.NetworkAt.{edgesAt}
+use Rattle.laws.specs.Linked.{Linked}
+
+-- the end of an edge whose number stands so many bytes into its record: `from` 2, `to` 4
+abbrev pub endAt : ℕ → Edge → ℕ
+endAt at e = cond (eqb at 2) (source e) (target e)
+
+-- the tables list, of every node, the edges of a file that have it as this end, in index order
+pub record EdgesListed (end : Edge → ℕ) (file : List ℕ) (nodes edges : ℕ) (first next : List ℕ) : Type 0 where
+  pub listed : (n : ℕ) → Linked edges next (getD first n 0) (edgesWith end n 0 (edgesAt file nodes edges))

@@ -1,0 +1,42 @@
+-- `mass_rows::mass_row` meets its contract. Assumes nothing.
+use mathlib.Core.Path.{_≡_, refl, ap, _∙_}
+use Prim.Native.Nat.{_≤_}
+use native.Mathlib.Omega.{arith}
+use mathlib.Core.List.{List}
+use lib.Ieee.{ofBits, neg}
+use Rattle.pywr.specs.Numbers.{one64}
+use Rattle.pywr.specs.Rows.{Element, addOn}
+use Rattle.pywr.specs.Store.{elementsOf}
+use Rattle.pywr.specs.Misshapen.{columnsRise}
+use Rattle.row_builder.specs.RowBuilder.{gathered}
+use Rattle.row_builder.specs.EdgeList.{columnsOf}
+use borrow.Author.Needs.{needs}
+use Rattle.mass_rows.proofs.mass_row.Statement.{statement}
+use Rattle.mass_rows.proofs.mass_row.Tie as tie
+
+add-columns-requires : tie.Need-add-columns-requires
+unfolding columnsRise
+add-columns-requires c κs =
+    (omega arith, c .before .before .before .pre .0, refl, c .before .before .before .pre .1)
+
+add-columns-requires-2 : tie.Need-add-columns-requires-2
+add-columns-requires-2 c κs =
+    (c .before .before .before .before .add-columns .ensures .few, omega (arith, c .before .before .before .before .add-columns .kept .1 .1 .1 .1 .1 .0, c .before .before .before .before .before .before .before .before .pre .0), c .before .before .before .before .add-columns .ensures .rising, c .before .before .before .before .before .before .before .before .pre .2)
+
+returns : tie.Need-returns
+unfolding one64 ofBits gathered elementsOf
+returns c =
+    λ into out li lo. record {
+      is = c .before .before .add-columns2 .ensures .row out lo ∙ ap (addOn (columnsOf (c .before .before .before .before .before .before .before .before .before .before .before .args .edge-to-col .now) out) (neg one64)) (c .before .before .before .before .before .before .before .add-columns .ensures .row into li);
+      rising = c .before .before .add-columns2 .ensures .rising;
+      few = c .before .before .add-columns2 .ensures .few;
+    }
+
+pub mass-row-spec : {M : Type 1} → statement M
+mass-row-spec =
+    tie.close
+    (tie.spec
+    add-columns-requires
+    add-columns-requires-2
+    (λ c. search needs)
+    returns)

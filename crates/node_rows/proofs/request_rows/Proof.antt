@@ -1,0 +1,58 @@
+-- `node_rows::request_rows` meets its contract: `NodeOrder.antt` has what a node asks for. Assumes nothing.
+use native.Mathlib.Omega.{arith}
+use Rattle.node_rows.proofs.NodeOrder.{node-within, node-under, constant-after, own-room, own-after, listed-room, listed-after}
+use borrow.Author.Needs.{needs}
+use Rattle.node_rows.proofs.request_rows.Statement.{statement}
+use Rattle.node_rows.proofs.request_rows.Tie as tie
+
+is-constant-requires : tie.Need-is-constant-requires
+is-constant-requires c κs =
+    node-within _ _ _ _ _ _ _ (c .before .before .before .pre .0) _ (c .before .before .before .pre .1)
+
+returns : tie.Need-returns
+returns c =
+    let p = c .before .before .before .before .before .pre in
+    constant-after _ _ _ _ _ _ _ (p .0) _ (p .1) _ (c .before .is-constant .ensures) (c .if1 .taken) _ _ _ _ (p .6)
+
+element-copy-out-if2 : tie.Need-element-copy-out-if2
+element-copy-out-if2 c =
+    let under = node-under _ _ _ _ _ _ _ (c .before .before .before .before .before .before .pre .0) _ (c .before .before .before .before .before .before .pre .1) in
+    omega (arith, c .wide16 .ensures .0)
+
+request-node-row-requires : tie.Need-request-node-row-requires
+request-node-row-requires c κs =
+    let p = c .before .before .before .before .before .before .before .before .before .before .before .pre in
+    (p .0, p .1, p .4, p .5, record { asks = _; held = p .6 }, own-room _ _ _ _ _ _ _ (p .0) _ _ (p .3) _ _ (c .before .before .before .before .before .wide16 .ensures .0) (p .1) _ (c .before .before .before .before .before .before .before .is-constant .ensures) (c .before .before .before .before .before .before .if1 .left) (c .before .before .before .if2 .taken) _ _ _ _ (p .6))
+
+returns-2 : tie.Need-returns-2
+returns-2 c =
+    let p = c .before .before .before .before .before .before .before .before .before .before .before .before .before .before .before .before .pre in
+    own-after _ _ _ _ _ _ _ (p .0) _ _ (p .3) _ _ (c .before .before .before .before .before .before .before .before .before .before .wide16 .ensures .0) (p .1) _ (c .before .before .before .before .before .before .before .before .before .before .before .before .is-constant .ensures) (c .before .before .before .before .before .before .before .before .before .before .before .if1 .left) (c .before .before .before .before .before .before .before .before .if2 .taken) _ _ _ _ (c .before .before .before .before .request-node-row .ensures _ (p .6))
+
+request-exclusive-rows-requires : tie.Need-request-exclusive-rows-requires
+request-exclusive-rows-requires c κs =
+    let p = c .before .before .before .before .before .before .before .before .before .before .before .pre in
+    (p .0, p .1, p .2, p .3, p .4, p .5, p .6, listed-room _ _ _ _ _ _ _ (p .0) _ _ (p .3) _ _ (c .before .before .before .before .before .wide16 .ensures .0) (p .1) _ (c .before .before .before .before .before .before .before .is-constant .ensures) (c .before .before .before .before .before .before .if1 .left) (c .before .before .before .if2 .left))
+
+returns-3 : tie.Need-returns-3
+returns-3 c =
+    let p = c .before .before .before .before .before .before .before .before .before .before .before .before .before .before .before .before .pre in
+    listed-after _ _ _ _ _ _ _ (p .0) _ _ (p .3) _ _ (c .before .before .before .before .before .before .before .before .before .before .wide16 .ensures .0) (p .1) _ (c .before .before .before .before .before .before .before .before .before .before .before .before .is-constant .ensures) (c .before .before .before .before .before .before .before .before .before .before .before .if1 .left) (c .before .before .before .before .before .before .before .before .if2 .left) _ _ _ _ (c .before .before .before .before .request-exclusive-rows .ensures)
+
+pub request-rows-spec : {M : Type 1} → statement M
+request-rows-spec =
+    tie.close
+    (tie.spec
+    is-constant-requires
+    returns
+    (λ c κs. search needs)
+    (λ c. search needs)
+    element-copy-out-if2
+    request-node-row-requires
+    (λ c. search needs)
+    (λ c. search needs)
+    returns-2
+    request-exclusive-rows-requires
+    (λ c. search needs)
+    (λ c. search needs)
+    returns-3)

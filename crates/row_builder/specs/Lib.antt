@@ -1,0 +1,2 @@
+pub mod RowBuilder
+pub mod EdgeList

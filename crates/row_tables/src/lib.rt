@@ -1,0 +1,1 @@
+// The tables that rows are made from. Definitions only.

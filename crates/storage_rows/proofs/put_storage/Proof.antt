@@ -1,0 +1,66 @@
+-- `storage_rows::put_storage` meets its contract. Assumes nothing.
+use native.Mathlib.Omega.{arith}
+use lib.ListN.{length-set}
+use Rattle.virtual_storage.specs.PeriodOf.{periodOf}
+use Rattle.storage_rows.proofs.StorageLaws.{entry-written}
+use borrow.Author.Needs.{needs}
+use Rattle.storage_rows.proofs.put_storage.Statement.{statement}
+use Rattle.storage_rows.proofs.put_storage.Tie as tie
+
+slice-write-words-2 : tie.Need-slice-write-words-2
+slice-write-words-2 c =
+    simp length-set (omega arith)
+
+slice-write-words-3 : tie.Need-slice-write-words-3
+slice-write-words-3 c =
+    simp length-set (omega arith)
+
+slice-write-words-4 : tie.Need-slice-write-words-4
+slice-write-words-4 c =
+    simp length-set (omega arith)
+
+slice-write-words-5 : tie.Need-slice-write-words-5
+slice-write-words-5 c =
+    simp length-set (omega arith)
+
+slice-write-words-6 : tie.Need-slice-write-words-6
+slice-write-words-6 c =
+    simp length-set (omega arith)
+
+same-length : tie.Need-same-length
+same-length c =
+    simp length-set
+
+returns : tie.Need-returns
+returns c =
+    let a = c .before .before .before .before .before .before .args in
+    entry-written (a .words .now) (a .at) _ _ _ _ _ _ (periodOf (a .period)) (c .before .before .before .before .period-word .ensures) (c .before .before .before .date-word .ensures) (c .before .before .date-word2 .ensures) (c .before .date-word3 .ensures) (c .date-word4 .ensures)
+
+pub put-storage-spec : {M : Type 1} → statement M
+put-storage-spec =
+    tie.close
+    (tie.spec
+    (λ c. search needs)
+    (λ c. search needs)
+    (λ c κs. search needs)
+    (λ c. search needs)
+    (λ c. search needs)
+    slice-write-words-2
+    (λ c κs. search needs)
+    (λ c. search needs)
+    (λ c. search needs)
+    slice-write-words-3
+    (λ c κs. search needs)
+    (λ c. search needs)
+    (λ c. search needs)
+    slice-write-words-4
+    (λ c κs. search needs)
+    (λ c. search needs)
+    (λ c. search needs)
+    slice-write-words-5
+    (λ c κs. search needs)
+    (λ c. search needs)
+    (λ c. search needs)
+    slice-write-words-6
+    same-length
+    returns)
