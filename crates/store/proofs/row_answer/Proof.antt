@@ -1,0 +1,107 @@
+-- `row_answer` meets its contract. Assumes nothing.
+use mathlib.Core.Path.{_≡_, refl, sym, _∙_}
+use mathlib.Core.Bool.{true}
+use Prim.Native.Nat.{_+_, _<_}
+use native.Mathlib.Omega.{arith}
+use lib.ListN.{length}
+use borrow.Author.Tests.{not-true, not-false}
+use Rattle.pywr.specs.Store.{Store, storeHasRoom}
+use Rattle.pywr.specs.Misshapen.{wellShaped}
+use Rattle.store.proofs.Passed.{lengths, roomy, shaped}
+use Rattle.store.proofs.Answers.{short, misshapen, no-row, row-part}
+use borrow.Author.Needs.{needs}
+use Rattle.store.proofs.row_answer.Statement.{statement}
+use Rattle.store.proofs.row_answer.Tie as tie
+
+abbrev store : tie.Start → Store
+store c =
+    record {
+      colLower = c .args .col-lower .now;
+      colUpper = c .args .col-upper .now;
+      colObjCoef = c .args .col-obj-coef .now;
+      rowLower = c .args .row-lower .now;
+      rowUpper = c .args .row-upper .now;
+      elements = c .args .elements .now;
+      columns = c .args .columns .now;
+      rowStarts = c .args .row-starts .now;
+      shape = c .args .shape .now;
+    }
+
+abbrev at-room : tie.Else1 → Store
+at-room c = store (c .before .before .before .before .before .before .before .before .before .before .before)
+
+-- the store has room, and it is well shaped
+room : (c : tie.Else1) → storeHasRoom (at-room c) ≡ true
+room c = sym (c .before .has-room .ensures (at-room c) (lengths (at-room c))) ∙ not-false (c .before .has-room .result) (c .if1 .left)
+
+shape-fits : (c : tie.Else2) → wellShaped (at-room (c .before .before)) ≡ true
+shape-fits c = sym (c .before .well-shaped .ensures (at-room (c .before .before)) refl refl refl) ∙ not-false (c .before .well-shaped .result) (c .if2 .left)
+
+-- the row's two starts are there
+starts-there : (c : tie.Else3) → (c .before .before .before .before .before .before .before .before .before .before .before .before .before .before .before .args .row + 1 < length (at-room (c .before .before .before .before) .rowStarts))
+starts-there c =
+    let s = at-room (c .before .before .before .before) in
+    omega (arith, c .before .row-count .ensures, c .if3 .left, shaped s (shape-fits (c .before .before)) .counts .rows, roomy s (room (c .before .before .before .before)) .rowStarts)
+
+returns : tie.Need-returns
+returns c =
+    short (sym (c .before .has-room .ensures (store (c .before .before .before .before .before .before .before .before .before .before .before)) (lengths _)) ∙ not-true (c .before .has-room .result) (c .if1 .taken))
+
+well-shaped-requires : tie.Need-well-shaped-requires
+well-shaped-requires c κs =
+    let h = roomy (at-room c) (room c) in (h .columns, h .rowStarts, h .shape)
+
+returns-2 : tie.Need-returns-2
+returns-2 c =
+    misshapen (room (c .before .before)) (sym (c .before .well-shaped .ensures (store (c .before .before .before .before .before .before .before .before .before .before .before .before .before)) refl refl refl) ∙ not-true (c .before .well-shaped .result) (c .if2 .taken))
+
+row-count-requires : tie.Need-row-count-requires
+row-count-requires c κs =
+    roomy _ (room (c .before .before)) .shape
+
+returns-3 : tie.Need-returns-3
+returns-3 c =
+    no-row (room (c .before .before .before .before)) (shape-fits (c .before .before)) (omega (arith, c .before .row-count .ensures, c .if3 .taken))
+
+mul-wide-start : tie.Need-mul-wide-start
+mul-wide-start c =
+    let h = starts-there (c) in search needs
+
+shared-slice-read-wide-start : tie.Need-shared-slice-read-wide-start
+shared-slice-read-wide-start c =
+    let h = starts-there (c .before) in search needs
+
+add-wide-start : tie.Need-add-wide-start
+add-wide-start c =
+    let h = starts-there (c .before .before) in search needs
+
+mul-wide-start-2 : tie.Need-mul-wide-start-2
+mul-wide-start-2 c =
+    let h = starts-there (c .before .before) in search needs
+
+shared-slice-read-wide-start-2 : tie.Need-shared-slice-read-wide-start-2
+shared-slice-read-wide-start-2 c =
+    let h = starts-there (c .before .before .before) in search needs
+
+returns-4 : tie.Need-returns-4
+returns-4 c =
+    rw (c .before .before .wide-start .ensures .0, c .wide-start2 .ensures .0) (row-part (room (c .before .before .before .before .before .before .before .before)) (shape-fits (c .before .before .before .before .before .before)) (omega (arith, c .before .before .before .before .before .row-count .ensures, c .before .before .before .before .if3 .left)))
+
+pub row-answer-spec : {M : Type 1} → statement M
+row-answer-spec =
+    tie.close
+    (tie.spec
+    (λ c κs. search needs)
+    returns
+    well-shaped-requires
+    returns-2
+    row-count-requires
+    returns-3
+    mul-wide-start
+    shared-slice-read-wide-start
+    (λ c κs. search needs)
+    add-wide-start
+    mul-wide-start-2
+    shared-slice-read-wide-start-2
+    (λ c κs. search needs)
+    returns-4)

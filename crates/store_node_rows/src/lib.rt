@@ -1,0 +1,84 @@
+// The node rows of a store: the part of refusal 17 on the node-row table, with "an integer column absent from its row".
+use store_rows::wide_start;
+use store_shape::EDGE_COLUMN_COUNT;
+use store_shape::NODE_COUNT;
+use store_shape::NODE_ROW_COUNT;
+use store_shape::NODE_ROWS_AT;
+use store_shape::SET_COUNT;
+use store_shape::VARYING_COUNT;
+use store_shape::wide;
+ghost use mathlib.Core.Path.{_≡_};
+ghost use Prim.Native.Nat.{_+_, _≤_};
+ghost use lib.ListN.{length, getD};
+ghost use lib.Seq.{slice};
+ghost use Rattle.pywr.specs.Network.{listed};
+ghost use Rattle.pywr.specs.Store.{Store, nodeRowCount, nodeRowsAt};
+ghost use Rattle.pywr.specs.Misshapen.{nodeRowFits, allEntries};
+ghost use Rattle.store_rows.specs.Starts.{RowsWithin};
+
+// Whether the row from `start` up to `end` has the column, looked for from the end, where a row's integer columns stand.
+fn row_holds(columns: &[u16], start: usize, end: usize, column: u16) -> bool
+    requires { ⌜ end ≤ length (now columns) ⌝ }
+    ensures { λ r. ⌜ r ≡ listed column (slice start end (now (columns .entry))) ⌝ }
+{
+    let mut k = end;
+    while start < k {
+        if column == columns[k - 1] {
+            return true;
+        }
+        k -= 1;
+    }
+    false
+}
+
+// A node row: a node, a varying row, a row type, and, unless continuous, a set whose integer column is in the row.
+fn node_row_fits(columns: &[u16], row_starts: &[u32], shape: &[u16], at: usize) -> bool
+    requires { ⌜ RowsWithin (now columns) (now «row_starts») (now shape) × (at + 4 ≤ 19723) ⌝ }
+    ensures { λ r. ⌜ ((s : Store) → s .columns ≡ now (columns .entry) → s .rowStarts ≡ now («row_starts» .entry) → s .shape ≡ now (shape .entry)
+        → r ≡ nodeRowFits s at) ⌝ }
+{
+    let row = shape[at + 1];
+    let row_type = shape[at + 2];
+    let set = shape[at + 3];
+    if shape[NODE_COUNT] <= shape[at] {
+        return false;
+    }
+    if shape[VARYING_COUNT] <= row {
+        return false;
+    }
+    if 2 < row_type {
+        return false;
+    }
+    if row_type == 0 {
+        return true;
+    }
+    if shape[SET_COUNT] <= set {
+        return false;
+    }
+    let r = wide(row);
+    row_holds(
+        columns,
+        wide_start(row_starts[r]),
+        wide_start(row_starts[r + 1]),
+        shape[EDGE_COLUMN_COUNT] + set,
+    )
+}
+
+pub fn node_rows_fit(columns: &[u16], row_starts: &[u32], shape: &[u16]) -> bool
+    requires { ⌜ RowsWithin (now columns) (now «row_starts») (now shape) × (getD (now shape) 8 0 ≤ 4352) ⌝ }
+    ensures { λ r. ⌜ ((s : Store) → s .columns ≡ now (columns .entry) → s .rowStarts ≡ now («row_starts» .entry) → s .shape ≡ now (shape .entry)
+        → r ≡ allEntries (nodeRowFits s) 4 nodeRowsAt (nodeRowCount s)) ⌝ }
+{
+    let node_rows = wide(shape[NODE_ROW_COUNT]);
+    let mut at: usize = NODE_ROWS_AT;
+    let mut i: usize = 0;
+    while i < node_rows {
+        if node_row_fits(columns, row_starts, shape, at) {
+            at += 4;
+            i += 1;
+        } else {
+            return false;
+        }
+    }
+    true
+}
