@@ -1,0 +1,28 @@
+-- `assembly::assemble` meets its contract. Assumes nothing.
+use Rattle.assembly.proofs.Ceilings.{not-read}
+use Rattle.assembly.proofs.Columns.{read-as, placed-as, refused-as}
+use Rattle.assembly.proofs.Finish.{refused-so}
+use borrow.Author.Needs.{needs}
+use Rattle.assembly.proofs.assemble.Statement.{statement}
+use Rattle.assembly.proofs.assemble.Tie as tie
+
+assemble-columns-requires : tie.Need-assemble-columns-requires
+assemble-columns-requires c κs =
+    (read-as _ _ _ (c .before .before .before .r2 .given .1) (c .before .before .before .before .before .load .ensures .0), placed-as _ _ _ (c .before .before .before .r2 .given .1) (c .before .before .before .before .before .load .ensures .1), c .before .before .before .before .before .before .before .before .before .pre .0, c .before .before .before .before .before .before .before .before .before .pre .1)
+
+returns : tie.Need-returns
+returns c =
+    refused-so (c .before .before .before .before .before .before .before .args .sentinel) _ _ _ _ _ (not-read _ _ _ _ (refused-as _ _ _ _ (c .before .r .given .1) (c .before .before .before .load .ensures .0)))
+
+pub assemble-spec : {M : Type 1} → statement M
+assemble-spec =
+    tie.close
+    (tie.spec
+    (λ c κs. search needs)
+    (λ c. search needs)
+    (λ c. search needs)
+    assemble-columns-requires
+    returns
+    (λ c. search needs)
+    (λ c. search needs)
+    (λ c. search needs))
