@@ -1,6 +1,6 @@
 #!/usr/bin/env python3
 # Writes the example network files beside this script (flows in Ml/d).
-#   make.py           writes intake.network and worked.network
+#   make.py           writes worked.network, supply.network and intake.network
 #   make.py --dump    prints their records in hexadecimal, each with what it is
 #   make.py --check   reads the written files by document 01's rules and says what they hold
 import itertools
@@ -39,6 +39,15 @@ WORKED = [
     ("node 0, an input whose bounds vary", node(INPUT)),
     ("node 1, an output, 0 to 48.5", node(OUTPUT, (0.0, 48.5))),
     ("edge 0, input to output", edge(0, 1)),
+]
+SUPPLY = [
+    ("node 0, river intake, varying: its licence", node(INPUT)),
+    ("node 1, main, varying", node(LINK)),
+    ("node 2, reservoir", node(STORAGE)),
+    ("node 3, town demand, 0 to 30", node(OUTPUT, (0.0, 30.0))),
+    ("edge 0, intake to main", edge(0, 1)),
+    ("edge 1, main to reservoir", edge(1, 2)),
+    ("edge 2, reservoir to town", edge(2, 3)),
 ]
 INTAKE = [
     ("node 0, river intake, licensed at 48.5", node(INPUT, (0.0, 48.5))),
@@ -153,14 +162,15 @@ def check(name, records, data):
 
 
 here = pathlib.Path(__file__).resolve().parent
-for name, records in (("worked.network", WORKED), ("intake.network", INTAKE)):
-    if "--dump" in sys.argv:
-        print("# " + name)
-        at = 0
-        for what, record in records:
-            print("# %d: %s\n%s" % (at, what, record.hex(" ")))
-            at += len(record)
-    elif "--check" in sys.argv:
-        check(name, records, (here / name).read_bytes())
-    else:
-        (here / name).write_bytes(b"".join(record for _, record in records))
+if __name__ == "__main__":
+    for name, records in (("worked.network", WORKED), ("supply.network", SUPPLY), ("intake.network", INTAKE)):
+        if "--dump" in sys.argv:
+            print("# " + name)
+            at = 0
+            for what, record in records:
+                print("# %d: %s\n%s" % (at, what, record.hex(" ")))
+                at += len(record)
+        elif "--check" in sys.argv:
+            check(name, records, (here / name).read_bytes())
+        else:
+            (here / name).write_bytes(b"".join(record for _, record in records))

@@ -9,15 +9,16 @@ ghost use Rattle.pywr.specs.VaryingRows.{freshRow};
 ghost use Rattle.fields.specs.declared.Checked.the-variants.{Next};
 ghost use Rattle.aggregated_node.specs.AggregatedNode.{setAt, setEnd, aggregateAt, aggregateEnd, checkAggregate};
 ghost use Rattle.row_builder.specs.RowBuilder.{gathered, Rising};
-ghost use Rattle.lp_builder.specs.LpBuilder.{Held, Holding, AfterVariableRow};
+ghost use Rattle.lp_builder.specs.LpBuilder.{Held, Holding};
+ghost use Rattle.variable_rows.specs.VariableRow.{AfterVariableRow};
 ghost use Rattle.row_tables.specs.Tables.{networkOf, EdgeTables};
 ghost use Rattle.joined_rows.specs.JoinedRows.{Gathered, HoldingVarying, AfterVariableRows};
 ghost use Rattle.aggregate_rows.specs.AggregateRows.{aggregateRows, aggregateTable};
 use lp_builder::Filled;
 use lp_builder::RowsAdded;
-use lp_builder::VariableRow;
 use network_record::Counts;
 use pywr::Sentinel;
+use variable_rows::VariableRow;
 
 // Adds the nodes of the set at `at` to the row.
 fn add_nodes(
@@ -140,7 +141,7 @@ fn add_aggregate_row(
         columns,
         &mut numbers[from..],
     );
-    lp_builder::add_variable_row(words, numbers, columns, n, f, sentinel)
+    variable_rows::add_variable_row(words, numbers, columns, n, f, sentinel)
 }
 
 // Each aggregate asks for its row; the row's number is written to the aggregates' table, from word 24,588 on.

@@ -1,27 +1,18 @@
--- The tables of an accepted file's edges, and how many columns they have. Assumes nothing.
+-- What reading the file told, and the columns by their count. Assumes nothing.
 use mathlib.Core.Path.{_≡_, refl, sym, _∙_, ap, subst}
 use Prim.Native.Nat.{ℕ, _≤_}
 use mathlib.Core.List.{List}
-use native.Mathlib.Omega.{arith}
 use lib.ListN.{length}
 use Rattle.pywr.specs.Result.{value, refused}
 use Rattle.pywr.specs.Network.{Network}
 use Rattle.pywr.specs.NetworkFile.{parseNetwork}
 use Rattle.pywr.specs.ColEdgeMap.{Columns, columns}
-use Rattle.network_laws.proofs.Index.{edge-count}
 use Rattle.network_record.specs.declared.Counts.{Counts}
 use Rattle.network_record.specs.Counts.{SectionsOf}
 use Rattle.network.specs.declared.Loaded.{Loaded}
 use Rattle.network.specs.Loaded.{resultOf, Placed}
 use Rattle.col_edge_map.specs.Mapped.{Mapped}
-use Rattle.col_edge_map.proofs.EdgeColumns.{columns-few}
-use Rattle.row_tables.specs.Tables.{networkOf, EdgeTables}
-
--- at most 512 columns
-pub columns-most : (file : List ℕ) (c : Counts) (firstIn nextIn firstOut nextOut table : List ℕ) → EdgeTables file c firstIn nextIn firstOut nextOut table
-    → (count : ℕ) → count ≡ columns (networkOf file c) .count → count ≤ 512
-columns-most file c firstIn nextIn firstOut nextOut table t count e =
-    omega (arith, e, columns-few (networkOf file c) table (columns (networkOf file c) .count) (t .mapped), edge-count file (c .nodes) (c .edges) (c .aggregates) (c .«virtual_storages»), t .sections .few-edges)
+use Rattle.row_tables.specs.Tables.{networkOf}
 
 -- the columns by their own count
 pub mapped-so : (c : Columns) (table : List ℕ) (count : ℕ) → Mapped c table count → Mapped c table (c .count)

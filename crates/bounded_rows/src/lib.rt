@@ -3,7 +3,7 @@ ghost use mathlib.Core.Path.{_≡_};
 ghost use Prim.Native.Nat.{_*_, _<_, _≤_};
 ghost use mathlib.Core.List.{List, [], _∷_, _++_};
 ghost use lib.ListN.{length};
-ghost use Rattle.pywr.specs.Numbers.{zero64, high, lesser, greater};
+ghost use Rattle.pywr.specs.Numbers.{zero64, high};
 ghost use Rattle.pywr.specs.Rows.{columnMap, addElement, addNode};
 ghost use Rattle.pywr.specs.FixedRows.{exclusiveRows};
 ghost use Rattle.pywr.specs.Programme.{Row};
@@ -11,6 +11,8 @@ ghost use Rattle.node.specs.Node.{nodeAt};
 ghost use Rattle.lp_builder.specs.LpBuilder.{Held, Holding, AfterRows};
 ghost use Rattle.row_tables.specs.Tables.{networkOf, EdgeTables};
 ghost use Rattle.gathered_rows.specs.EdgeColumns.{edgeColumns};
+use extremes::greater;
+use extremes::lesser;
 use lp_builder::Filled;
 use lp_builder::RowsAdded;
 use network_record::Counts;
@@ -18,25 +20,6 @@ use pywr::ColumnIndex;
 use pywr::Interval;
 use pywr::NodeIndex;
 use pywr::Sentinel;
-
-// The smaller and the larger of two, the first where they are equal.
-fn lesser(held: f64, x: f64) -> f64
-    ensures { λ r. ⌜ r ≡ lesser held x ⌝ }
-{
-    if x < held {
-        return x;
-    }
-    held
-}
-
-fn greater(held: f64, x: f64) -> f64
-    ensures { λ r. ⌜ r ≡ greater held x ⌝ }
-{
-    if held < x {
-        return x;
-    }
-    held
-}
 
 // A node's row with a coefficient on a set's column becomes the last row: its bounds are 0 and the high sentinel.
 fn add_bounded_row(

@@ -7,6 +7,7 @@ use lib.ListN.{length, replicate}
 use lib.Dec.{leb, leb→le}
 use lib.Ieee.{Float}
 use lib.Ieee.Fits.{and-l, and-r}
+use Rattle.laws.proofs.Tests.{of-true}
 use Rattle.pywr.specs.declared.Sentinel.{Sentinel}
 use Rattle.pywr.specs.declared.Answer.{Answer}
 use Rattle.pywr.specs.Result.{value, refused, _>>=_, need}
@@ -17,14 +18,12 @@ use Rattle.pywr.specs.Build.{build}
 use Rattle.pywr.specs.Store.{Store, storeHasRoom}
 use Rattle.pywr.specs.Written.{builtStore}
 use Rattle.pywr.specs.Calls.{cleared, buildRoom, buildAnswer, storeOfBuild, buildStore, buildWords, buildNumbers, AfterBuild}
-use Rattle.pywr.proofs.ListLaws.{of-true}
 use Rattle.pywr.proofs.Represents.{Roomy}
 use Rattle.pywr.proofs.DemandThree.{roomy-parts}
-use Rattle.store.specs.Reading.{Lengths}
 use Rattle.lp.specs.declared.Sizes.{Sizes}
 use Rattle.lp.specs.Lp.{ColumnsWritten, RowsWritten, MatrixWritten, shapeWritten}
-use Rattle.assembly.specs.declared.Assembled.{Assembled}
-use Rattle.assembly.specs.Assembled.{AfterAssemble, Made}
+use Rattle.programme.specs.declared.Assembled.{Assembled}
+use Rattle.programme.specs.Assembled.{AfterAssemble, Made}
 use Rattle.builder.proofs.Written.{store-is}
 
 -- the lengths that a build needs
@@ -46,10 +45,6 @@ room s words numbers e =
       words-room = leb→le 24844 (length words) (and-r a b h1);
       numbers-room = leb→le 6784 (length numbers) (and-r (a && b) c h2);
     }
-
--- the runs of a store have their lengths
-pub own-lengths : (s : Store) → Lengths s (length (s .colLower)) (length (s .colUpper)) (length (s .colObjCoef)) (length (s .rowLower)) (length (s .rowUpper)) (length (s .elements)) (length (s .columns)) (length (s .rowStarts)) (length (s .shape))
-own-lengths s = record { colLower = refl; colUpper = refl; colObjCoef = refl; rowLower = refl; rowUpper = refl; elements = refl; columns = refl; rowStarts = refl; shape = refl }
 
 module _ (s : Sentinel) (file : List ℕ) (old : Store) (words : List ℕ) (numbers : List Float) where
   -- 16: nothing is changed

@@ -1,56 +1,8 @@
 // The build: a network file's programme written into a lent store (SolverBuilder::create of builder.rs).
-use assembly::Assembled;
+use programme::Assembled;
 use pywr::Answer;
 use pywr::Sentinel;
-ghost use mathlib.Core.Path.{_≡_};
-ghost use Prim.Native.Nat.{ℕ, _≤_};
-ghost use mathlib.Core.List.{List};
-ghost use lib.ListN.{length, replicate};
-ghost use lib.Ieee.{Float};
-ghost use Rattle.pywr.specs.Numbers.{zero64};
-ghost use Rattle.pywr.specs.Store.{Store};
-ghost use Rattle.pywr.specs.Calls.{buildRoom, AfterBuild};
-ghost use Rattle.store.specs.Reading.{Lengths};
-
-// Whether runs of these lengths have the room that the ceilings need.
-fn build_has_room(
-    col_lower: usize,
-    col_upper: usize,
-    col_obj_coef: usize,
-    row_lower: usize,
-    row_upper: usize,
-    elements: usize,
-    columns: usize,
-    row_starts: usize,
-    shape: usize,
-    words: usize,
-    numbers: usize,
-) -> bool
-    ensures { λ r. ⌜ ((s : Store) (w : List ℕ) (x : List Float) → Lengths s «col_lower» «col_upper» «col_obj_coef» «row_lower» «row_upper» elements columns «row_starts» shape
-        → length w ≡ words → length x ≡ numbers → r ≡ buildRoom s w x) ⌝ }
-{
-    store::has_room(
-        col_lower,
-        col_upper,
-        col_obj_coef,
-        row_lower,
-        row_upper,
-        elements,
-        columns,
-        row_starts,
-        shape,
-    )
-        & (24844 <= words)
-        & (6784 <= numbers)
-}
-
-// Zeroes the work area.
-fn clear(words: &mut [u16], numbers: &mut [f64])
-    ensures { λ _. ⌜ (now (words .exit) ≡ replicate (length (now (words .entry))) 0) × (now (numbers .exit) ≡ replicate (length (now (numbers .entry))) zero64) ⌝ }
-{
-    runs::zero_u16(words);
-    runs::zero_f64(numbers);
-}
+ghost use Rattle.pywr.specs.Calls.{AfterBuild};
 
 // Writes the programme of a network file into the store, or refuses with 1 to 11 or 16.
 pub fn build(
@@ -90,7 +42,7 @@ pub fn build(
       shape = now (shape .exit);
     }) (now (words .exit)) (now (numbers .exit)) ⌝ }
 {
-    if !build_has_room(
+    if !work_area::build_has_room(
         col_lower.len(),
         col_upper.len(),
         col_obj_coef.len(),
@@ -108,7 +60,7 @@ pub fn build(
     let a = assembly::assemble(file, sentinel, words, numbers);
     match a {
         Assembled::Refused(n, p) => {
-            clear(words, numbers);
+            work_area::clear(words, numbers);
             Answer::Refused(n, p)
         }
         Assembled::Done(z) => {
@@ -116,7 +68,7 @@ pub fn build(
             lp::write_rows(z, numbers, row_lower, row_upper);
             lp::write_matrix(z, words, numbers, elements, columns, row_starts);
             lp::write_shape(z, words, shape);
-            clear(words, numbers);
+            work_area::clear(words, numbers);
             Answer::Accepted
         }
     }

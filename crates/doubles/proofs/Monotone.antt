@@ -5,7 +5,7 @@ use Prim.Native.Nat.{ℕ, _+_, _^_, _≤_, _<_}
 use native.Mathlib.Nat.{mul-le-mul-right, zero-mul}
 use mathlib.Core.Bool.{Bool, true, false, not}
 use lib.IntN.{ℤ, pos, natAbs}
-use lib.Dec.{T}
+use lib.Dec.{T, lt→ltb}
 use lib.Signed.{leZ}
 use lib.Pow.{pow-pos}
 use lib.Ieee.{Float, nan, inf, fin, Format, low, add, sub, div, neg, lt, le, eq, fits}
@@ -18,9 +18,9 @@ use Rattle.doubles.specs.Rounding.{snap, addSign, addMag}
 use Rattle.doubles.specs.Bounds.{raised}
 use Rattle.doubles.proofs.Integers.{ints, leZ-add, neg-plus, neg-less}
 use Rattle.doubles.proofs.Units.{neg-finite, finite-number}
-use Rattle.doubles.proofs.Order.{neg-num, cond-num, le→Z, Z→le, le-refl-num, le-trans-num, not-lt-le, le-not-lt, le-neg}
+use Rattle.doubles.proofs.Order.{neg-num, cond-num, le→Z, Z→le, le-refl-num, le-trans-num, not-lt-le, le-not-lt, le-neg, not-over-finite}
 use Rattle.doubles.proofs.Rounding.{round-num, round-rank, snap-mono, snap-zero, add-is, add-signed}
-use Rattle.doubles.proofs.Products.{div-positive, positive-mag, inf-over}
+use Rattle.doubles.proofs.Products.{div-positive, mag-zero, positive-mag, inf-over}
 
 -- ---- rounding keeps the order of numbers with a sign
 
@@ -69,6 +69,22 @@ sub-num f x y p q n k = add-num f x (neg y) p (neg-fits f y q) n (rw (neg-finite
 
 -- ---- quotients by a finite value above 0.0
 
+-- what is not under a value above 0.0, nor over a finite one, is above 0.0
+pub positive-between : (f : Format) (x y z : Float) → Num f x → Num f y → T (positive x) → T (finite z) → T (le x y) → T (le y z) → T (positive y)
+unfolding le lt eq
+positive-between f nan y z p q t n h k = absurd t
+positive-between f (inf s) y z p q t n h k = absurd t
+positive-between f (fin true m e) y z p q t n h k = absurd t
+positive-between f (fin false m e) nan z p q t n h k = absurd (q .1)
+positive-between f (fin false m e) (inf true) z p q t n h k = absurd h
+positive-between f (fin false m e) (inf false) z p q t n h k = absurd (not-over-finite z n k)
+positive-between f (fin false m e) (fin true b d) z p q t n h k =
+    let l = le→Z f (fin false m e) (fin true b d) p q h in
+    absurd (omega (ints, positive-mag f (fin false m e) t, neg-plus (pos (mag f (fin true b d))), neg-less (pos (mag f (fin true b d)))))
+positive-between f (fin false m e) (fin false b d) z p q t n h k =
+    let l = le→Z f (fin false m e) (fin false b d) p q h in
+    lt→ltb 0 b (mag-zero f false b d (omega (tests, positive-mag f (fin false m e) t)))
+
 pub div-num : (f : Format) (x y : Float) → Num f x → T (fits f y) → T (positive y) → Num f (div f x y)
 div-num f nan y p q t = absurd (p .1)
 div-num f (inf s) y p q t = subst (Num f) (sym (inf-over f s y t)) p
@@ -114,7 +130,7 @@ div-below f (fin s m e) y p q t h =
 
 -- ---- raised to 0.0, over a finite value above 0.0
 
-raised-num : (f : Format) (d : Float) → Num f d → Num f (raised d)
+pub raised-num : (f : Format) (d : Float) → Num f d → Num f (raised d)
 raised-num f d p = cond-num f (lt d zero+) zero+ d (zero-num f) p
 
 raised-above : (f : Format) (d : Float) → Num f d → T (le zero+ (raised d))

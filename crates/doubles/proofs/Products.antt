@@ -37,7 +37,7 @@ mul-is f (fin s m e) (fin t n d) p q _ _ =
     round-same f (unlike s t) (m * up e * (n * up d)) (down e * down d) (mag f (fin s m e) * mag f (fin t n d)) (2 ^ low f * 2 ^ low f) (mul-pos (down-pos e) (down-pos d)) (mul-pos (pow-pos (low f)) (pow-pos (low f)))
     (product-units (m * up e) (n * up d) (mag f (fin s m e)) (mag f (fin t n d)) (2 ^ low f) (down e) (down d) (mag-is f s m e p) (mag-is f t n d q))
 
-mag-zero : (f : Format) (s : Bool) (m : ℕ) (e : ℤ) → 0 < mag f (fin s m e) → 0 < m
+pub mag-zero : (f : Format) (s : Bool) (m : ℕ) (e : ℤ) → 0 < mag f (fin s m e) → 0 < m
 unfolding mag
 mag-zero f s zero e h = absurd (lt-irrefl 0 (subst (λ (z : ℕ). 0 < z) (zero-mul (2 ^ shift f e)) h))
 mag-zero f s (suc m) e h = zero-lt-suc m

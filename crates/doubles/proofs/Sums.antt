@@ -205,15 +205,19 @@ ofInt-rank f (negsuc n) h = let r = ofNat f true (suc n) h in ap₂ (λ (u : Boo
 
 -- ---- a value added to 0.0 keeps its rank, whatever its grain
 
-pub add-zero-rank : (f : Format) (x : Float) → T (fits f x) → T (finite x) → rank f (add f zero+ x) ≡ rank f x
-add-zero-rank f x p n =
-    add-rank f zero+ x (zero-grain f 0 .fit) p tt n (subst (Held f) (sym (zero-plus (sign x) (mag f x) (mag f zero+) (zero-mag f))) (mag-held f x p n))
-    ∙ ap (λ (z : ℕ). pos z +ℤ rank f x) (zero-mag f)
-    ∙ +ℤ-idl (rank f x)
-  where
-    zero-plus : (s : Bool) (b a : ℕ) → a ≡ 0 → addMag false a s b ≡ b
-    zero-plus false b a e = ap (λ (z : ℕ). z + b) e ∙ zero-add b
-    zero-plus true b a e = cond-both (λ (w : ℕ). w ≡ b) (ltb a b) (b - a) (a - b) (λ t. omega tests) (λ t. omega tests)
+module _ (f : Format) (x : Float) (p : T (fits f x)) (n : T (finite x)) where
+  zero-held : Held f (addMag false (mag f zero+) (sign x) (mag f x))
+  zero-held = subst (Held f) (sym (zero-plus (sign x) (mag f x) (mag f zero+) (zero-mag f))) (mag-held f x p n)
+    where
+      zero-plus : (s : Bool) (b a : ℕ) → a ≡ 0 → addMag false a s b ≡ b
+      zero-plus false b a e = ap (λ (z : ℕ). z + b) e ∙ zero-add b
+      zero-plus true b a e = cond-both (λ (w : ℕ). w ≡ b) (ltb a b) (b - a) (a - b) (λ t. omega tests) (λ t. omega tests)
+
+  pub add-zero-rank : rank f (add f zero+ x) ≡ rank f x
+  add-zero-rank = add-rank f zero+ x (zero-grain f 0 .fit) p tt n zero-held ∙ ap (λ (z : ℕ). pos z +ℤ rank f x) (zero-mag f) ∙ +ℤ-idl (rank f x)
+
+  pub add-zero-finite : T (finite (add f zero+ x))
+  add-zero-finite = add-exact f zero+ x (zero-grain f 0 .fit) p tt n zero-held .isFinite
 
 -- ---- the order of a run does not change its exact sum
 

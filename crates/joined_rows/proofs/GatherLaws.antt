@@ -14,8 +14,9 @@ use Rattle.fields.specs.Records.{recordsAt}
 use Rattle.fields.proofs.RecordLaws.{records-left, records-over}
 use Rattle.row_builder.specs.RowBuilder.{gathered, Rising}
 use Rattle.lp_builder.specs.declared.Filled.{Filled}
-use Rattle.lp_builder.specs.declared.VariableRow.{VariableRow}
-use Rattle.lp_builder.specs.LpBuilder.{Held, Holding, AfterVariableRow}
+use Rattle.variable_rows.specs.declared.VariableRow.{VariableRow}
+use Rattle.lp_builder.specs.LpBuilder.{Held, Holding}
+use Rattle.variable_rows.specs.VariableRow.{AfterVariableRow}
 use Rattle.lp_builder.proofs.HeldLaws.{held-few, held-lent, lent-written}
 use Rattle.joined_rows.specs.JoinedRows.{Gathered}
 

@@ -21,9 +21,10 @@ use Rattle.pywr.specs.Programme.{Row}
 use Rattle.pywr.proofs.JoinLaws.{position-most}
 use Rattle.lp_builder.specs.declared.Filled.{Filled}
 use Rattle.lp_builder.specs.declared.RowsAdded.the-variants.{Done, Full}
-use Rattle.lp_builder.specs.declared.VariableRow.{VariableRow}
-use Rattle.lp_builder.specs.declared.VariableRow.the-variants.{At}
-use Rattle.lp_builder.specs.LpBuilder.{Held, withinCeilings, AfterVariableRow}
+use Rattle.variable_rows.specs.declared.VariableRow.{VariableRow}
+use Rattle.variable_rows.specs.declared.VariableRow.the-variants.{At}
+use Rattle.lp_builder.specs.LpBuilder.{Held, withinCeilings}
+use Rattle.variable_rows.specs.VariableRow.{AfterVariableRow}
 use Rattle.lp_builder.proofs.RowLaws.{part-more}
 use Rattle.lp_builder.proofs.HeldLaws.{held-agrees, over-more}
 use Rattle.joined_rows.specs.JoinedRows.{joined, AfterVariableRows}

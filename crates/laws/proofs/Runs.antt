@@ -1,5 +1,5 @@
 -- Laws of a run that a loop fills from the front, at any element type. Assumes nothing.
-use Prim.Native.Nat.{ℕ, suc, _+_, _<_, _≤_}
+use Prim.Native.Nat.{ℕ, zero, suc, _+_, _<_, _≤_}
 use mathlib.Core.Path.{_≡_, refl, sym, _∙_, ap}
 use mathlib.Core.List.{List, [], _∷_, _++_, map, flatMap, append-assoc, append-nil}
 use native.Mathlib.Numerals.{add-one}
@@ -32,6 +32,12 @@ module _ {A : Type 0} where
   -- the head of what is left, with the next place written as the code writes it
   pub drop-next : (l : List A) (i : ℕ) (z : A) → i < length l → drop i l ≡ getD l i z ∷ drop (i + 1) l
   drop-next l i z h = rw (add-one i) (drop-cons l i z h)
+
+-- within a list, what stands for a missing element does not matter
+pub getD-any : {A : Type 0} (l : List A) (i : ℕ) (a b : A) → i < length l → getD l i a ≡ getD l i b
+getD-any [] i a b h = absurd (omega arith)
+getD-any (x ∷ l) zero a b h = refl
+getD-any (x ∷ l) (suc i) a b h = getD-any l i a b (omega arith)
 
 pub map-snoc : {A B : Type 0} (f : A → B) (xs : List A) (v : A) → map f (xs ++ (v ∷ [])) ≡ map f xs ++ (f v ∷ [])
 map-snoc f [] v = refl

@@ -2,23 +2,19 @@
 -- in `numbers` the lower bounds stand from 0, the upper bounds from 1,024 and the elements from 2,048. Assumes nothing.
 use mathlib.Core.Path.{_≡_}
 use Prim.Native.Nat.{ℕ, _+_, _≤_}
-use mathlib.Core.List.{List, [], map, flatMap}
+use mathlib.Core.List.{List, map, flatMap}
 use mathlib.Core.Bool.{Bool, false, _&&_}
 use lib.ListN.{length, drop}
 use lib.Dec.{leb}
 use lib.Ieee.{Float}
 use Rattle.laws.specs.Part.{part}
-use Rattle.pywr.specs.declared.Sentinel.{Sentinel}
 use Rattle.pywr.specs.Rows.{Element}
-use Rattle.pywr.specs.VariableRows.{addVariableRow, position}
 use Rattle.pywr.specs.Programme.{Row}
-use Rattle.pywr.specs.VaryingRows.{freshRow}
 use Rattle.pywr.specs.Build.{elementCount}
 use Rattle.pywr.specs.Written.{startsFrom, columnsIn, factorsIn, lowerOf, upperOf}
 use Rattle.lp_builder.specs.declared.Filled.{Filled}
 use Rattle.lp_builder.specs.declared.RowsAdded.{RowsAdded}
 use Rattle.lp_builder.specs.declared.RowsAdded.the-variants.{Done, Full}
-use Rattle.lp_builder.specs.declared.VariableRow.{VariableRow}
 
 -- the elements of each row
 abbrev pub elementLists : List Row → List (List Element)
@@ -48,11 +44,4 @@ withinCeilings rows = leb (length rows) 1024 && leb (elementCount rows) 4096
 pub record AfterRows (rows : List Row) (words : List ℕ) (r : RowsAdded) (words′ : List ℕ) (numbers′ : List Float) : Type 0 where
   pub held : (f : Filled) → r ≡ Done f → Held rows words′ numbers′ f
   pub full : r ≡ Full → withinCeilings rows ≡ false
-  pub kept : drop 5121 words′ ≡ drop 5121 words
-
--- a varying row was asked for, over the distinct rows so far
-pub record AfterVariableRow (s : Sentinel) (rows : List (List Element)) (row : List Element) (words : List ℕ) (r : VariableRow) (words′ : List ℕ) (numbers′ : List Float) : Type 0 where
-  pub place : (k : ℕ) (f : Filled) → r ≡ VariableRow.At k f → k ≡ position row rows
-  pub held : (k : ℕ) (f : Filled) → r ≡ VariableRow.At k f → Held (map (freshRow s) (addVariableRow row (record { rows = rows; places = [] }) .rows)) words′ numbers′ f
-  pub full : r ≡ VariableRow.Full → withinCeilings (map (freshRow s) (addVariableRow row (record { rows = rows; places = [] }) .rows)) ≡ false
   pub kept : drop 5121 words′ ≡ drop 5121 words

@@ -1,16 +1,13 @@
 // The rows of a programme in the making (LpBuilder of builder.rs).
 ghost use mathlib.Core.Path.{_≡_};
-ghost use mathlib.Core.List.{List, [], _∷_, _++_, map};
+ghost use mathlib.Core.List.{List, [], _∷_, _++_};
 ghost use Prim.Native.Nat.{_+_, _<_, _≤_};
-ghost use lib.ListN.{length, getD, take, drop};
+ghost use lib.ListN.{length, take, drop};
 ghost use lib.Seq.{sets};
 ghost use lib.Ieee.{Float};
-ghost use Rattle.pywr.specs.Rows.{Element};
-ghost use Rattle.pywr.specs.VariableRows.{sameRow, position};
 ghost use Rattle.pywr.specs.Programme.{Row};
-ghost use Rattle.pywr.specs.VaryingRows.{freshRow};
 ghost use Rattle.row_builder.specs.RowBuilder.{gathered, Rising};
-ghost use Rattle.lp_builder.specs.LpBuilder.{elementLists, Held, Holding, AfterRows, AfterVariableRow};
+ghost use Rattle.lp_builder.specs.LpBuilder.{Held, AfterRows};
 
 // How many rows and elements the work runs hold.
 pub struct Filled {
@@ -24,12 +21,6 @@ pub enum RowsAdded {
     Full,
 }
 
-// What asking for a varying row answers: the row's number, and how much the work runs hold now.
-pub enum VariableRow {
-    At(usize, Filled),
-    Full,
-}
-
 // No rows yet.
 pub fn start_rows(words: &mut [u16])
     requires { ⌜ 24844 ≤ length (now words) ⌝ }
@@ -38,7 +29,7 @@ pub fn start_rows(words: &mut [u16])
     words[4096] = 0;
 }
 
-// A column number and a row start in the width of the words, and back.
+// A column number and a row start in the width of the words.
 fn column_word(column: u32) -> u16
     requires { ⌜ column < 640 ⌝ }
     ensures { λ r. ⌜ r ≡ column ⌝ }
@@ -51,18 +42,6 @@ fn start_word(start: usize) -> u16
     ensures { λ r. ⌜ r ≡ start ⌝ }
 {
     start as u16
-}
-
-fn wide_column(word: u16) -> u32
-    ensures { λ r. ⌜ (r ≡ word) × (r < 65536) ⌝ }
-{
-    word as u32
-}
-
-fn wide_start(word: u16) -> usize
-    ensures { λ r. ⌜ (r ≡ word) × (r < 65536) ⌝ }
-{
-    word as usize
 }
 
 // The first n column numbers, put into words from `at` on.
@@ -109,99 +88,4 @@ pub fn add_fixed_row(
         rows: rows + 1,
         elements: elements + n,
     })
-}
-
-// Whether the n elements from `at` on stand on the gathered row's columns and equal its elements, which stand from `from` on.
-fn same_elements(
-    words: &[u16],
-    numbers: &[f64],
-    columns: &[u32],
-    n: usize,
-    at: usize,
-    from: usize,
-) -> bool
-    requires { ⌜ (at + n ≤ length (now words)) × (2048 + at + n ≤ length (now numbers)) × (n ≤ length (now columns)) × (2048 + from + n ≤ length (now numbers)) ⌝ }
-    ensures { λ r. ⌜ r ≡ sameRow (gathered (drop at (now (words .entry))) (drop (2048 + at) (now (numbers .entry))) n)
-        (gathered (now (columns .entry)) (drop (2048 + from) (now (numbers .entry))) n) ⌝ }
-{
-    let mut i: usize = 0;
-    while i < n {
-        if wide_column(words[at + i]) != columns[i] {
-            return false;
-        }
-        if numbers[2048 + at + i] != numbers[2048 + from + i] {
-            return false;
-        }
-        i += 1;
-    }
-    true
-}
-
-// Whether row k equals the gathered row.
-fn same_row(words: &[u16], numbers: &[f64], columns: &[u32], n: usize, f: Filled, k: usize) -> bool
-    requires { ⌜ (24844 ≤ length (now words)) × (6784 ≤ length (now numbers)) × (n ≤ 640) × (n ≤ length (now columns)) × (k < f .rows) × Holding (now words) (now numbers) f ⌝ }
-    ensures { λ r. ⌜ ((rows : List Row) → Held rows (now (words .entry)) (now (numbers .entry)) f
-        → r ≡ sameRow (getD (elementLists rows) k []) (gathered (now (columns .entry)) (drop (2048 + f .elements) (now (numbers .entry))) n)) ⌝ }
-{
-    let from = f.elements;
-    let at = wide_start(words[4096 + k]);
-    let end = wide_start(words[4096 + k + 1]);
-    if end - at != n {
-        return false;
-    }
-    same_elements(words, numbers, columns, n, at, from)
-}
-
-// Where the first row that equals the gathered row stands; the count of rows if there is none.
-pub fn position(words: &[u16], numbers: &[f64], columns: &[u32; 640], n: usize, f: Filled) -> usize
-    requires { ⌜ (24844 ≤ length (now words)) × (6784 ≤ length (now numbers)) × (n ≤ 640) × Holding (now words) (now numbers) f ⌝ }
-    ensures { λ r. ⌜ ((rows : List Row) → Held rows (now (words .entry)) (now (numbers .entry)) f
-        → r ≡ position (gathered (now (columns .entry)) (drop (2048 + f .elements) (now (numbers .entry))) n) (elementLists rows)) ⌝ }
-{
-    let run: &[u32] = columns;
-    let rows = f.rows;
-    let mut k: usize = 0;
-    while k < rows {
-        if same_row(words, numbers, run, n, f, k) {
-            return k;
-        }
-        k += 1;
-    }
-    rows
-}
-
-// A varying row is asked for: an equal one that stands already serves, else the gathered row becomes the last row.
-pub fn add_variable_row(
-    words: &mut [u16],
-    numbers: &mut [f64],
-    columns: &[u32; 640],
-    n: usize,
-    f: Filled,
-    sentinel: pywr::Sentinel,
-) -> VariableRow
-    requires { ⌜ (24844 ≤ length (now words)) × (6784 ≤ length (now numbers)) × (n ≤ 640) × Rising (now columns) n × Holding (now words) (now numbers) f ⌝ }
-    ensures { λ r. ⌜ ((rows : List (List Element)) → Held (map (freshRow sentinel) rows) (now (words .entry)) (now (numbers .entry)) f
-        → AfterVariableRow sentinel rows (gathered (now (columns .entry)) (drop (2048 + f .elements) (now (numbers .entry))) n)
-        (now (words .entry)) r (now (words .exit)) (now (numbers .exit))) ⌝ }
-{
-    let rows = f.rows;
-    let k = position(words, numbers, columns, n, f);
-    if k < rows {
-        return VariableRow::At(k, f);
-    }
-    let r = add_fixed_row(
-        words,
-        numbers,
-        columns,
-        n,
-        f,
-        pywr::Interval {
-            lower: 0.0,
-            upper: sentinel.high(),
-        },
-    );
-    match r {
-        RowsAdded::Done(filled) => VariableRow::At(k, filled),
-        RowsAdded::Full => VariableRow::Full,
-    }
 }

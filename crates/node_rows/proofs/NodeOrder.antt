@@ -29,11 +29,11 @@ use Rattle.exclusive_sets.proofs.ListingLaws.{no-sets}
 use Rattle.lp_builder.specs.declared.Filled.{Filled}
 use Rattle.lp_builder.specs.LpBuilder.{Held}
 use Rattle.row_tables.specs.Tables.{networkOf, EdgeTables, ListingTables}
-use Rattle.node_rows.specs.NodeRows.{NodeRowsHeld, AfterRequests, requestsBefore, listedRequests}
-use Rattle.node_rows.specs.declared.NodeRows.{NodeRows}
-use Rattle.node_rows.specs.declared.NodeRowsAdded.{NodeRowsAdded}
-use Rattle.node_rows.specs.declared.NodeRowsAdded.the-variants.{Done, Full}
-use Rattle.node_rows.proofs.Table.{requests-done, full-later}
+use Rattle.node_row_table.specs.NodeRows.{NodeRowsHeld, AfterRequests, requestsBefore, listedRequests}
+use Rattle.node_row_table.specs.declared.NodeRows.{NodeRows}
+use Rattle.node_row_table.specs.declared.NodeRowsAdded.{NodeRowsAdded}
+use Rattle.node_row_table.specs.declared.NodeRowsAdded.the-variants.{Done, Full}
+use Rattle.node_row_table.proofs.Table.{requests-done, full-later}
 
 -- ---- any nodes
 

@@ -10,6 +10,7 @@ use lib.Seq.{sets, length-sets}
 use lib.Dec.{T, leb, ltb, eqb, le→leb}
 use lib.Ieee.{Float}
 use lib.Ieee.Fits.{and-i}
+use Rattle.laws.proofs.Tests.{to-true, of-true}
 use Rattle.pywr.specs.declared.Sentinel.{Sentinel}
 use Rattle.pywr.specs.Result.{value, Result, refused, _>>=_, need}
 use Rattle.pywr.specs.Network.{Period, Network}
@@ -25,7 +26,6 @@ use Rattle.pywr.specs.Misshapen.{countsFit, startsRise, rowColumnsRise, 
 use Rattle.pywr.specs.Written.{nodeWords, edgeWords, nodeRowWords, storageWords, countWords, shapeAfter, startsFrom, columnsIn, factorsIn, lowerOf, upperOf, rowsOf, builtStore, steppedStore}
 use Rattle.pywr.specs.Calls.{buildAnswer, buildStore, workNeeded, stepRoom, stepRead, stepIntervals, stepAnswer, storeOfStep, stepStore, isAccepted, rowAnswer}
 use Rattle.pywr.specs.Correspondence.{Call, storeAfter, periodsOf, readBy}
-use Rattle.pywr.proofs.ListLaws.{to-true, of-true}
 use Rattle.pywr.proofs.ReadLaws.{Sound, read-sound}
 use Rattle.pywr.proofs.DemandThree.{BuildAccepted, build-accepted, periods-are, read-alike}
 use Rattle.pywr.proofs.WellShaped.{idle, held, shaped, rows-count, of-row}

@@ -1,16 +1,19 @@
 -- A row's sum over its columns is the network's sum over its edges, where edges of a column carry equal amounts. Assumes nothing.
 use mathlib.Core.Path.{_≡_, refl, sym, ap, ap₂, _∙_}
-use Prim.Native.Nat.{ℕ, zero, suc, _+_, _*_, _/_, _^_, _<_, _≤_, suc-le-suc, zero-le}
-use native.Mathlib.Nat.{add-zero, add-suc, suc-add, zero-add, le-trans, le-refl, le-of-eq, mul-le-mul-right, zero-mul, one-mul, mul-one, div-one, suc-mul, add-mul}
+use Prim.Native.Nat.{ℕ, suc, _+_, _*_, _/_, _^_, _<_, _≤_, suc-le-suc, zero-le}
+use native.Mathlib.Nat.{add-zero, add-suc, suc-add, zero-add, le-trans, le-refl, le-of-eq, mul-le-mul-right, one-mul, div-one, suc-mul, add-mul}
 use native.Mathlib.Omega.{arith}
-use mathlib.Core.Bool.{Bool, true, false, cond, not}
+use mathlib.Core.Bool.{Bool, true, false, cond}
 use mathlib.Core.List.{List, [], _∷_}
 use mathlib.Core.Option.{Option, none, some, Option·getD}
 use lib.ListN.{length, getElem?}
-use lib.IntN.{ℤ, pos, negsuc, negℤ, _+ℤ_, _-ℤ_, _*ℤ_, natAbs, +ℤ-assoc, +ℤ-comm, *ℤ-comm, *ℤ-negsuc, *ℤ-zero, negℤ-negℤ, negℤ-+ℤ, +ℤ-idl, +ℤ-idr}
+use lib.IntN.{ℤ, pos, negℤ, _+ℤ_, _-ℤ_, _*ℤ_, +ℤ-assoc, +ℤ-comm, *ℤ-comm, *ℤ-zero, +ℤ-idl, +ℤ-idr}
 use lib.Dec.{eqb}
-use lib.Ieee.{Float, nan, inf, fin, neg}
-use lib.Ieee.Exact.{HasValue}
+use lib.Ieee.{Float, binary64, neg}
+use Rattle.doubles.specs.Units.{mag}
+use Rattle.doubles.proofs.Integers.{mul-addℤ, neg-mulℤ, mul-negℤ}
+use Rattle.doubles.proofs.Units.{neg-mag}
+use Rattle.doubles.proofs.Sums.{neg-grain, one-grain}
 use Rattle.pywr.specs.Numbers.{one64}
 use Rattle.pywr.specs.Network.{output, storage, Edge, Aggregate, Part, VirtualStorage, Network, kindOf, keepIf, source, target}
 use Rattle.pywr.specs.ColEdgeMap.{columns, MappedEdge, withColumns, mappedEdges}
@@ -18,75 +21,40 @@ use Rattle.pywr.specs.Rows.{Element, addOn, ColumnMap, columnMap, column
 use Rattle.pywr.specs.Plans.{exact, Plan, unit, signed, scaled}
 use Rattle.pywr.specs.Allows.{flowWith, inflow, outflow, nodeAmount, nodesAmount, setsAmount, partsAmount}
 use Rattle.pywr.specs.Admits.{onColumn, rowSum}
-use Rattle.pywr.proofs.SumLaws.{distrib, OnGrid, Upto, AllUpto, onColumns, add-on, add-on-upto, all-wider}
+use Rattle.pywr.proofs.ExactLaws.{exact-neg}
+use Rattle.pywr.proofs.SumLaws.{grid, Upto, AllUpto, onColumns, add-on, add-on-upto, all-wider}
 
--- ---- integers
+-- ---- factors
 
-pub distrib-left : (x y z : ℤ) → x *ℤ (y +ℤ z) ≡ x *ℤ y +ℤ x *ℤ z
-distrib-left x y z = *ℤ-comm x (y +ℤ z) ∙ go x ∙ ap₂ (λ (a b : ℤ). a +ℤ b) (*ℤ-comm y x) (*ℤ-comm z x)
-  where
-    go : (x : ℤ) → (y +ℤ z) *ℤ x ≡ y *ℤ x +ℤ z *ℤ x
-    go (pos n) = distrib y z n
-    go (negsuc n) =
-        *ℤ-negsuc (y +ℤ z) n
-        ∙ ap negℤ (distrib y z (suc n))
-        ∙ negℤ-+ℤ (y *ℤ pos (suc n)) (z *ℤ pos (suc n))
-        ∙ sym (ap₂ (λ (a b : ℤ). a +ℤ b) (*ℤ-negsuc y n) (*ℤ-negsuc z n))
+pub neg-upto : {g : ℕ} (n : ℕ) (x : Float) → Upto g n x → Upto g n (neg x)
+neg-upto {g} n x u = record { grain = neg-grain binary64 (grid g) x (u .grain); most = le-trans (le-of-eq (neg-mag binary64 x)) (u .most) }
 
-neg-signed : (s : Bool) (n : ℕ) → signed (not s) n ≡ negℤ (signed s n)
-unfolding signed
-neg-signed false n = refl
-neg-signed true zero = refl
-neg-signed true (suc n) = refl
+pub one-upto : Upto 0 1 one64
+unfolding one64 mag
+one-upto = record { grain = one-grain false; most = le-refl (1 * 2 ^ 1074) }
 
-pub exact-neg : (x : Float) → exact (neg x) ≡ negℤ (exact x)
-unfolding exact neg
-exact-neg nan = refl
-exact-neg (inf s) = refl
-exact-neg (fin s m e) = neg-signed s _
+pub one-exact : exact one64 ≡ pos unit
+unfolding exact one64 signed
+one-exact = ap pos (ap (λ (k : ℕ). k / 1) (one-mul unit) ∙ div-one unit)
 
-neg-value : (x : Float) (s : Bool) (n d : ℕ) → HasValue x s n d → HasValue (neg x) (not s) n d
-unfolding neg
-neg-value nan s n d v = v
-neg-value (inf t) s n d v = v
-neg-value (fin t m e) s n d v = (ap not (v .0), v .1)
-
-abs-neg : (z : ℤ) → natAbs (negℤ z) ≡ natAbs z
-abs-neg (pos zero) = refl
-abs-neg (pos (suc n)) = refl
-abs-neg (negsuc n) = refl
-
-pub neg-upto : (g : ℕ) (deep : g ≤ 1074) (n : ℕ) (x : Float) → Upto g deep n x → Upto g deep n (neg x)
-neg-upto g deep n x u =
-    let w = u .point in
-    record {
-      number = negℤ (u .number);
-      point = record { sign = not (w .sign); size = w .size; val = neg-value x (w .sign) (w .size) (2 ^ g) (w .val); is = ap negℤ (w .is) ∙ sym (neg-signed (w .sign) (w .size)) };
-      most = le-trans (le-of-eq (abs-neg (u .number))) (u .most);
-    }
-
-pub neg-times : (x : ℤ) (k : ℕ) → negℤ x *ℤ pos k ≡ negℤ (x *ℤ pos k)
-neg-times (pos zero) k = ap pos (zero-mul k) ∙ ap (λ (n : ℕ). negℤ (pos n)) (sym (zero-mul k))
-neg-times (pos (suc a)) k = refl
-neg-times (negsuc a) k = sym (negℤ-negℤ (pos (suc a * k)))
-
-pub times-neg : (x : ℤ) (n : ℕ) → negℤ x *ℤ pos n ≡ x *ℤ negℤ (pos n)
-times-neg x zero = *ℤ-zero (negℤ x) ∙ sym (*ℤ-zero x)
-times-neg x (suc n) = neg-times x (suc n) ∙ sym (*ℤ-negsuc x n)
+-- every factor is a multiple of 1 / 2 ^ g, at most m of these from 0
+pub data Factors (g m : ℕ) : List Part → Type 0 where
+  no-more : Factors g m []
+  one-more : {p : Part} {ps : List Part} → Upto g m (p .factor) → Factors g m ps → Factors g m (p ∷ ps)
 
 -- ---- the columns of a node's edges carry the flow of those edges
 
-with-end : (b : Bool) (f : ColumnMap) (plan : Plan) (g : ℕ) (deep : g ≤ 1074) (c a : ℕ) (cs : List ℕ) → onColumn f plan c ≡ a
-    → onColumns g deep f plan (keepIf b c cs) ≡ cond b a 0 + onColumns g deep f plan cs
+with-end : (b : Bool) (f : ColumnMap) (plan : Plan) (c a : ℕ) (cs : List ℕ) → onColumn f plan c ≡ a
+    → onColumns f plan (keepIf b c cs) ≡ cond b a 0 + onColumns f plan cs
 unfolding keepIf onColumns
-with-end true f plan g deep c a cs e = ap (λ (n : ℕ). n + onColumns g deep f plan cs) e
-with-end false f plan g deep c a cs e = sym (zero-add (onColumns g deep f plan cs))
+with-end true f plan c a cs e = ap (λ (n : ℕ). n + onColumns f plan cs) e
+with-end false f plan c a cs e = sym (zero-add (onColumns f plan cs))
 
-module _ (g : ℕ) (deep : g ≤ 1074) (f : ColumnMap) (plan : Plan) where
+module _ (f : ColumnMap) (plan : Plan) where
   pub flow-columns : (pe : MappedEdge → ℕ) (ee : Edge → ℕ) → ((x : Edge) (c : ℕ) → pe (record { from = x .from; to = x .to; column = c }) ≡ ee x)
       → (n : ℕ) (es : List Edge) (cs : List (Option ℕ)) (e : ℕ) → length es ≡ length cs
       → ((i : ℕ) (p : MappedEdge) → getElem? (withColumns es cs) i ≡ some p → onColumn f plan (p .column) ≡ plan .amount (e + i))
-      → onColumns g deep f plan (columnsWith pe n (withColumns es cs)) ≡ flowWith ee plan n e es
+      → onColumns f plan (columnsWith pe n (withColumns es cs)) ≡ flowWith ee plan n e es
   unfolding withColumns columnsWith flowWith onColumns
   flow-columns pe ee same n [] cs e l h = refl
   flow-columns pe ee same n (x ∷ xs) [] e l h = let z : suc (length xs) ≡ 0 = l in absurd (omega arith)
@@ -95,7 +63,7 @@ module _ (g : ℕ) (deep : g ≤ 1074) (f : ColumnMap) (plan : Plan) where
       let p : MappedEdge = record { from = x .from; to = x .to; column = k } in
       let l′ : length xs ≡ length cs = (let m : suc (length xs) ≡ suc (length cs) = l in omega arith) in
       let ih = flow-columns pe ee same n xs cs (suc e) l′ (λ i q r. h (suc i) q r ∙ ap (plan .amount) (add-suc e i ∙ sym (suc-add e i))) in
-      with-end (eqb (pe p) n) f plan g deep k (plan .amount e) (columnsWith pe n (withColumns xs cs)) (h 0 p refl ∙ ap (plan .amount) (add-zero e))
+      with-end (eqb (pe p) n) f plan k (plan .amount e) (columnsWith pe n (withColumns xs cs)) (h 0 p refl ∙ ap (plan .amount) (add-zero e))
       ∙ ap₂ (λ (t : Bool) (m : ℕ). cond t (plan .amount e) 0 + m) (ap (λ (m : ℕ). eqb m n) (same x k)) ih
 
 pub columns-few : (pe : MappedEdge → ℕ) (n : ℕ) (ps : List MappedEdge) → length (columnsWith pe n ps) ≤ length ps
@@ -122,22 +90,22 @@ listings (s ∷ ss) = length s + listings ss
 abbrev pub Carries : Network → Plan → Type 0
 Carries net plan = (i : ℕ) (p : MappedEdge) → getElem? (mappedEdges net) i ≡ some p → onColumn (columnMap net) plan (p .column) ≡ plan .amount i
 
-module _ (g : ℕ) (deep : g ≤ 1074) (net : Network) (plan : Plan) (long : length (net .edges) ≡ length (columns net .of)) (carries : Carries net plan) where
+module _ (net : Network) (plan : Plan) (long : length (net .edges) ≡ length (columns net .of)) (carries : Carries net plan) where
   abbrev f : ColumnMap
   f = columnMap net
 
   abbrev E : ℕ
   E = length (net .edges)
 
-  into-flow : (n : ℕ) → onColumns g deep f plan (columnsInto n (mappedEdges net)) ≡ inflow net plan n
+  into-flow : (n : ℕ) → onColumns f plan (columnsInto n (mappedEdges net)) ≡ inflow net plan n
   unfolding columnsInto inflow mappedEdges
   into-flow n =
-      flow-columns g deep f plan (λ p. p .to) target (λ x c. refl) n (net .edges) (columns net .of) 0 long (λ i p h. carries i p h ∙ ap (plan .amount) (sym (zero-add i)))
+      flow-columns f plan (λ p. p .to) target (λ x c. refl) n (net .edges) (columns net .of) 0 long (λ i p h. carries i p h ∙ ap (plan .amount) (sym (zero-add i)))
 
-  out-flow : (n : ℕ) → onColumns g deep f plan (columnsOutOf n (mappedEdges net)) ≡ outflow net plan n
+  out-flow : (n : ℕ) → onColumns f plan (columnsOutOf n (mappedEdges net)) ≡ outflow net plan n
   unfolding columnsOutOf outflow mappedEdges
   out-flow n =
-      flow-columns g deep f plan (λ p. p .from) source (λ x c. refl) n (net .edges) (columns net .of) 0 long (λ i p h. carries i p h ∙ ap (plan .amount) (sym (zero-add i)))
+      flow-columns f plan (λ p. p .from) source (λ x c. refl) n (net .edges) (columns net .of) 0 long (λ i p h. carries i p h ∙ ap (plan .amount) (sym (zero-add i)))
 
   into-few : (n m : ℕ) → length (columnsInto n (mappedEdges net)) * m ≤ E * m
   unfolding columnsInto mappedEdges
@@ -147,7 +115,7 @@ module _ (g : ℕ) (deep : g ≤ 1074) (net : Network) (plan : Plan) (long : len
   unfolding columnsOutOf mappedEdges
   out-few n m = mul-le-mul-right m (le-trans (columns-few (λ p. p .from) n (mappedEdges net)) (le-of-eq (pipes-length (net .edges) (columns net .of) long)))
 
-  module _ (n : ℕ) (x : Float) (m : ℕ) (u : Upto g deep m x) (b : ℕ) (row : List Element) (us : AllUpto g deep b row) (room : b + (E * m + E * m) < 2 ^ 53) where
+  module _ {g : ℕ} (n : ℕ) (x : Float) (m : ℕ) (u : Upto g m x) (b : ℕ) (row : List Element) (us : AllUpto g b row) (room : b + (E * m + E * m) < 2 ^ 53) where
     in-room : b + length (columnsInto n (mappedEdges net)) * m < 2 ^ 53
     in-room = let h = into-few n m in omega arith
 
@@ -155,10 +123,10 @@ module _ (g : ℕ) (deep : g ≤ 1074) (net : Network) (plan : Plan) (long : len
     out-room = let h = out-few n m in omega arith
 
     into-sum : rowSum f plan (addOn (columnsInto n (mappedEdges net)) x row) ≡ exact x *ℤ pos (inflow net plan n) +ℤ rowSum f plan row
-    into-sum = add-on g deep f plan (columnsInto n (mappedEdges net)) x m u b row us in-room ∙ ap (λ (k : ℕ). exact x *ℤ pos k +ℤ rowSum f plan row) (into-flow n)
+    into-sum = add-on f plan (columnsInto n (mappedEdges net)) x m u b row us in-room ∙ ap (λ (k : ℕ). exact x *ℤ pos k +ℤ rowSum f plan row) (into-flow n)
 
     out-sum : rowSum f plan (addOn (columnsOutOf n (mappedEdges net)) x row) ≡ exact x *ℤ pos (outflow net plan n) +ℤ rowSum f plan row
-    out-sum = add-on g deep f plan (columnsOutOf n (mappedEdges net)) x m u b row us out-room ∙ ap (λ (k : ℕ). exact x *ℤ pos k +ℤ rowSum f plan row) (out-flow n)
+    out-sum = add-on f plan (columnsOutOf n (mappedEdges net)) x m u b row us out-room ∙ ap (λ (k : ℕ). exact x *ℤ pos k +ℤ rowSum f plan row) (out-flow n)
 
     both-sum : rowSum f plan (addOn (columnsOutOf n (mappedEdges net)) (neg x) (addOn (columnsInto n (mappedEdges net)) x row))
         ≡ exact x *ℤ (pos (inflow net plan n) -ℤ pos (outflow net plan n)) +ℤ rowSum f plan row
@@ -167,13 +135,13 @@ module _ (g : ℕ) (deep : g ≤ 1074) (net : Network) (plan : Plan) (long : len
         let o : ℕ = outflow net plan n in
         let r : ℤ = rowSum f plan row in
         let b′ : ℕ = b + length (columnsInto n (mappedEdges net)) * m in
-        let us′ = add-on-upto g deep f plan (columnsInto n (mappedEdges net)) x m u b row us in-room in
-        add-on g deep f plan (columnsOutOf n (mappedEdges net)) (neg x) m (neg-upto g deep m x u) b′ (addOn (columnsInto n (mappedEdges net)) x row) us′
+        let us′ = add-on-upto f plan (columnsInto n (mappedEdges net)) x m u b row us in-room in
+        add-on f plan (columnsOutOf n (mappedEdges net)) (neg x) m (neg-upto m x u) b′ (addOn (columnsInto n (mappedEdges net)) x row) us′
         (let h = out-few n m in let k = into-few n m in omega arith)
         ∙ ap₂ (λ (a : ℤ) (k : ℕ). a *ℤ pos k +ℤ rowSum f plan (addOn (columnsInto n (mappedEdges net)) x row)) (exact-neg x) (out-flow n)
-        ∙ ap₂ (λ (a c : ℤ). a +ℤ c) (times-neg (exact x) o) into-sum
+        ∙ ap₂ (λ (a c : ℤ). a +ℤ c) (neg-mulℤ (exact x) (pos o) ∙ sym (mul-negℤ (exact x) (pos o))) into-sum
         ∙ sym (+ℤ-assoc (exact x *ℤ negℤ (pos o)) (exact x *ℤ pos i) r)
-        ∙ ap (λ (a : ℤ). a +ℤ r) (+ℤ-comm (exact x *ℤ negℤ (pos o)) (exact x *ℤ pos i) ∙ sym (distrib-left (exact x) (pos i) (negℤ (pos o))))
+        ∙ ap (λ (a : ℤ). a +ℤ r) (+ℤ-comm (exact x *ℤ negℤ (pos o)) (exact x *ℤ pos i) ∙ sym (mul-addℤ (exact x) (pos i) (negℤ (pos o))))
 
     pub node-sum : rowSum f plan (addNode f n x row) ≡ exact x *ℤ nodeAmount net plan n +ℤ rowSum f plan row
     unfolding addNode nodeAmount columnMap
@@ -188,43 +156,30 @@ module _ (g : ℕ) (deep : g ≤ 1074) (net : Network) (plan : Plan) (long : len
         go false true = both-sum
         go false false = out-sum
 
-    pub node-upto : AllUpto g deep (b + (E * m + E * m)) (addNode f n x row)
+    pub node-upto : AllUpto g (b + (E * m + E * m)) (addNode f n x row)
     unfolding addNode columnMap
     node-upto = go (eqb (kindOf (net .nodes) n) output) (eqb (kindOf (net .nodes) n) storage)
       where
-        us-in : AllUpto g deep (b + length (columnsInto n (mappedEdges net)) * m) (addOn (columnsInto n (mappedEdges net)) x row)
-        us-in = add-on-upto g deep f plan (columnsInto n (mappedEdges net)) x m u b row us in-room
+        us-in : AllUpto g (b + length (columnsInto n (mappedEdges net)) * m) (addOn (columnsInto n (mappedEdges net)) x row)
+        us-in = add-on-upto f plan (columnsInto n (mappedEdges net)) x m u b row us in-room
 
-        us-out : AllUpto g deep (b + length (columnsOutOf n (mappedEdges net)) * m) (addOn (columnsOutOf n (mappedEdges net)) x row)
-        us-out = add-on-upto g deep f plan (columnsOutOf n (mappedEdges net)) x m u b row us out-room
+        us-out : AllUpto g (b + length (columnsOutOf n (mappedEdges net)) * m) (addOn (columnsOutOf n (mappedEdges net)) x row)
+        us-out = add-on-upto f plan (columnsOutOf n (mappedEdges net)) x m u b row us out-room
 
-        us-both : AllUpto g deep (b + length (columnsInto n (mappedEdges net)) * m + length (columnsOutOf n (mappedEdges net)) * m) (addOn (columnsOutOf n (mappedEdges net)) (neg x) (addOn (columnsInto n (mappedEdges net)) x row))
+        us-both : AllUpto g (b + length (columnsInto n (mappedEdges net)) * m + length (columnsOutOf n (mappedEdges net)) * m) (addOn (columnsOutOf n (mappedEdges net)) (neg x) (addOn (columnsInto n (mappedEdges net)) x row))
         us-both =
-            add-on-upto g deep f plan (columnsOutOf n (mappedEdges net)) (neg x) m (neg-upto g deep m x u) (b + length (columnsInto n (mappedEdges net)) * m) (addOn (columnsInto n (mappedEdges net)) x row) us-in
+            add-on-upto f plan (columnsOutOf n (mappedEdges net)) (neg x) m (neg-upto m x u) (b + length (columnsInto n (mappedEdges net)) * m) (addOn (columnsInto n (mappedEdges net)) x row) us-in
             (let h = out-few n m in let k = into-few n m in omega arith)
 
         go : (a c : Bool)
-            → AllUpto g deep (b + (E * m + E * m))
+            → AllUpto g (b + (E * m + E * m))
             (cond a (addOn (columnsInto n (mappedEdges net)) x row)
             (cond c (addOn (columnsOutOf n (mappedEdges net)) (neg x) (addOn (columnsInto n (mappedEdges net)) x row)) (addOn (columnsOutOf n (mappedEdges net)) x row)))
-        go true c = all-wider g deep (b + length (columnsInto n (mappedEdges net)) * m) (b + (E * m + E * m)) (addOn (columnsInto n (mappedEdges net)) x row) (let h = into-few n m in omega arith) us-in
+        go true c = all-wider (b + length (columnsInto n (mappedEdges net)) * m) (b + (E * m + E * m)) (addOn (columnsInto n (mappedEdges net)) x row) (let h = into-few n m in omega arith) us-in
         go false true =
-            all-wider g deep (b + length (columnsInto n (mappedEdges net)) * m + length (columnsOutOf n (mappedEdges net)) * m) (b + (E * m + E * m))
+            all-wider (b + length (columnsInto n (mappedEdges net)) * m + length (columnsOutOf n (mappedEdges net)) * m) (b + (E * m + E * m))
             (addOn (columnsOutOf n (mappedEdges net)) (neg x) (addOn (columnsInto n (mappedEdges net)) x row)) (let h = into-few n m in let k = out-few n m in omega arith) us-both
-        go false false = all-wider g deep (b + length (columnsOutOf n (mappedEdges net)) * m) (b + (E * m + E * m)) (addOn (columnsOutOf n (mappedEdges net)) x row) (let h = out-few n m in omega arith) us-out
-
-  -- ---- 1.0
-
-  one-point : OnGrid g deep one64 (pos (2 ^ g))
-  unfolding one64 signed
-  one-point = record { sign = false; size = 2 ^ g; val = (refl, one-mul (2 ^ g) ∙ sym (mul-one (2 ^ g))); is = refl }
-
-  pub one-upto : Upto g deep (2 ^ g) one64
-  one-upto = record { number = pos (2 ^ g); point = one-point; most = le-refl (2 ^ g) }
-
-  pub one-exact : exact one64 ≡ pos unit
-  unfolding exact one64 signed
-  one-exact = ap pos (ap (λ (k : ℕ). k / 1) (one-mul unit) ∙ div-one unit)
+        go false false = all-wider (b + length (columnsOutOf n (mappedEdges net)) * m) (b + (E * m + E * m)) (addOn (columnsOutOf n (mappedEdges net)) x row) (let h = out-few n m in omega arith) us-out
 
   -- the room that one node takes at most
   abbrev share : ℕ → ℕ
@@ -232,49 +187,45 @@ module _ (g : ℕ) (deep : g ≤ 1074) (net : Network) (plan : Plan) (long : len
 
   -- ---- lists of nodes, and of sets
 
-  pub nodes-sum : (ns : List ℕ) (b : ℕ) (row : List Element) → AllUpto g deep b row → b + length ns * share (2 ^ g) < 2 ^ 53
+  pub nodes-sum : (ns : List ℕ) (b : ℕ) (row : List Element) → AllUpto 0 b row → b + length ns * share 1 < 2 ^ 53
       → rowSum f plan (addNodes f ns row) ≡ pos unit *ℤ nodesAmount net plan ns +ℤ rowSum f plan row
   unfolding addNodes nodesAmount
   nodes-sum [] b row us h = sym (ap (λ (z : ℤ). z +ℤ rowSum f plan row) (*ℤ-zero (pos unit)) ∙ +ℤ-idl (rowSum f plan row))
   nodes-sum (n ∷ ns) b row us h =
-      let t : suc (length ns) * share (2 ^ g) ≡ length ns * share (2 ^ g) + share (2 ^ g) = suc-mul (length ns) (share (2 ^ g)) in
+      let t : suc (length ns) * share 1 ≡ length ns * share 1 + share 1 = suc-mul (length ns) (share 1) in
       let r : ℤ = rowSum f plan row in
-      let one = node-sum n one64 (2 ^ g) one-upto b row us (omega arith) in
-      nodes-sum ns (b + share (2 ^ g)) (addNode f n one64 row) (node-upto n one64 (2 ^ g) one-upto b row us (omega arith)) (omega arith)
+      let one = node-sum n one64 1 one-upto b row us (omega arith) in
+      nodes-sum ns (b + share 1) (addNode f n one64 row) (node-upto n one64 1 one-upto b row us (omega arith)) (omega arith)
       ∙ ap (λ (z : ℤ). pos unit *ℤ nodesAmount net plan ns +ℤ z) (one ∙ ap (λ (z : ℤ). z *ℤ nodeAmount net plan n +ℤ r) one-exact)
       ∙ sym (+ℤ-assoc (pos unit *ℤ nodesAmount net plan ns) (pos unit *ℤ nodeAmount net plan n) r)
       ∙ ap (λ (z : ℤ). z +ℤ r)
-      (+ℤ-comm (pos unit *ℤ nodesAmount net plan ns) (pos unit *ℤ nodeAmount net plan n) ∙ sym (distrib-left (pos unit) (nodeAmount net plan n) (nodesAmount net plan ns)))
+      (+ℤ-comm (pos unit *ℤ nodesAmount net plan ns) (pos unit *ℤ nodeAmount net plan n) ∙ sym (mul-addℤ (pos unit) (nodeAmount net plan n) (nodesAmount net plan ns)))
 
-  pub nodes-upto : (ns : List ℕ) (b : ℕ) (row : List Element) → AllUpto g deep b row → b + length ns * share (2 ^ g) < 2 ^ 53 → AllUpto g deep (b + length ns * share (2 ^ g)) (addNodes f ns row)
+  pub nodes-upto : (ns : List ℕ) (b : ℕ) (row : List Element) → AllUpto 0 b row → b + length ns * share 1 < 2 ^ 53 → AllUpto 0 (b + length ns * share 1) (addNodes f ns row)
   unfolding addNodes
-  nodes-upto [] b row us h = all-wider g deep b (b + 0 * share (2 ^ g)) row (omega arith) us
+  nodes-upto [] b row us h = all-wider b (b + 0 * share 1) row (omega arith) us
   nodes-upto (n ∷ ns) b row us h =
-      let t : suc (length ns) * share (2 ^ g) ≡ length ns * share (2 ^ g) + share (2 ^ g) = suc-mul (length ns) (share (2 ^ g)) in
-      all-wider g deep (b + share (2 ^ g) + length ns * share (2 ^ g)) (b + suc (length ns) * share (2 ^ g)) (addNodes f ns (addNode f n one64 row)) (omega arith)
-      (nodes-upto ns (b + share (2 ^ g)) (addNode f n one64 row) (node-upto n one64 (2 ^ g) one-upto b row us (omega arith)) (omega arith))
+      let t : suc (length ns) * share 1 ≡ length ns * share 1 + share 1 = suc-mul (length ns) (share 1) in
+      all-wider (b + share 1 + length ns * share 1) (b + suc (length ns) * share 1) (addNodes f ns (addNode f n one64 row)) (omega arith)
+      (nodes-upto ns (b + share 1) (addNode f n one64 row) (node-upto n one64 1 one-upto b row us (omega arith)) (omega arith))
 
-  pub sets-sum : (ss : List (List ℕ)) (b : ℕ) (row : List Element) → AllUpto g deep b row → b + listings ss * share (2 ^ g) < 2 ^ 53
+  pub sets-sum : (ss : List (List ℕ)) (b : ℕ) (row : List Element) → AllUpto 0 b row → b + listings ss * share 1 < 2 ^ 53
       → rowSum f plan (addSetsOf f ss row) ≡ pos unit *ℤ setsAmount net plan ss +ℤ rowSum f plan row
   unfolding addSetsOf setsAmount listings
   sets-sum [] b row us h = sym (ap (λ (z : ℤ). z +ℤ rowSum f plan row) (*ℤ-zero (pos unit)) ∙ +ℤ-idl (rowSum f plan row))
   sets-sum (s ∷ ss) b row us h =
-      let k : ℕ = share (2 ^ g) in
+      let k : ℕ = share 1 in
       let t : (length s + listings ss) * k ≡ length s * k + listings ss * k = add-mul (length s) (listings ss) k in
       let r : ℤ = rowSum f plan row in
       sets-sum ss (b + length s * k) (addNodes f s row) (nodes-upto s b row us (omega arith)) (omega arith)
       ∙ ap (λ (z : ℤ). pos unit *ℤ setsAmount net plan ss +ℤ z) (nodes-sum s b row us (omega arith))
       ∙ sym (+ℤ-assoc (pos unit *ℤ setsAmount net plan ss) (pos unit *ℤ nodesAmount net plan s) r)
       ∙ ap (λ (z : ℤ). z +ℤ r)
-      (+ℤ-comm (pos unit *ℤ setsAmount net plan ss) (pos unit *ℤ nodesAmount net plan s) ∙ sym (distrib-left (pos unit) (nodesAmount net plan s) (setsAmount net plan ss)))
+      (+ℤ-comm (pos unit *ℤ setsAmount net plan ss) (pos unit *ℤ nodesAmount net plan s) ∙ sym (mul-addℤ (pos unit) (nodesAmount net plan s) (setsAmount net plan ss)))
 
-  -- ---- a virtual storage's parts, each factor at most m steps
+  -- ---- a virtual storage's parts
 
-  pub data Factors (m : ℕ) : List Part → Type 0 where
-    no-more : Factors m []
-    one-more : {p : Part} {ps : List Part} → Upto g deep m (p .factor) → Factors m ps → Factors m (p ∷ ps)
-
-  pub parts-sum : (m : ℕ) (ps : List Part) → Factors m ps → (b : ℕ) (row : List Element) → AllUpto g deep b row → b + length ps * share m < 2 ^ 53
+  pub parts-sum : {g : ℕ} (m : ℕ) (ps : List Part) → Factors g m ps → (b : ℕ) (row : List Element) → AllUpto g b row → b + length ps * share m < 2 ^ 53
       → rowSum f plan (addParts f ps row) ≡ partsAmount net plan ps +ℤ rowSum f plan row
   unfolding addParts partsAmount
   parts-sum m [] no-more b row us h = sym (+ℤ-idl (rowSum f plan row))
@@ -282,7 +233,7 @@ module _ (g : ℕ) (deep : g ≤ 1074) (net : Network) (plan : Plan) (long : len
       let t : suc (length ps) * share m ≡ length ps * share m + share m = suc-mul (length ps) (share m) in
       let r : ℤ = rowSum f plan row in
       let x : Float = neg (p .factor) in
-      let ux = neg-upto g deep m (p .factor) u in
+      let ux = neg-upto m (p .factor) u in
       let a : ℤ = negℤ (exact (p .factor)) *ℤ nodeAmount net plan (p .node) in
       parts-sum m ps fs (b + share m) (addNode f (p .node) x row) (node-upto (p .node) x m ux b row us (omega arith)) (omega arith)
       ∙ ap (λ (z : ℤ). partsAmount net plan ps +ℤ z) (node-sum (p .node) x m ux b row us (omega arith) ∙ ap (λ (z : ℤ). z *ℤ nodeAmount net plan (p .node) +ℤ r) (exact-neg (p .factor)))
@@ -291,27 +242,27 @@ module _ (g : ℕ) (deep : g ≤ 1074) (net : Network) (plan : Plan) (long : len
 
   -- ---- the rows
 
-  pub aggregate-sum : (a : Aggregate) → listings (a .sets) * share (2 ^ g) < 2 ^ 53 → rowSum f plan (aggregateRow f a) ≡ scaled (setsAmount net plan (a .sets))
+  pub aggregate-sum : (a : Aggregate) → listings (a .sets) * share 1 < 2 ^ 53 → rowSum f plan (aggregateRow f a) ≡ scaled (setsAmount net plan (a .sets))
   unfolding aggregateRow scaled rowSum
   aggregate-sum a h = sets-sum (a .sets) 0 [] AllUpto.none (omega arith) ∙ +ℤ-idr (pos unit *ℤ setsAmount net plan (a .sets)) ∙ *ℤ-comm (pos unit) (setsAmount net plan (a .sets))
 
-  pub storage-sum : (m : ℕ) (v : VirtualStorage) → Factors m (v .parts) → length (v .parts) * share m < 2 ^ 53 → rowSum f plan (virtualStorageRow f v) ≡ partsAmount net plan (v .parts)
+  pub storage-sum : {g : ℕ} (m : ℕ) (v : VirtualStorage) → Factors g m (v .parts) → length (v .parts) * share m < 2 ^ 53 → rowSum f plan (virtualStorageRow f v) ≡ partsAmount net plan (v .parts)
   unfolding virtualStorageRow rowSum
   storage-sum m v fs h = parts-sum m (v .parts) fs 0 [] AllUpto.none (omega arith) ∙ +ℤ-idr (partsAmount net plan (v .parts))
 
-  pub nodeRow-sum : (n : ℕ) → share (2 ^ g) < 2 ^ 53 → rowSum f plan (nodeRow f n) ≡ scaled (nodeAmount net plan n)
+  pub nodeRow-sum : (n : ℕ) → share 1 < 2 ^ 53 → rowSum f plan (nodeRow f n) ≡ scaled (nodeAmount net plan n)
   unfolding nodeRow scaled rowSum
   nodeRow-sum n h =
-      node-sum n one64 (2 ^ g) one-upto 0 [] AllUpto.none (omega arith)
+      node-sum n one64 1 one-upto 0 [] AllUpto.none (omega arith)
       ∙ +ℤ-idr (exact one64 *ℤ nodeAmount net plan n)
       ∙ ap (λ (z : ℤ). z *ℤ nodeAmount net plan n) one-exact
       ∙ *ℤ-comm (pos unit) (nodeAmount net plan n)
 
   -- a mass row: inflow less outflow
-  pub mass-sum : (n : ℕ) → share (2 ^ g) < 2 ^ 53 → rowSum f plan (massRow f n) ≡ scaled (pos (inflow net plan n) -ℤ pos (outflow net plan n))
+  pub mass-sum : (n : ℕ) → share 1 < 2 ^ 53 → rowSum f plan (massRow f n) ≡ scaled (pos (inflow net plan n) -ℤ pos (outflow net plan n))
   unfolding massRow scaled rowSum columnMap
   mass-sum n h =
-      both-sum n one64 (2 ^ g) one-upto 0 [] AllUpto.none (omega arith)
+      both-sum n one64 1 one-upto 0 [] AllUpto.none (omega arith)
       ∙ +ℤ-idr (exact one64 *ℤ (pos (inflow net plan n) -ℤ pos (outflow net plan n)))
       ∙ ap (λ (z : ℤ). z *ℤ (pos (inflow net plan n) -ℤ pos (outflow net plan n))) one-exact
       ∙ *ℤ-comm (pos unit) (pos (inflow net plan n) -ℤ pos (outflow net plan n))

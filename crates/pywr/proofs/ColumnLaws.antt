@@ -1,6 +1,6 @@
 -- The edges of one column are a path or a ring: at most one of them lacks the edge before it in the column, and at most one lacks the edge after it.
 -- `prev` is the incoming edge whose column an edge shares, and no edge is that of two. Assumes nothing.
-use mathlib.Core.Path.{_≡_, refl, sym, ap, _∙_}
+use mathlib.Core.Path.{_≡_, refl, sym, ap, _∙_, subst}
 use mathlib.Core.Logic.{_⊎_, inl, inr, _≢_}
 use Prim.Native.Nat.{ℕ, zero, suc, _+_, _<_, _≤_}
 use native.Mathlib.Decide.{ℕ-discrete}
@@ -34,104 +34,85 @@ module _ {c d : Columns} {e k : ℕ} (g : Grows c d e k) where
       go (yes p) = let q : columnAt c e ≡ some j = rw p at h in let n = g .was in let z : _≡_ {A = ℕ} 0 1 = cc in absurd (omega arith)
       go (no f) = g .rest x f ∙ h
 
-module _ (prev : ℕ → Option ℕ) where
-  -- of an edge that lies in column k: the edge before it, and the edge after it, does not
-  abbrev pub LacksPrev : Columns → ℕ → ℕ → Type 0
-  LacksPrev c k e = (p : ℕ) → prev e ≡ some p → columnAt c p ≡ some k → ⊥
+-- ---- one side of an edge: `Beside e x` says that x is the edge there
 
-  abbrev pub LacksNext : Columns → ℕ → ℕ → Type 0
-  LacksNext c k e = (x : ℕ) → prev x ≡ some e → columnAt c x ≡ some k → ⊥
+module _ (Beside : ℕ → ℕ → Type 0) where
+  -- of an edge that lies in column k: the edge beside it does not
+  abbrev pub Lacks : Columns → ℕ → ℕ → Type 0
+  Lacks c k e = (x : ℕ) → Beside e x → columnAt c x ≡ some k → ⊥
+
+  abbrev pub OneLacks : Columns → Type 0
+  OneLacks c = (a b k : ℕ) → columnAt c a ≡ some k → columnAt c b ≡ some k → Lacks c k a → Lacks c k b → a ≡ b
+
+-- edge e joins the column of p
+module _ {c d : Columns} {e k : ℕ} (p : ℕ) (g : Grows c d e k) (there : columnAt c p ≡ some k) where
+  -- on the side of e where p lies, e lacks nothing
+  near : (Beside : ℕ → ℕ → Type 0) → Beside e p → OneLacks Beside c → OneLacks Beside d
+  near Beside by one a b j ia ib la lb = go (grown g a j ia) (grown g b j ib)
+    where
+      never : (x : ℕ) → (x ≡ e) × (j ≡ k) → Lacks Beside d j x → ⊥
+      never x q l = l p (subst (λ (y : ℕ). Beside y p) (sym (q .0)) by) (kept g p j (there ∙ ap {B = Option ℕ} some (sym (q .1))))
+
+      go : ((a ≡ e) × (j ≡ k)) ⊎ (columnAt c a ≡ some j) → ((b ≡ e) × (j ≡ k)) ⊎ (columnAt c b ≡ some j) → a ≡ b
+      go (inl q) y = absurd (never a q la)
+      go (inr x) (inl q) = absurd (never b q lb)
+      go (inr x) (inr y) = one a b j x y (λ q h i. la q h (kept g q j i)) (λ q h i. lb q h (kept g q j i))
+
+  -- on the side of p where e lies, an old edge of the column that lacks the edge there would be p, which has e
+  far : (Beside : ℕ → ℕ → Type 0) → Beside p e → ((x : ℕ) → Beside p x → x ≡ e) → OneLacks Beside c → OneLacks Beside d
+  far Beside by only one a b j ia ib la lb = go (grown g a j ia) (grown g b j ib)
+    where
+      old : (x : ℕ) → j ≡ k → columnAt c x ≡ some j → Lacks Beside d j x → ⊥
+      old x q i l =
+          let same : x ≡ p =
+          one x p k (i ∙ ap {B = Option ℕ} some q) there (λ y h m. l y h (kept g y j (m ∙ ap {B = Option ℕ} some (sym q))))
+          (λ y h m. let r : y ≡ e = only y h in let m′ : columnAt c e ≡ some k = rw r at m in let w = g .was in let z : _≡_ {A = ℕ} 0 1 = cc in omega arith) in
+          l e (subst (λ (y : ℕ). Beside y e) (sym same) by) (g .now ∙ ap {B = Option ℕ} some (sym q))
+
+      go : ((a ≡ e) × (j ≡ k)) ⊎ (columnAt c a ≡ some j) → ((b ≡ e) × (j ≡ k)) ⊎ (columnAt c b ≡ some j) → a ≡ b
+      go (inl x) (inl y) = x .0 ∙ sym (y .0)
+      go (inl x) (inr y) = absurd (old b (x .1) y lb)
+      go (inr x) (inl y) = absurd (old a (y .1) x la)
+      go (inr x) (inr y) = one a b j x y (λ q h i. la q h (kept g q j i)) (λ q h i. lb q h (kept g q j i))
+
+  under : d .count ≡ c .count → ((x j : ℕ) → columnAt c x ≡ some j → j < c .count) → (x j : ℕ) → columnAt d x ≡ some j → j < d .count
+  under n below x j i = go (grown g x j i)
+    where
+      go : ((x ≡ e) × (j ≡ k)) ⊎ (columnAt c x ≡ some j) → j < d .count
+      go (inl q) = let h = below p k there in let r = q .1 in omega arith
+      go (inr y) = let h = below x j y in omega arith
+
+module _ (prev : ℕ → Option ℕ) where
+  -- the edge before an edge, and the edge after it
+  abbrev pub Before : ℕ → ℕ → Type 0
+  Before e p = prev e ≡ some p
+
+  abbrev pub After : ℕ → ℕ → Type 0
+  After e x = prev x ≡ some e
 
   pub record Paths (c : Columns) : Type 0 where
     pub below : (e k : ℕ) → columnAt c e ≡ some k → k < c .count
-    pub oneHead : (a b k : ℕ) → columnAt c a ≡ some k → columnAt c b ≡ some k → LacksPrev c k a → LacksPrev c k b → a ≡ b
-    pub oneTail : (a b k : ℕ) → columnAt c a ≡ some k → columnAt c b ≡ some k → LacksNext c k a → LacksNext c k b → a ≡ b
+    pub oneHead : OneLacks Before c
+    pub oneTail : OneLacks After c
 
 module _ (prev : ℕ → Option ℕ) (once : (a b p : ℕ) → prev a ≡ some p → prev b ≡ some p → a ≡ b) where
   -- an edge joins the column of the edge before it
-  module _ {c d : Columns} {e k : ℕ} (p : ℕ) (g : Grows c d e k) (n : d .count ≡ c .count) (before : prev e ≡ some p) (there : columnAt c p ≡ some k) (ps : Paths prev c) where
-    next-head : (a b j : ℕ) → columnAt d a ≡ some j → columnAt d b ≡ some j → LacksPrev prev d j a → LacksPrev prev d j b → a ≡ b
-    next-head a b j ia ib la lb = go (grown g a j ia) (grown g b j ib)
-      where
-        never : (x : ℕ) → (x ≡ e) × (j ≡ k) → LacksPrev prev d j x → ⊥
-        never x q l = l p (ap prev (q .0) ∙ before) (kept g p j (there ∙ ap {B = Option ℕ} some (sym (q .1))))
-
-        go : ((a ≡ e) × (j ≡ k)) ⊎ (columnAt c a ≡ some j) → ((b ≡ e) × (j ≡ k)) ⊎ (columnAt c b ≡ some j) → a ≡ b
-        go (inl q) y = absurd (never a q la)
-        go (inr x) (inl q) = absurd (never b q lb)
-        go (inr x) (inr y) = ps .oneHead a b j x y (λ q h i. la q h (kept g q j i)) (λ q h i. lb q h (kept g q j i))
-
-    -- an old edge of the column that lacks the edge after it would be p, which has e
-    only-new : (b : ℕ) → columnAt c b ≡ some k → LacksNext prev d k b → ⊥
-    only-new b ib l =
-        let same : b ≡ p =
-        ps .oneTail b p k ib there (λ x h i. l x h (kept g x k i))
-        (λ x h i. let q : x ≡ e = once x e p h before in let i′ : columnAt c e ≡ some k = rw q at i in let w = g .was in let z : _≡_ {A = ℕ} 0 1 = cc in omega arith) in
-        l e (before ∙ ap {B = Option ℕ} some (sym same)) (g .now)
-
-    next-tail : (a b j : ℕ) → columnAt d a ≡ some j → columnAt d b ≡ some j → LacksNext prev d j a → LacksNext prev d j b → a ≡ b
-    next-tail a b j ia ib la lb = go (grown g a j ia) (grown g b j ib)
-      where
-        old : (x : ℕ) → j ≡ k → columnAt c x ≡ some j → LacksNext prev d j x → ⊥
-        old x q i l = only-new x (i ∙ ap {B = Option ℕ} some q) (λ y h m. l y h (m ∙ ap {B = Option ℕ} some (sym q)))
-
-        go : ((a ≡ e) × (j ≡ k)) ⊎ (columnAt c a ≡ some j) → ((b ≡ e) × (j ≡ k)) ⊎ (columnAt c b ≡ some j) → a ≡ b
-        go (inl x) (inl y) = x .0 ∙ sym (y .0)
-        go (inl x) (inr y) = absurd (old b (x .1) y lb)
-        go (inr x) (inl y) = absurd (old a (y .1) x la)
-        go (inr x) (inr y) = ps .oneTail a b j x y (λ q h i. la q h (kept g q j i)) (λ q h i. lb q h (kept g q j i))
-
-    next-below : (x j : ℕ) → columnAt d x ≡ some j → j < d .count
-    next-below x j i = go (grown g x j i)
-      where
-        go : ((x ≡ e) × (j ≡ k)) ⊎ (columnAt c x ≡ some j) → j < d .count
-        go (inl q) = let h = ps .below p k there in let r = q .1 in omega arith
-        go (inr y) = let h = ps .below x j y in omega arith
-
-    pub join-next : Paths prev d
-    join-next = record { below = next-below; oneHead = next-head; oneTail = next-tail }
+  pub join-next : {c d : Columns} {e k : ℕ} (p : ℕ) → Grows c d e k → d .count ≡ c .count → prev e ≡ some p → columnAt c p ≡ some k → Paths prev c → Paths prev d
+  join-next {e} p g n before there ps =
+      record {
+        below = under p g there n (ps .below);
+        oneHead = near p g there (Before prev) before (ps .oneHead);
+        oneTail = far p g there (After prev) before (λ x h. once x e p h before) (ps .oneTail);
+      }
 
   -- the edge before an edge joins its column
-  module _ {c d : Columns} {p k : ℕ} (e : ℕ) (g : Grows c d p k) (n : d .count ≡ c .count) (before : prev e ≡ some p) (there : columnAt c e ≡ some k) (ps : Paths prev c) where
-    prev-tail : (a b j : ℕ) → columnAt d a ≡ some j → columnAt d b ≡ some j → LacksNext prev d j a → LacksNext prev d j b → a ≡ b
-    prev-tail a b j ia ib la lb = go (grown g a j ia) (grown g b j ib)
-      where
-        never : (x : ℕ) → (x ≡ p) × (j ≡ k) → LacksNext prev d j x → ⊥
-        never x q l = l e (before ∙ ap {B = Option ℕ} some (sym (q .0))) (kept g e j (there ∙ ap {B = Option ℕ} some (sym (q .1))))
-
-        go : ((a ≡ p) × (j ≡ k)) ⊎ (columnAt c a ≡ some j) → ((b ≡ p) × (j ≡ k)) ⊎ (columnAt c b ≡ some j) → a ≡ b
-        go (inl q) y = absurd (never a q la)
-        go (inr x) (inl q) = absurd (never b q lb)
-        go (inr x) (inr y) = ps .oneTail a b j x y (λ q h i. la q h (kept g q j i)) (λ q h i. lb q h (kept g q j i))
-
-    only-old : (b : ℕ) → columnAt c b ≡ some k → LacksPrev prev d k b → ⊥
-    only-old b ib l =
-        let same : b ≡ e =
-        ps .oneHead b e k ib there (λ x h i. l x h (kept g x k i))
-        (λ x h i. let q : some x ≡ some p = sym h ∙ before in let w = g .was in let q′ : x ≡ p = cc in let i′ : columnAt c p ≡ some k = rw q′ at i in let z : _≡_ {A = ℕ} 0 1 = cc in omega arith) in
-        l p (ap prev same ∙ before) (g .now)
-
-    prev-head : (a b j : ℕ) → columnAt d a ≡ some j → columnAt d b ≡ some j → LacksPrev prev d j a → LacksPrev prev d j b → a ≡ b
-    prev-head a b j ia ib la lb = go (grown g a j ia) (grown g b j ib)
-      where
-        old : (x : ℕ) → j ≡ k → columnAt c x ≡ some j → LacksPrev prev d j x → ⊥
-        old x q i l = only-old x (i ∙ ap {B = Option ℕ} some q) (λ y h m. l y h (m ∙ ap {B = Option ℕ} some (sym q)))
-
-        go : ((a ≡ p) × (j ≡ k)) ⊎ (columnAt c a ≡ some j) → ((b ≡ p) × (j ≡ k)) ⊎ (columnAt c b ≡ some j) → a ≡ b
-        go (inl x) (inl y) = x .0 ∙ sym (y .0)
-        go (inl x) (inr y) = absurd (old b (x .1) y lb)
-        go (inr x) (inl y) = absurd (old a (y .1) x la)
-        go (inr x) (inr y) = ps .oneHead a b j x y (λ q h i. la q h (kept g q j i)) (λ q h i. lb q h (kept g q j i))
-
-    prev-below : (x j : ℕ) → columnAt d x ≡ some j → j < d .count
-    prev-below x j i = go (grown g x j i)
-      where
-        go : ((x ≡ p) × (j ≡ k)) ⊎ (columnAt c x ≡ some j) → j < d .count
-        go (inl q) = let h = ps .below e k there in let r = q .1 in omega arith
-        go (inr y) = let h = ps .below x j y in omega arith
-
-    pub join-prev : Paths prev d
-    join-prev = record { below = prev-below; oneHead = prev-head; oneTail = prev-tail }
+  pub join-prev : {c d : Columns} {p k : ℕ} (e : ℕ) → Grows c d p k → d .count ≡ c .count → prev e ≡ some p → columnAt c e ≡ some k → Paths prev c → Paths prev d
+  join-prev {p} e g n before there ps =
+      record {
+        below = under e g there n (ps .below);
+        oneHead = far e g there (Before prev) before (λ x h. let q : some x ≡ some p = sym h ∙ before in cc) (ps .oneHead);
+        oneTail = near e g there (After prev) before (ps .oneTail);
+      }
 
   -- an edge takes a new column
   module _ {c d : Columns} {e : ℕ} (g : Grows c d e (c .count)) (n : d .count ≡ suc (c .count)) (ps : Paths prev c) where

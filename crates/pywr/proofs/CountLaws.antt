@@ -8,13 +8,13 @@ use mathlib.Core.List.{List, [], _∷_}
 use lib.ListN.{length, length-append}
 use lib.Dec.{T, not-T, eqb, leb, eqb→eq, leb→le}
 use lib.Ieee.Fits.{and-l}
+use Rattle.laws.proofs.Tests.{cond-no, by-cases, cond-yes}
 use Rattle.pywr.specs.Network.{Node, Network, keepIf}
 use Rattle.pywr.specs.ExclusiveSets.{exclusiveSets, timesIn, setsListing}
 use Rattle.pywr.specs.Rows.{ColumnMap, columnMap}
 use Rattle.pywr.specs.Programme.{Programme}
 use Rattle.pywr.specs.VaryingRows.{exclusiveRequests, requestsBySets, requestsFrom}
 use Rattle.pywr.specs.Build.{elementCount, underCeilings}
-use Rattle.pywr.proofs.BoundLaws.{cond-no, by-cases, cond-yes}
 use Rattle.pywr.proofs.AmountLaws.{listings}
 use Rattle.pywr.proofs.ListLaws.{AllMem}
 use Rattle.pywr.proofs.ListingLaws.{set-from}

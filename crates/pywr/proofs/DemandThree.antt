@@ -10,32 +10,32 @@ use lib.ListN.{length, length-map}
 use lib.Dec.{T, T-not, leb, leb→le}
 use lib.Ieee.{Float}
 use lib.Ieee.Fits.{and-l, and-r}
+use Rattle.laws.proofs.Tests.{or-elim, same-test, of-true}
 use Rattle.pywr.specs.declared.Sentinel.{Sentinel}
 use Rattle.pywr.specs.Result.{value, Result, refused, need}
 use Rattle.pywr.specs.Network.{Node, Period, VirtualStorage, Network, isExclusive}
 use Rattle.pywr.specs.NetworkFile.{parseNetwork}
 use Rattle.pywr.specs.Rows.{columnMap}
-use Rattle.pywr.specs.Programme.{Row, Programme, Built}
+use Rattle.pywr.specs.Programme.{Programme, Built}
 use Rattle.pywr.specs.Build.{nodeShape, placedStorages, assemble, programmeOf, underCeilings, build}
 use Rattle.pywr.specs.StepFile.{StepFile, readStep}
 use Rattle.pywr.specs.StepIntervals.{intervals, Intervals}
-use Rattle.pywr.specs.Step.{periodOf, stepRows, periods}
-use Rattle.pywr.specs.Store.{Store, storeHasRoom, programmeIn}
+use Rattle.pywr.specs.Step.{periodOf, stepRows, periods, stepped}
+use Rattle.pywr.specs.Store.{Store, storeHasRoom}
 use Rattle.pywr.specs.Written.{builtStore}
-use Rattle.pywr.specs.Calls.{wordsNeeded, numbersNeeded, buildRoom, buildAnswer, storeOfBuild, buildStore, isAccepted}
+use Rattle.pywr.specs.Calls.{wordsNeeded, numbersNeeded, buildRoom, buildAnswer, storeOfBuild, buildStore, storeOfStep, isAccepted}
 use Rattle.pywr.specs.Plans.{Plan}
 use Rattle.pywr.specs.Allows.{allows}
 use Rattle.pywr.specs.Admits.{admits}
 use Rattle.pywr.specs.Correspondence.{storeAfter, Report, reports, lastAccepted, periodsOf, readBy, allowsRead, allowsUnder, networkAllows, programmeAdmits, exclusiveConstant, factorsWhole, anyAccepted, Correspondence}
-use Rattle.pywr.proofs.BoundLaws.{or-elim}
-use Rattle.pywr.proofs.Represents.{Roomy, ProgrammeFits, built-represents, programme-back}
-use Rattle.pywr.proofs.RunLaws.{bind-value, need-value, SameElements, Like, Holding, rowsUnder, Settled, Under, run}
-use Rattle.pywr.proofs.ListLaws.{truth, of-true, all-at}
+use Rattle.pywr.proofs.Represents.{Represents, Roomy, programme-back}
+use Rattle.pywr.proofs.RunLaws.{stepped-lowers, stepped-uppers, after, after-held, bind-value, need-value, Reached, run}
+use Rattle.pywr.proofs.ListLaws.{all-at}
 use Rattle.pywr.proofs.ReadLaws.{same-value, need-test, Sound, read-sound}
 use Rattle.pywr.proofs.StepReadLaws.{StepSound, step-sound, IntervalsOk, intervals-sound}
-use Rattle.pywr.proofs.FitLaws.{OnlyConstant, only-continuous, programme-fits, aggregates-length, forStorages, lengthV}
-use Rattle.pywr.proofs.CountLaws.{sets-under, requests-few}
+use Rattle.pywr.proofs.FitLaws.{OnlyConstant, aggregates-length, forStorages, lengthV}
 use Rattle.pywr.proofs.StepMeets.{step-meets}
+use Rattle.pywr.proofs.WellShaped.{held}
 
 -- ---- an accepted build
 
@@ -70,7 +70,7 @@ roomy-parts s h =
       shape = leb→le 19723 (length (s .shape)) (and-r (a && b && c && d && e && f && g && i) j h);
     }
 
-accepted-value : {A : Type 0} (r : Result A) → isAccepted r ≡ true → (x : A) × (r ≡ value x)
+pub accepted-value : {A : Type 0} (r : Result A) → isAccepted r ≡ true → (x : A) × (r ≡ value x)
 unfolding isAccepted
 accepted-value (value x) e = (x, refl)
 accepted-value (refused n p) e = let z : _≡_ {A = ℕ} 0 1 = cc in absurd (omega arith)
@@ -99,6 +99,11 @@ build-accepted s net old file words numbers parsed e =
       under = need-test (underCeilings (columnMap net) (programmeOf s net .programme)) 11 0 (programmeOf s net) (v .0) c;
       store = ap (storeOfBuild old) (v .1) ∙ ap (builtStore old) (sym (need-value _ 11 0 (programmeOf s net) (v .0) c));
     }
+
+-- its store holds the network's programme
+pub build-represents : (s : Sentinel) (net : Network) (old : Store) (file : List ℕ) (words : List ℕ) (numbers : List Float) → Sound net → BuildAccepted s net old file words numbers
+    → Represents (buildStore s file old words numbers) (programmeOf s net)
+build-represents s net old file words numbers sound built = subst (λ (t : Store). Represents t (programmeOf s net)) (sym (built .store)) (held s net sound old (built .room) (built .under))
 
 -- ---- the last accepted file
 
@@ -155,53 +160,39 @@ only-constant net e i x h t =
     let r = subst (λ (k : ℕ). T (test k x)) (zero-add i) (all-at test (net .nodes) 0 .0 (of-true _ e) i x h) in
     or-elim (not (isExclusive (net .aggregates) i)) (x .constant) r (λ u. absurd (T-not (isExclusive (net .aggregates) i) u t)) (λ u. u)
 
-like-self : (b : Built) → Like b b
-like-self b = record { shape = refl; sentinel = refl; count = refl; lowers = refl; uppers = refl; fixed = refl; varying = same-self (b .programme .varying) }
-  where
-    same-self : (rows : List Row) → SameElements rows rows
-    same-self [] = SameElements.none
-    same-self (x ∷ xs) = SameElements.more refl (same-self xs)
-
 module _ (s : Sentinel) (net : Network) (sound : Sound net) (only : OnlyConstant net) (whole : T (factorsWhole net)) (plan : Plan) where
   abbrev b : Built
   b = programmeOf s net
 
   -- under one accepted file
-  settled-meets : (file : List ℕ) (store : Store) → Under b (some file) store → admits (columnMap net) (programmeIn store) plan ≡ allowsRead s net (readBy net file) plan
-  unfolding Settled rowsUnder allowsRead readBy programmeOf assemble
-  settled-meets file store u =
-      let h : Holding b store = u .holding in
-      let p : Programme = h .now .programme in
-      let f : StepFile = u .settled .0 in
-      let read : readBy net file ≡ value f = sym (read-alike s net plan file) ∙ u .settled .1 in
+  file-meets : (file : List ℕ) (f : StepFile) → readBy net file ≡ value f → admits (columnMap net) (stepped (b .shape) f (b .programme)) plan ≡ allowsRead s net (readBy net file) plan
+  unfolding allowsRead readBy programmeOf assemble stepped
+  file-meets file f read =
+      let p : Programme = stepped (b .shape) f (b .programme) in
       let i : Intervals = intervals s (periodsOf net) f in
       let long : length (periodsOf net) ≡ length (net .virtualStorages) = periods-length net in
       let ok : IntervalsOk (length (net .aggregates)) (length (net .virtualStorages)) i =
       subst (λ (k : ℕ). IntervalsOk (length (net .aggregates)) k i) long
       (intervals-sound s (periodsOf net) (length (net .aggregates)) f (subst (λ (k : ℕ). StepSound (length (net .aggregates)) k f) (sym long) (step-sound _ (length (net .aggregates)) (length (net .virtualStorages)) file f read))) in
-      let varying = u .settled .2 ∙ ap (λ (q : List Period). stepRows s (b .shape) (intervals s q f) (b .programme .varying)) (periods-are s net plan) in
-      ap (λ (q : Programme). admits (columnMap net) q plan) (programme-back store (h .now) (h .held))
-      ∙ truth (admits (columnMap net) p plan) (allows s net i plan) (step-meets s net sound only whole plan i ok p (h .like .sentinel) (h .like .lowers) (h .like .uppers) varying (h .like .fixed))
+      same-test (admits (columnMap net) p plan) (allows s net i plan)
+      (step-meets s net sound only whole plan i ok p refl (stepped-lowers (b .shape) f (b .programme)) (stepped-uppers (b .shape) f (b .programme))
+      (ap (λ (q : List Period). stepRows s (b .shape) (intervals s q f) (b .programme .varying)) (periods-are s net plan)) refl)
       ∙ sym (ap (λ (r : Result StepFile). allowsRead s net r plan) read)
 
 -- "the programme admits each flow plan exactly when the network allows that plan under the last accepted step"
 pub correspondence : Correspondence
-unfolding programmeAdmits networkAllows allowsUnder Settled
+unfolding programmeAdmits networkAllows allowsUnder Reached
 correspondence networkFile s old words numbers net parsed accepted constant whole calls any plan =
     let sound : Sound net = read-sound networkFile net parsed in
-    let only : OnlyConstant net = only-constant net constant in
     let built = build-accepted s net old networkFile words numbers parsed accepted in
     let b : Built = programmeOf s net in
-    let fits : ProgrammeFits b = programme-fits s net plan (sound .good) (requests-few net (sound .good) (sets-under net (programmeOf s net .programme) (built .under))) (built .under) in
-    let start : Under b none (builtStore old b) = record { holding = record { now = b; held = built-represents old b (built .room) fits; like = like-self b }; settled = tt } in
-    let last = run b (only-continuous s net only) calls (builtStore old b) none start in
-    let ts : List Report = reports (builtStore old b) calls in
-    let any′ : T (anyAccepted ts) = of-true (anyAccepted ts) (ap (λ (q : Store). anyAccepted (reports q calls)) (sym (built .store)) ∙ any) in
-    let file = last-some ts none any′ in
-    let u : Under b (some (file .0)) (storeAfter (builtStore old b) calls) = subst (λ (o : Option (List ℕ)). Under b o (storeAfter (builtStore old b) calls)) (file .1) last in
-    let meet : admits (columnMap net) (programmeIn (storeAfter (builtStore old b) calls)) plan ≡ allowsRead s net (readBy net (file .0)) plan = settled-meets s net sound only (of-true (factorsWhole net) whole) plan (file .0) (storeAfter (builtStore old b) calls) u in
-    let left : programmeAdmits (parseNetwork networkFile) (storeAfter (buildStore s networkFile old words numbers) calls) plan ≡ admits (columnMap net) (programmeIn (storeAfter (builtStore old b) calls)) plan =
-    ap₂ (λ (r : Result Network) (q : Store). programmeAdmits r (storeAfter q calls) plan) parsed (built .store) in
-    let right : networkAllows (parseNetwork networkFile) s (reports (buildStore s networkFile old words numbers) calls) plan ≡ allowsRead s net (readBy net (file .0)) plan =
-    ap₂ (λ (r : Result Network) (q : Store). networkAllows r s (reports q calls) plan) parsed (built .store) ∙ ap (λ (o : Option (List ℕ)). allowsUnder s net o plan) (file .1) in
-    left ∙ meet ∙ sym right
+    let store : Store = buildStore s networkFile old words numbers in
+    let held : Represents store b = build-represents s net old networkFile words numbers sound built in
+    let ts : List Report = reports store calls in
+    let file = last-some ts none (of-true (anyAccepted ts) any) in
+    let u : Reached store b held (some (file .0)) (storeAfter store calls) = subst (λ (o : Option (List ℕ)). Reached store b held o (storeAfter store calls)) (file .1) (run store b held calls store none refl) in
+    let read : readBy net (file .0) ≡ value (u .0) = sym (read-alike s net plan (file .0)) ∙ u .1 in
+    ap₂ (λ (r : Result Network) (q : Store). programmeAdmits r q plan) parsed (u .2)
+    ∙ ap (λ (p : Programme). admits (columnMap net) p plan) (programme-back (storeOfStep store (value (u .0))) (after store b held (u .0)) (after-held store b held (u .0)))
+    ∙ file-meets s net sound (only-constant net constant) (of-true (factorsWhole net) whole) plan (file .0) (u .0) read
+    ∙ sym (ap (λ (r : Result Network). networkAllows r s ts plan) parsed ∙ ap (λ (o : Option (List ℕ)). allowsUnder s net o plan) (file .1))

@@ -10,6 +10,7 @@ use mathlib.Core.List.{List, [], _∷_}
 use mathlib.Core.Option.{Option, none, some, Option·getD}
 use lib.ListN.{length, getD, getElem?, length-replicate}
 use lib.Dec.{T, eqb, ltb, eqb→eq, eqb-refl, lt→ltb}
+use Rattle.laws.proofs.Tests.{cond-yes}
 use Rattle.pywr.specs.Network.{link, Edge, Network, kindOf, keepIf, source, target, edgesWith, incoming, outgoing}
 use Rattle.pywr.specs.ColEdgeMap.{columns, Columns, columnAt, put, putNew, addSimpleEdge, addEqualEdges, sharesWith, placeEdge, placeEdges, MappedEdge, withColumns, mappedEdges}
 use Rattle.pywr.specs.Rows.{columnMap}
@@ -19,7 +20,6 @@ use Rattle.pywr.specs.Admits.{carried, onColumn}
 use Rattle.pywr.proofs.ColumnLaws.{Grows, kept, put-grows, new-grows, put-length, new-length, Inside, start, Even}
 use Rattle.pywr.proofs.LinkLaws.{exit-is, own-share, prevOf, NoSelf, prev-inside, Shares, shares, columns-even}
 use Rattle.pywr.proofs.AmountLaws.{Carries}
-use Rattle.pywr.proofs.BoundLaws.{cond-yes}
 
 some-inj : (x y : MappedEdge) → some x ≡ some y → x ≡ y
 some-inj x y h = cc

@@ -12,6 +12,7 @@ use lib.ListN.{length, getElem?, replicate, length-append, length-map, length-re
 use lib.Dec.{T, eqb, T-not, not-T, leb, le→leb, leb→le}
 use lib.Ieee.{Float, neg}
 use lib.Ieee.Fits.{and-l, and-r}
+use Rattle.laws.proofs.Tests.{to-true, to-false}
 use Rattle.pywr.specs.declared.Sentinel.{Sentinel}
 use Rattle.pywr.specs.Numbers.{one64}
 use Rattle.pywr.specs.Network.{output, storage, Node, Edge, Aggregate, Part, VirtualStorage, Network, kindOf, isExclusive}
@@ -30,16 +31,11 @@ use Rattle.pywr.proofs.AmountLaws.{pipes-length}
 use Rattle.pywr.proofs.JoinLaws.{AllFit, add-fit, add-on-fit, RowsFit, Placed, JoinKept, joins-kept, placed-stays}
 use Rattle.pywr.proofs.RowsBack.{Typed}
 use Rattle.pywr.proofs.Represents.{ProgrammeFits}
-use Rattle.pywr.proofs.RunLaws.{Continuous}
-use Rattle.pywr.proofs.VaryingLaws.{node-places}
+use Rattle.pywr.proofs.VaryingLaws.{Continuous, node-places}
 use Rattle.pywr.proofs.MassLaws.{Every}
-use Rattle.pywr.proofs.ListLaws.{to-true, each-of}
+use Rattle.pywr.proofs.ListLaws.{each-of}
 use Rattle.pywr.proofs.ListingLaws.{unlisted}
 use Rattle.pywr.proofs.ReadLaws.{Good}
-
-pub to-false : (b : Bool) → T (not b) → b ≡ false
-to-false true t = absurd t
-to-false false t = refl
 
 -- ---- the columns' table: as long as the edges, and no more columns than edges
 

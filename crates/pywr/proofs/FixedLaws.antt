@@ -14,6 +14,7 @@ use lib.Signed.{leZ}
 use lib.Dec.{T, T-not, not-T, eqb, leb, le→leb, lit<}
 use lib.Ieee.{Float, neg, eq, le, lt, ofBits}
 use lib.Ieee.Fits.{and-i, and-l, and-r}
+use Rattle.doubles.proofs.Integers.{difference-le}
 use Rattle.pywr.specs.declared.Sentinel.{Sentinel}
 use Rattle.pywr.specs.declared.Sentinel.the-variants.{Infinity, Largest}
 use Rattle.pywr.specs.declared.Interval.{Interval}
@@ -29,7 +30,8 @@ use Rattle.pywr.specs.Plans.{exact, meets, Plan, unit, signed, isFinite,
 use Rattle.pywr.specs.Allows.{nodeAmount, onAmount, exclusiveMeets, onCount}
 use Rattle.pywr.specs.Admits.{onColumn, rowSum, columnMet}
 use Rattle.pywr.proofs.SumLaws.{AllUpto}
-use Rattle.pywr.proofs.AmountLaws.{Carries, node-sum, neg-upto, one-upto, one-exact, exact-neg, nodeRow-sum}
+use Rattle.pywr.proofs.AmountLaws.{Carries, node-sum, neg-upto, one-upto, one-exact, nodeRow-sum}
+use Rattle.pywr.proofs.ExactLaws.{exact-neg}
 use Rattle.pywr.proofs.EvenLaws.{mapped-edge-of}
 use Rattle.pywr.proofs.MassLaws.{Every, every-append, Met}
 use Rattle.pywr.proofs.ExclusiveLaws.{Under, under-add, coefficient-sum}
@@ -38,7 +40,8 @@ use Rattle.pywr.proofs.ListLaws.{AllMem, all-none, all-cons, found-mem,
 use Rattle.pywr.proofs.ListingLaws.{exclusive-lists, exclusive-listed, listing-exclusive, from-known}
 use Rattle.pywr.proofs.ReadLaws.{Sound}
 use Rattle.pywr.proofs.FitLaws.{columns-long}
-use Rattle.pywr.proofs.CoefficientLaws.{diff-order, nonneg-scaled, scaled-less, less-scaled, on-scaled, on-neg, zero-up, FiniteFit, upper-finite, lower-finite, count-met}
+use Rattle.pywr.proofs.NumberLaws.{FiniteFit}
+use Rattle.pywr.proofs.CoefficientLaws.{nonneg-scaled, scaled-less, less-scaled, on-scaled, on-neg, zero-up, upper-finite, lower-finite, count-met}
 
 -- ---- a node's row stays under the edge columns
 
@@ -98,7 +101,7 @@ module _ (w : Sentinel) (net : Network) (sound : Sound net) (plan : Plan) (carri
   room = let e = sound .good .edgeCount in let a : E * 1 + E * 1 ≤ 1024 = omega arith in lt-of-le-of-lt a (lit< tt)
 
   pub node-amount : (n : ℕ) → rowSum f plan (nodeRow f n) ≡ scaled (nodeAmount net plan n)
-  node-amount n = nodeRow-sum 0 zero-le net plan (columns-long net) carries n room
+  node-amount n = nodeRow-sum net plan (columns-long net) carries n room
 
   node-under : (n : ℕ) (x : Float) → Under (columnMap net .edgeColumns) (addNode f n x [])
   unfolding addNode columnMap columnsInto columnsOutOf
@@ -129,69 +132,69 @@ module _ (w : Sentinel) (net : Network) (sound : Sound net) (plan : Plan) (carri
   plus-node : (n : ℕ) → rowSum f plan (addNode f n one64 []) ≡ pos unit *ℤ nodeAmount net plan n +ℤ pos 0
   unfolding rowSum
   plus-node n =
-      node-sum 0 zero-le net plan (columns-long net) carries n one64 1 (one-upto 0 zero-le net plan (columns-long net) carries) 0 [] AllUpto.none (let r = room in omega arith)
-      ∙ ap (λ (z : ℤ). z *ℤ nodeAmount net plan n +ℤ pos 0) (one-exact 0 zero-le net plan (columns-long net) carries)
+      node-sum net plan (columns-long net) carries n one64 1 one-upto 0 [] AllUpto.none (let r = room in omega arith)
+      ∙ ap (λ (z : ℤ). z *ℤ nodeAmount net plan n +ℤ pos 0) one-exact
 
   minus-node : (n : ℕ) → rowSum f plan (addNode f n (neg one64) []) ≡ negℤ (pos unit) *ℤ nodeAmount net plan n +ℤ pos 0
   unfolding rowSum
   minus-node n =
-      node-sum 0 zero-le net plan (columns-long net) carries n (neg one64) 1 (neg-upto 0 zero-le 1 one64 (one-upto 0 zero-le net plan (columns-long net) carries)) 0 [] AllUpto.none (let r = room in omega arith)
-      ∙ ap (λ (z : ℤ). z *ℤ nodeAmount net plan n +ℤ pos 0) (exact-neg one64 ∙ ap negℤ (one-exact 0 zero-le net plan (columns-long net) carries))
+      node-sum net plan (columns-long net) carries n (neg one64) 1 (neg-upto 1 one64 one-upto) 0 [] AllUpto.none (let r = room in omega arith)
+      ∙ ap (λ (z : ℤ). z *ℤ nodeAmount net plan n +ℤ pos 0) (exact-neg one64 ∙ ap negℤ one-exact)
 
   above-zero : (v : ℤ) (a b : ℤ) → v ≡ scaled (a -ℤ b) → T (meets w (record { lower = zero64; upper = high w }) v) ↔ T (leZ b a)
   above-zero v a b e =
       let z = zero-up w v in
-      let s = nonneg-scaled (a -ℤ b) in
-      let d = diff-order a b in
-      (λ h. d .0 (s .0 (subst (λ (y : ℤ). T (leZ (pos 0) y)) e (z .0 h))), λ h. z .1 (subst (λ (y : ℤ). T (leZ (pos 0) y)) (sym e) (s .1 (d .1 h))))
+      let same : leZ (pos 0) v ≡ leZ b a = ap (leZ (pos 0)) e ∙ nonneg-scaled (a -ℤ b) ∙ difference-le b a in
+      (λ h. subst T same (z .0 h), λ h. z .1 (subst T (sym same) h))
 
   -- "at most min(max, 1e6) when on and 0 when off"
-  upper-met : (n k : ℕ) (x : Node) → FiniteFit (lesser (x .max) million) → Met w f plan (record { lower = zero64; upper = high w; elements = upperRow f n k (upperCoefficient (x .max)) }) ↔ T (leZ (nodeAmount net plan n) (onAmount (onSet k) (lesser (x .max) million)))
+  upper-met : (n k : ℕ) (max : Float) → FiniteFit (lesser max million) → Met w f plan (record { lower = zero64; upper = high w; elements = upperRow f n k (upperCoefficient max) }) ↔ T (leZ (nodeAmount net plan n) (onAmount (onSet k) (lesser max million)))
   unfolding upperRow upperCoefficient
-  upper-met n k x ok =
-      let c : Float = lesser (x .max) million in
+  upper-met n k max ok =
+      let c : Float = lesser max million in
       above-zero (rowSum f plan (addElement (f .edgeColumns + k) c (addNode f n (neg one64) []))) (onAmount (onSet k) c) (nodeAmount net plan n)
       (with-coefficient n k (neg one64) c ok ∙ ap (λ (z : ℤ). scaled (onAmount (onSet k) c) +ℤ z) (minus-node n) ∙ scaled-less (onAmount (onSet k) c) (nodeAmount net plan n))
 
   -- "at least max(min, 1e-6) when on and 0 when off"
-  lower-met : (n k : ℕ) (x : Node) → FiniteFit (neg (greater (x .min) millionth)) → Met w f plan (record { lower = zero64; upper = high w; elements = lowerRow f n k (lowerCoefficient (x .min)) }) ↔ T (leZ (onAmount (onSet k) (greater (x .min) millionth)) (nodeAmount net plan n))
+  lower-met : (n k : ℕ) (min : Float) → FiniteFit (neg (greater min millionth)) → Met w f plan (record { lower = zero64; upper = high w; elements = lowerRow f n k (lowerCoefficient min) }) ↔ T (leZ (onAmount (onSet k) (greater min millionth)) (nodeAmount net plan n))
   unfolding lowerRow lowerCoefficient
-  lower-met n k x ok =
-      let c : Float = greater (x .min) millionth in
+  lower-met n k min ok =
+      let c : Float = greater min millionth in
       above-zero (rowSum f plan (addElement (f .edgeColumns + k) (neg c) (addNode f n one64 []))) (nodeAmount net plan n) (onAmount (onSet k) c)
       (with-coefficient n k one64 (neg c) ok
       ∙ ap₂ (λ (y z : ℤ). scaled y +ℤ z) (on-neg (onSet k) c) (plus-node n)
       ∙ less-scaled (onAmount (onSet k) c) (nodeAmount net plan n))
 
-  abbrev Rule : ℕ → ℕ → Node → Type 0
-  Rule n k x = T (exclusiveMeets (onSet k) (bounds x) (nodeAmount net plan n))
+  abbrev Rule : ℕ → ℕ → Interval → Type 0
+  Rule n k i = T (exclusiveMeets (onSet k) i (nodeAmount net plan n))
 
   omitted : (b c : Bool) (r : Row) → Met w f plan r ↔ T c → Every (Met w f plan) (cond b [] (r ∷ [])) ↔ T (b || c)
   omitted true c r h = (λ k. tt, λ k. tt)
   omitted false c r h = (λ k. h .0 (k .0), λ k. (h .1 k, tt))
 
-  one-set : (n k : ℕ) (x : Node) → FiniteFit (lesser (x .max) million) → FiniteFit (neg (greater (x .min) millionth))
-      → Every (Met w f plan) (record { lower = zero64; upper = high w; elements = upperRow f n k (upperCoefficient (x .max)) } ∷ cond (eq (x .min) zero64) [] (record { lower = zero64; upper = high w; elements = lowerRow f n k (lowerCoefficient (x .min)) } ∷ [])) ↔ Rule n k x
+  -- an exclusive node's rows for one set, whatever its interval
+  one-set : (n k : ℕ) (i : Interval) → FiniteFit (lesser (i .upper) million) → FiniteFit (neg (greater (i .lower) millionth))
+      → Every (Met w f plan) (record { lower = zero64; upper = high w; elements = upperRow f n k (upperCoefficient (i .upper)) } ∷ cond (eq (i .lower) zero64) [] (record { lower = zero64; upper = high w; elements = lowerRow f n k (lowerCoefficient (i .lower)) } ∷ [])) ↔ Rule n k i
   unfolding exclusiveMeets
-  one-set n k x fu fl =
-      let a : Bool = leZ (nodeAmount net plan n) (onAmount (onSet k) (lesser (x .max) million)) in
-      let c : Bool = leZ (onAmount (onSet k) (greater (x .min) millionth)) (nodeAmount net plan n) in
-      let b : Bool = eq (x .min) zero64 || c in
-      let u = upper-met n k x fu in
-      let l = omitted (eq (x .min) zero64) c (record { lower = zero64; upper = high w; elements = lowerRow f n k (lowerCoefficient (x .min)) }) (lower-met n k x fl) in
+  one-set n k i fu fl =
+      let a : Bool = leZ (nodeAmount net plan n) (onAmount (onSet k) (lesser (i .upper) million)) in
+      let c : Bool = leZ (onAmount (onSet k) (greater (i .lower) millionth)) (nodeAmount net plan n) in
+      let b : Bool = eq (i .lower) zero64 || c in
+      let u = upper-met n k (i .upper) fu in
+      let l = omitted (eq (i .lower) zero64) c (record { lower = zero64; upper = high w; elements = lowerRow f n k (lowerCoefficient (i .lower)) }) (lower-met n k (i .lower) fl) in
       (λ h. and-i a b (u .0 (h .0)) (l .0 (h .1)), λ h. (u .1 (and-l a b h), l .1 (and-r a b h)))
 
   exclusive-met : (n : ℕ) (x : Node) → FiniteFit (lesser (x .max) million) → FiniteFit (neg (greater (x .min) millionth)) → (ks : List ℕ)
-      → Every (Met w f plan) (exclusiveRows w f n x ks) ↔ ((k : ℕ) → List·Memᴰ k ks → Rule n k x)
+      → Every (Met w f plan) (exclusiveRows w f n x ks) ↔ ((k : ℕ) → List·Memᴰ k ks → Rule n k (bounds x))
   unfolding exclusiveRows
   exclusive-met n x fu fl [] = (λ h k m. absurd (List·Memᴰ·not-nil m), λ h. tt)
   exclusive-met n x fu fl (k ∷ ks) =
       both (every-append (Met w f plan) (record { lower = zero64; upper = high w; elements = upperRow f n k (upperCoefficient (x .max)) } ∷ cond (eq (x .min) zero64) [] (record { lower = zero64; upper = high w; elements = lowerRow f n k (lowerCoefficient (x .min)) } ∷ [])) (exclusiveRows w f n x ks))
-      (one-set n k x fu fl) (exclusive-met n x fu fl ks)
+      (one-set n k (bounds x) fu fl) (exclusive-met n x fu fl ks)
     where
-      both : {P Q R : Type 0} → R ↔ (P × Q) → P ↔ Rule n k x → Q ↔ ((j : ℕ) → List·Memᴰ j ks → Rule n j x) → R ↔ ((j : ℕ) → List·Memᴰ j (k ∷ ks) → Rule n j x)
+      both : {P Q R : Type 0} → R ↔ (P × Q) → P ↔ Rule n k (bounds x) → Q ↔ ((j : ℕ) → List·Memᴰ j ks → Rule n j (bounds x)) → R ↔ ((j : ℕ) → List·Memᴰ j (k ∷ ks) → Rule n j (bounds x))
       both cut one rest = (
-        λ h. let r = cut .0 h in all-cons (λ (j : ℕ). Rule n j x) k ks (one .0 (r .0)) (rest .0 (r .1)),
+        λ h. let r = cut .0 h in all-cons (λ (j : ℕ). Rule n j (bounds x)) k ks (one .0 (r .0)) (rest .0 (r .1)),
         λ h. cut .1 (one .1 (h k (List·Memᴰ·head refl)), rest .1 (λ j m. h j (List·Memᴰ·tail m))),
       )
 
@@ -199,7 +202,7 @@ module _ (w : Sentinel) (net : Network) (sound : Sound net) (plan : Plan) (carri
 
   pub record ConstantMet (n : ℕ) (x : Node) : Type 0 where
     pub plain : T (not (isExclusive (net .aggregates) n)) → T (meets w (bounds x) (scaled (nodeAmount net plan n)))
-    pub exclusive : (k : ℕ) → List·Memᴰ k (setsListing n 0 (f .sets)) → Rule n k x
+    pub exclusive : (k : ℕ) → List·Memᴰ k (setsListing n 0 (f .sets)) → Rule n k (bounds x)
 
   constant-one : (n : ℕ) (x : Node) → getElem? (net .nodes) n ≡ some x → T (x .constant) → (l : List ℕ) → setsListing n 0 (f .sets) ≡ l → Every (Met w f plan) (constantRows w f n x l) ↔ ConstantMet n x
   unfolding constantRows columnMap
@@ -248,9 +251,9 @@ module _ (w : Sentinel) (net : Network) (sound : Sound net) (plan : Plan) (carri
       let few = ok .few in
       let count = count-few plan (a .sets) in
       let known : Known (exclusiveSets net) (a .sets) = known-all (exclusiveSets net) (a .sets) (λ s k. from-known net s (record { aggregate = a; known = m; exclusive = t; has = k })) in
-      let big : 0 + length (a .sets) * 1 ≤ 16 = omega arith in
-      let sum = active-sum 0 zero-le f plan (one-upto 0 zero-le net plan (columns-long net) carries) (a .sets) known 0 [] AllUpto.none (lt-of-le-of-lt big (lit< tt)) in
-      let s : rowSum f plan (addActive f (a .sets) []) ≡ scaled (pos (onCount plan (a .sets) * unit)) = sum ∙ +ℤ-idr (exact one64 *ℤ pos (onCount plan (a .sets) * unit)) ∙ ap (λ (z : ℤ). z *ℤ pos (onCount plan (a .sets) * unit)) (one-exact 0 zero-le net plan (columns-long net) carries) ∙ unit-comm (onCount plan (a .sets)) in
+      let big : 0 + length (a .sets) ≤ 16 = omega arith in
+      let sum = active-sum f plan (a .sets) known 0 [] AllUpto.none (lt-of-le-of-lt big (lit< tt)) in
+      let s : rowSum f plan (addActive f (a .sets) []) ≡ scaled (pos (onCount plan (a .sets) * unit)) = sum ∙ +ℤ-idr (exact one64 *ℤ pos (onCount plan (a .sets) * unit)) ∙ ap (λ (z : ℤ). z *ℤ pos (onCount plan (a .sets) * unit)) one-exact ∙ unit-comm (onCount plan (a .sets)) in
       let r = count-met w (onCount plan (a .sets)) (let q : onCount plan (a .sets) ≤ 100 = omega arith in q) (a .minActive) (a .maxActive) in
       (λ h. r .0 (subst (λ (v : ℤ). T (meets w (record { lower = double (a .minActive); upper = double (a .maxActive) }) v)) s h), λ h. subst (λ (v : ℤ). T (meets w (record { lower = double (a .minActive); upper = double (a .maxActive) }) v)) (sym s) (r .1 h))
 
@@ -274,7 +277,7 @@ module _ (w : Sentinel) (net : Network) (sound : Sound net) (plan : Plan) (carri
 module _ (w : Sentinel) (g : ColumnMap) (plan : Plan) where
   edge-met : (n : ℕ) → T (columnMet w g plan n (edgeColumn w))
   unfolding columnMet edgeColumn
-  edge-met n = zero-up w (scaled (pos (onColumn g plan n))) .1 (nonneg-scaled (pos (onColumn g plan n)) .1 (le→leb 0 (onColumn g plan n) zero-le))
+  edge-met n = zero-up w (scaled (pos (onColumn g plan n))) .1 (rw (nonneg-scaled (pos (onColumn g plan n))) (le→leb 0 (onColumn g plan n) zero-le))
 
   set-met : (n : ℕ) → g .edgeColumns ≤ n → T (columnMet w g plan n setColumn)
   unfolding columnMet setColumn

@@ -3,20 +3,20 @@ use mathlib.Core.Path.{_≡_, refl, sym, ap, ap₂, _∙_, subst}
 use Prim.Native.Nat.{ℕ, zero, suc, _<_, _≤_, suc-le-suc, zero-le, compare, Ordering, Ordering·lt, Ordering·eq, Ordering·gt}
 use native.Mathlib.Nat.{not-suc-le-zero, le-of-suc-le-suc}
 use native.Mathlib.Omega.{arith}
-use mathlib.Core.Bool.{Bool, true, false, cond, not, _&&_}
+use mathlib.Core.Bool.{Bool, true, false, cond, _&&_}
 use mathlib.Core.List.{List, [], _∷_, _++_, append-nil, append-assoc}
 use lib.ListN.{length, getD, length-append, List·getD-append}
 use lib.Seq.{getD-at}
-use lib.IntN.{ℤ, pos, negsuc, _+ℤ_, _*ℤ_}
-use lib.Signed.{leZ}
-use lib.Dec.{T, eqb, ltb, eqb→eq, leb→le, ltb→lt, nltb→le}
-use lib.Ieee.{Float, nan, inf, fin, binary64, fits, eq, le, lt}
+use lib.IntN.{ℤ, pos, _+ℤ_, _*ℤ_}
+use lib.Dec.{T, eqb, ltb, eqb→eq, ltb→lt}
+use lib.Ieee.{Float, binary64, fits, eq}
 use lib.Ieee.Fits.{and-l, and-r, add-fits}
+use borrow.Author.Tests.{ltb-false}
 use Rattle.pywr.specs.Rows.{Element, insert, addElement, addOn, ColumnMap}
 use Rattle.pywr.specs.VariableRows.{sameRow, position, addVariableRows, Joined, addVariableRow}
 use Rattle.pywr.specs.Plans.{exact, Plan}
 use Rattle.pywr.specs.Admits.{onColumn, rowSum}
-use Rattle.pywr.proofs.BoundLaws.{exact-of-le, or-r, eq-flip}
+use Rattle.pywr.proofs.ExactLaws.{eq-exact}
 
 -- every factor is a double
 pub data AllFit : List Element → Type 0 where
@@ -37,26 +37,6 @@ pub add-on-fit : (cs : List ℕ) (x : Float) (row : List Element) → AllFit row
 unfolding addOn
 add-on-fit [] x row h = h
 add-on-fit (c ∷ cs) x row h = add-on-fit cs x (addElement c x row) (add-fit c x row h)
-
-antisym : (a b : ℤ) → T (leZ a b) → T (leZ b a) → a ≡ b
-antisym (pos a) (pos b) h k = let x = leb→le a b h in let y = leb→le b a k in ap pos (omega arith)
-antisym (pos a) (negsuc b) h k = absurd h
-antisym (negsuc a) (pos b) h k = absurd k
-antisym (negsuc a) (negsuc b) h k = let x = leb→le b a h in let y = leb→le a b k in ap negsuc (omega arith)
-
--- equal doubles have equal exact values
-pub eq-exact : (x y : Float) → T (fits binary64 x) → T (fits binary64 y) → T (eq x y) → exact x ≡ exact y
-unfolding eq le exact
-eq-exact nan y fx fy h = absurd h
-eq-exact (inf s) nan fx fy h = absurd h
-eq-exact (inf s) (inf t) fx fy h = refl
-eq-exact (inf s) (fin t n d) fx fy h = absurd h
-eq-exact (fin s m e) nan fx fy h = absurd h
-eq-exact (fin s m e) (inf t) fx fy h = absurd h
-eq-exact (fin s m e) (fin t n d) fx fy h =
-    antisym (exact (fin s m e)) (exact (fin t n d))
-    (exact-of-le s t m n e d fx fy (or-r (lt (fin s m e) (fin t n d)) (eq (fin s m e) (fin t n d)) h))
-    (exact-of-le t s n m d e fy fx (or-r (lt (fin t n d) (fin s m e)) (eq (fin t n d) (fin s m e)) (eq-flip s t m n e d h)))
 
 module _ (f : ColumnMap) (plan : Plan) where
   pub same-sum : (a b : List Element) → AllFit a → AllFit b → T (sameRow a b) → rowSum f plan a ≡ rowSum f plan b
@@ -105,9 +85,6 @@ position-most row (r ∷ rs) = go (sameRow r row) (position-most row rs)
     go true h = zero-le
     go false h = suc-le-suc h
 
-pub not-below : (a b : ℕ) → ltb a b ≡ false → b ≤ a
-not-below a b e = nltb→le a b (subst (λ (t : Bool). T (not t)) (sym e) tt)
-
 module _ (f : ColumnMap) (plan : Plan) where
   -- each asked row's place is a row of its sum
   pub data Placed (rows : List (List Element)) : List (List Element) → List ℕ → Type 0 where
@@ -147,7 +124,7 @@ module _ (f : ColumnMap) (plan : Plan) where
           }
       go false e =
           let n = length-append (j .rows) (r ∷ []) in
-          let same : p ≡ length (j .rows) = (let m = position-most r (j .rows) in let g = not-below p (length (j .rows)) e in omega arith) in
+          let same : p ≡ length (j .rows) = (let m = position-most r (j .rows) in let g = ltb-false p (length (j .rows)) e in omega arith) in
           record {
             fit = fit-append (j .rows) r (k .fit) h;
             placed =

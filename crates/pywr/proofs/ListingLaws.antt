@@ -1,19 +1,19 @@
 -- Exclusive sets and the nodes that they list, both ways: a set's number lists a node exactly if the set does, and a node is exclusive exactly if
 -- a distinct exclusive set lists it. Assumes nothing.
-use mathlib.Core.Path.{_≡_, refl, sym, ap, _∙_, subst}
+use mathlib.Core.Path.{_≡_, refl, sym, _∙_, subst}
 use mathlib.Core.Logic.{_⊎_, inl, inr}
 use Prim.Native.Nat.{ℕ, zero, suc, _+_}
 use native.Mathlib.Nat.{add-zero, add-suc, suc-add, zero-add}
 use mathlib.Core.Bool.{Bool, true, false, cond, not, _&&_, _||_}
 use mathlib.Core.List.{List, [], _∷_, _++_, List·Memᴰ, List·Memᴰ·head, List·Memᴰ·tail, List·Memᴰ·not-nil, List·Memᴰ·cases-cons, List·Memᴰ·append-cases, List·Memᴰ·eq-of-singleton, Memᴰ·append-left, Memᴰ·append-right}
-use mathlib.Core.Option.{Option, some}
+use mathlib.Core.Option.{some}
 use lib.ListN.{getElem?}
 use lib.Dec.{T, T-not, eqb, eqb→eq, eqb-refl}
 use lib.Ieee.Fits.{and-i, and-l, and-r}
+use Rattle.laws.proofs.Tests.{or-l, or-r, or-elim}
 use Rattle.pywr.specs.Network.{Aggregate, Network, keepIf, listed, anyListed, isExclusive}
-use Rattle.pywr.specs.ExclusiveSets.{sameSet, hasSet, addSets, setsFrom, exclusiveSets, setNumber, timesIn, setsListing}
-use Rattle.pywr.proofs.BoundLaws.{or-l, or-r, or-elim}
-use Rattle.pywr.proofs.SetLaws.{same-set, listed-known}
+use Rattle.pywr.specs.ExclusiveSets.{hasSet, addSets, setsFrom, exclusiveSets, setNumber, timesIn, setsListing}
+use Rattle.pywr.proofs.SetLaws.{number-at, listed-known}
 use Rattle.pywr.proofs.ListLaws.{not-found, same-some, found-mem}
 
 -- ---- a list's members
@@ -137,15 +137,6 @@ set-from net s m = go (from-back s (net .aggregates) [] m)
     go (inr f) = f
 
 -- and every set of an exclusive aggregate has its number
-number-at : (s : List ℕ) (sets : List (List ℕ)) → T (hasSet s sets) → getElem? sets (setNumber s sets) ≡ some s
-unfolding hasSet setNumber
-number-at s [] h = absurd h
-number-at s (t ∷ ts) h = go (sameSet t s) refl h (λ k. number-at s ts k)
-  where
-    go : (b : Bool) → sameSet t s ≡ b → T (b || hasSet s ts) → (T (hasSet s ts) → getElem? ts (setNumber s ts) ≡ some s) → getElem? (t ∷ ts) (cond b 0 (suc (setNumber s ts))) ≡ some s
-    go true e k ih = ap {B = Option (List ℕ)} some (same-set t s (subst T (sym e) tt))
-    go false e k ih = ih k
-
 pub from-known : (net : Network) (s : List ℕ) → From (net .aggregates) s → T (hasSet s (exclusiveSets net))
 unfolding exclusiveSets
 from-known net s f = listed-known s (f .aggregate) (net .aggregates) [] (f .known) (f .exclusive) (f .has)

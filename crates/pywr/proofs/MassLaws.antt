@@ -24,7 +24,7 @@ use Rattle.pywr.specs.FixedRows.{massRowsFrom}
 use Rattle.pywr.specs.Plans.{exact, meets, Plan, unit, signed, isFinite, scaled, lowerMet, upperMet, allFrom}
 use Rattle.pywr.specs.Allows.{inflow, outflow}
 use Rattle.pywr.specs.Admits.{onColumn, rowSum, rowMet}
-use Rattle.pywr.proofs.BoundLaws.{unit-pos}
+use Rattle.pywr.proofs.ExactLaws.{unit-pos}
 use Rattle.pywr.proofs.LinkLaws.{NoSelf, ends-sound, one-column-single}
 use Rattle.pywr.proofs.AmountLaws.{Carries, mass-sum}
 use Rattle.pywr.proofs.EvenLaws.{amounts, flow-amounts, mapped-edge-of}
@@ -148,29 +148,29 @@ module _ (net : Network) (noself : NoSelf net) (plan : Plan) (long : length (net
         has = added-on (p .pipe .column) (columnsOutOf n (mappedEdges net)) (neg one64) _ (column-member (λ q. q .from) n (mappedEdges net) e (p .pipe) (p .found) (p .from-is ∙ r .ends));
       }
 
-  pub dropped-balanced : (a b : ℕ) (mi mo : List ℕ) → incoming net n ≡ a ∷ mi → outgoing net n ≡ b ∷ mo → length (massRow f n) ≡ 1 → inflow net plan n ≡ outflow net plan n
+  -- one edge in and one out, on the row's only column
+  single-balanced : (p q : ℕ) → incoming net n ≡ p ∷ [] → outgoing net n ≡ q ∷ [] → length (massRow f n) ≡ 1 → inflow net plan n ≡ outflow net plan n
   unfolding inflow outflow amounts incoming outgoing
+  single-balanced p q hp hq one =
+      let ip = in-mass p (subst (λ (l : List ℕ). List·Memᴰ p l) (sym hp) (List·Memᴰ·head refl)) in
+      let iq = out-mass q (subst (λ (l : List ℕ). List·Memᴰ q l) (sym hq) (List·Memᴰ·head refl)) in
+      let same : plan .amount p ≡ plan .amount q =
+      sym (carries p (ip .pipe) (ip .found)) ∙ ap (onColumn f plan) (alone (massRow f n) (ip .pipe .column) (iq .pipe .column) one (ip .has) (iq .has)) ∙ carries q (iq .pipe) (iq .found) in
+      flow-amounts target plan n 0 (net .edges)
+      ∙ ap (amounts plan) hp
+      ∙ ap (λ (m : ℕ). m + 0) same
+      ∙ sym (flow-amounts source plan n 0 (net .edges) ∙ ap (amounts plan) hq)
+
+  pub dropped-balanced : (a b : ℕ) (mi mo : List ℕ) → incoming net n ≡ a ∷ mi → outgoing net n ≡ b ∷ mo → length (massRow f n) ≡ 1 → inflow net plan n ≡ outflow net plan n
   dropped-balanced a b mi mo hi ho one =
-      let ma : List·Memᴰ a (incoming net n) = subst (λ (l : List ℕ). List·Memᴰ a l) (sym hi) (List·Memᴰ·head refl) in
-      let ia = in-mass a ma in
+      let ia = in-mass a (subst (λ (l : List ℕ). List·Memᴰ a l) (sym hi) (List·Memᴰ·head refl)) in
       let k : ℕ = ia .pipe .column in
       let ins : (e : ℕ) → List·Memᴰ e (incoming net n) → columnAt (columns net) e ≡ some k =
       (λ e m. let i = in-mass e m in mapped-edge-of net noself e (i .pipe) (i .found) .column ∙ ap {B = Option ℕ} some (alone (massRow f n) (i .pipe .column) k one (i .has) (ia .has))) in
       let outs : (e : ℕ) → List·Memᴰ e (outgoing net n) → columnAt (columns net) e ≡ some k =
       (λ e m. let i = out-mass e m in mapped-edge-of net noself e (i .pipe) (i .found) .column ∙ ap {B = Option ℕ} some (alone (massRow f n) (i .pipe .column) k one (i .has) (ia .has))) in
       let s = one-column-single net noself n k ins outs a b mi mo hi ho in
-      let p : ℕ = s .0 in
-      let q : ℕ = s .1 .exit in
-      let mp : List·Memᴰ p (incoming net n) = subst (λ (l : List ℕ). List·Memᴰ p l) (sym (s .1 .into-is)) (List·Memᴰ·head refl) in
-      let mq : List·Memᴰ q (outgoing net n) = subst (λ (l : List ℕ). List·Memᴰ q l) (sym (s .1 .out-is)) (List·Memᴰ·head refl) in
-      let ip = in-mass p mp in
-      let iq = out-mass q mq in
-      let same : plan .amount p ≡ plan .amount q =
-      sym (carries p (ip .pipe) (ip .found)) ∙ ap (onColumn f plan) (alone (massRow f n) (ip .pipe .column) (iq .pipe .column) one (ip .has) (iq .has)) ∙ carries q (iq .pipe) (iq .found) in
-      flow-amounts target plan n 0 (net .edges)
-      ∙ ap (amounts plan) (s .1 .into-is)
-      ∙ ap (λ (m : ℕ). m + 0) same
-      ∙ sym (flow-amounts source plan n 0 (net .edges) ∙ ap (amounts plan) (s .1 .out-is))
+      single-balanced (s .0) (s .1 .exit) (s .1 .into-is) (s .1 .out-is) one
 
 -- ---- bounds 0 and 0
 
@@ -249,7 +249,7 @@ module _ (w : Sentinel) (net : Network) (noself : NoSelf net) (plan : Plan) (lon
 
   kept-met : (n : ℕ) → Met w g plan (record { lower = zero64; upper = zero64; elements = massRow g n }) ↔ (inflow net plan n ≡ outflow net plan n)
   kept-met n =
-      let s : rowSum g plan (massRow g n) ≡ scaled (pos (inflow net plan n) -ℤ pos (outflow net plan n)) = mass-sum 0 zero-le net plan long carries n room in
+      let s : rowSum g plan (massRow g n) ≡ scaled (pos (inflow net plan n) -ℤ pos (outflow net plan n)) = mass-sum net plan long carries n room in
       let z = zero-met w (rowSum g plan (massRow g n)) in (
         λ h. diff-zero (inflow net plan n) (outflow net plan n) (scaled-zero _ (sym s ∙ z .0 h)),
         λ e. z .1 (s ∙ ap scaled (ap (λ (k : ℕ). pos k -ℤ pos (outflow net plan n)) e ∙ +ℤ-invr (pos (outflow net plan n))) ∙ scaled-of-zero),

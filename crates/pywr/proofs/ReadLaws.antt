@@ -10,16 +10,17 @@ use mathlib.Core.List.{List, [], _∷_, _++_}
 use mathlib.Core.Option.{Option, none, some}
 use lib.ListN.{length, getElem?, length-append}
 use lib.Dec.{T, T-not, leb, ltb, eqb, leb→le, ltb→lt, eqb-refl}
-use lib.Ieee.{inf, fits, binary64, lt, eq}
+use lib.Ieee.{inf, lt, eq}
 use lib.Ieee.Fits.{and-r}
+use Rattle.laws.proofs.Tests.{or-l, or-r, cond-yes}
 use Rattle.pywr.specs.Result.{value, Result, _>>=_, need}
 use Rattle.pywr.specs.Bytes.{checked}
 use Rattle.pywr.specs.Numbers.{isFlow, isSmall, ofPattern}
 use Rattle.pywr.specs.Network.{input, output, link, Node, Edge, Aggregate, Part, VirtualStorage, Network, kindOf, isExclusive, incoming, outgoing}
 use Rattle.pywr.specs.NetworkFile.{between, Read, ND, constantFits, readNode, ED, joins, badEdge, readEdge, readMembers, readSets, AG, readAggregate, readParts, VS, readVirtualStorage, Mark, hasRoom, withNode, withEdge, withAggregate, withVirtualStorage, readBody, Reading, readRecord, readRecords, emptyNetwork, firstRefused, isEmpty, unconnectedLink, badConstant, refusedIf, checkNetwork, parseNetwork}
-use Rattle.pywr.proofs.BoundLaws.{IsBound, or-l, or-r, cond-yes}
-use Rattle.pywr.proofs.NumberLaws.{flow-bound, Finite, small-is}
-use Rattle.pywr.proofs.RunLaws.{bind-value, need-value}
+use Rattle.pywr.proofs.BoundLaws.{IsBound}
+use Rattle.pywr.proofs.NumberLaws.{flow-bound, FiniteFit, small-is}
+use Rattle.pywr.proofs.RunLaws.{bind-then, bind-value, need-value}
 use Rattle.pywr.proofs.LinkLaws.{NoSelf}
 use Rattle.pywr.proofs.MassLaws.{Joined}
 use Rattle.pywr.proofs.ListLaws.{AllMem, all-none, all-snoc, found-mem, not-found, same-some}
@@ -54,17 +55,14 @@ pub record NodeOk (x : Node) : Type 0 where
 read-node : (file : List ℕ) (at : ℕ) (r : Read Node) → readNode file at ≡ value r → NodeOk (r .item)
 unfolding readNode constantFits
 read-node file at r e =
-    let a = bind-value _ _ r e in
-    let b = bind-value _ _ r (a .2) in
-    let c = bind-value _ _ r (b .2) in
-    let d = bind-value _ _ r (c .2) in
-    let flows : (bits : ℕ) → T (constantFits (b .0) bits) → T (eqb (b .0) 1) → T (isFlow bits) = (λ bits t k. subst T (cond-yes (eqb (b .0) 1) (isFlow bits) (eqb bits 0) k) t) in
-    subst (λ (q : Read Node). NodeOk (q .item)) (same-value _ r (d .2))
+    bind-then _ _ r e (λ a a-is e. bind-then _ _ r e (λ b b-is e. bind-then _ _ r e (λ c c-is e. bind-then _ _ r e (λ d d-is e.
+    let flows : (bits : ℕ) → T (constantFits b bits) → T (eqb b 1) → T (isFlow bits) = (λ bits t k. subst T (cond-yes (eqb b 1) (isFlow bits) (eqb bits 0) k) t) in
+    subst (λ (q : Read Node). NodeOk (q .item)) (same-value _ r e)
     (record {
-      kind-most = between-most 0 3 (a .0) (checked-value 3 at (between 0 3) _ (a .0) (a .1));
-      least = λ t. flow-bound (c .0) (flows (c .0) (checked-value 3 at (constantFits (b .0)) _ (c .0) (c .1)) t);
-      most = λ t. flow-bound (d .0) (flows (d .0) (checked-value 3 at (constantFits (b .0)) _ (d .0) (d .1)) t);
-    })
+      kind-most = between-most 0 3 a (checked-value 3 at (between 0 3) _ a a-is);
+      least = λ t. flow-bound c (flows c (checked-value 3 at (constantFits b) _ c c-is) t);
+      most = λ t. flow-bound d (flows d (checked-value 3 at (constantFits b) _ d d-is) t);
+    })))))
 
 pub record EdgeOk (nodes : ℕ) (x : Edge) : Type 0 where
   pub apart : x .from ≢ x .to
@@ -74,19 +72,16 @@ pub record EdgeOk (nodes : ℕ) (x : Edge) : Type 0 where
 read-edge : (net : Network) (file : List ℕ) (at : ℕ) (r : Read Edge) → readEdge net file at ≡ value r → EdgeOk (length (net .nodes)) (r .item)
 unfolding readEdge badEdge
 read-edge net file at r e =
-    let a = bind-value _ _ r e in
-    let b = bind-value _ _ r (a .2) in
-    let from : ℕ = a .0 in
-    let to : ℕ = b .0 in
-    let ok : T (not (badEdge net from to)) = need-test _ 5 at _ r (b .2) in
+    bind-then _ _ r e (λ from from-is e. bind-then _ _ r e (λ to to-is e.
+    let ok : T (not (badEdge net from to)) = need-test _ 5 at _ r e in
     let first : Bool = eqb (kindOf (net .nodes) to) input || eqb (kindOf (net .nodes) from) output in
     let under : ℕ → Bool = (λ (n : ℕ). ltb n (length (net .nodes))) in
-    subst (λ (q : Read Edge). EdgeOk (length (net .nodes)) (q .item)) (need-value _ 5 at _ r (b .2))
+    subst (λ (q : Read Edge). EdgeOk (length (net .nodes)) (q .item)) (need-value _ 5 at _ r e)
     (record {
       apart = λ q. T-not (badEdge net from to) ok (or-l (first || eqb from to) (joins (net .edges) from to) (or-r first (eqb from to) (subst (λ (k : ℕ). T (eqb from k)) q (eqb-refl from))));
-      from-under = ltb→lt from (length (net .nodes)) (checked-value 4 at under _ from (a .1));
-      to-under = ltb→lt to (length (net .nodes)) (checked-value 4 at under _ to (b .1));
-    })
+      from-under = ltb→lt from (length (net .nodes)) (checked-value 4 at under _ from from-is);
+      to-under = ltb→lt to (length (net .nodes)) (checked-value 4 at under _ to to-is);
+    })))
 
 -- ---- aggregates
 
@@ -113,17 +108,14 @@ unfolding readSets
 read-sets file place nodes zero soFar at r e h =
     subst (λ (q : Read (List (List ℕ))). AllMem (SetOk nodes) (q .item) × (length (q .item) ≡ length soFar + 0)) (same-value _ r e) (h, sym (add-zero (length soFar)))
 read-sets file place nodes (suc count) soFar at r e h =
-    let a = bind-value _ _ r e in
-    let b = bind-value _ _ r (a .2) in
-    let size : ℕ = a .0 in
-    let m : Read (List ℕ) = b .0 in
-    let k = read-members file place nodes size [] (at + 1) m (b .1) (all-none (λ (n : ℕ). n < nodes)) in
-    let few = between-most 1 16 size (checked-value 3 place (between 1 16) _ size (a .1)) in
+    bind-then _ _ r e (λ size size-is e. bind-then _ _ r e (λ m m-is e.
+    let k = read-members file place nodes size [] (at + 1) m m-is (all-none (λ (n : ℕ). n < nodes)) in
+    let few = between-most 1 16 size (checked-value 3 place (between 1 16) _ size size-is) in
     let long : length (m .item) ≡ 0 + size = k .1 in
-    let ih = read-sets file place nodes count (soFar ++ (m .item ∷ [])) (m .next) r (b .2)
+    let ih = read-sets file place nodes count (soFar ++ (m .item ∷ [])) (m .next) r e
     (all-snoc (SetOk nodes) soFar (m .item) h (record { members = k .0; small = omega arith })) in
     let l = length-append soFar (m .item ∷ []) in
-    (ih .0, ih .1 ∙ (let j : length (soFar ++ (m .item ∷ [])) + count ≡ length soFar + suc count = omega arith in j))
+    (ih .0, ih .1 ∙ (let j : length (soFar ++ (m .item ∷ [])) + count ≡ length soFar + suc count = omega arith in j))))
 
 pub record AggregateOk (nodes : ℕ) (a : Aggregate) : Type 0 where
   pub sets : AllMem (SetOk nodes) (a .sets)
@@ -132,23 +124,16 @@ pub record AggregateOk (nodes : ℕ) (a : Aggregate) : Type 0 where
 read-aggregate : (net : Network) (file : List ℕ) (at : ℕ) (r : Read Aggregate) → readAggregate net file at ≡ value r → AggregateOk (length (net .nodes)) (r .item)
 unfolding readAggregate
 read-aggregate net file at r e =
-    let a = bind-value _ _ r e in
-    let b = bind-value _ _ r (a .2) in
-    let c = bind-value _ _ r (b .2) in
-    let d = bind-value _ _ r (c .2) in
-    let g = bind-value _ _ r (d .2) in
-    let count : ℕ = b .0 in
-    let m : Read (List (List ℕ)) = g .0 in
-    let k = read-sets file at (length (net .nodes)) count [] (at + 12) m (g .1) (all-none (SetOk (length (net .nodes)))) in
-    let few = between-most 1 16 count (checked-value 3 at (between 1 16) _ count (b .1)) in
+    bind-then _ _ r e (λ a a-is e. bind-then _ _ r e (λ count count-is e. bind-then _ _ r e (λ c c-is e. bind-then _ _ r e (λ d d-is e. bind-then _ _ r e (λ m m-is e.
+    let k = read-sets file at (length (net .nodes)) count [] (at + 12) m m-is (all-none (SetOk (length (net .nodes)))) in
+    let few = between-most 1 16 count (checked-value 3 at (between 1 16) _ count count-is) in
     let long : length (m .item) ≡ 0 + count = k .1 in
-    subst (λ (q : Read Aggregate). AggregateOk (length (net .nodes)) (q .item)) (same-value _ r (g .2)) (record { sets = k .0; few = omega arith })
+    subst (λ (q : Read Aggregate). AggregateOk (length (net .nodes)) (q .item)) (same-value _ r e) (record { sets = k .0; few = omega arith }))))))
 
 -- ---- virtual storages
 
-pub record PartOk (p : Part) : Type 0 where
-  pub finite : Finite (p .factor)
-  pub fit : T (fits binary64 (p .factor))
+abbrev pub PartOk : Part → Type 0
+PartOk p = FiniteFit (p .factor)
 
 read-parts : (file : List ℕ) (place nodes count : ℕ) (soFar : List Part) (at : ℕ) (r : Read (List Part)) → readParts file place nodes count soFar at ≡ value r → AllMem PartOk soFar
     → AllMem PartOk (r .item) × (length (r .item) ≡ length soFar + count)
@@ -156,13 +141,12 @@ unfolding readParts
 read-parts file place nodes zero soFar at r e h =
     subst (λ (q : Read (List Part)). AllMem PartOk (q .item) × (length (q .item) ≡ length soFar + 0)) (same-value _ r e) (h, sym (add-zero (length soFar)))
 read-parts file place nodes (suc count) soFar at r e h =
-    let a = bind-value _ _ r e in
-    let b = bind-value _ _ r (a .2) in
-    let p : Part = record { node = a .0; factor = ofPattern (b .0) } in
-    let s = small-is (b .0) (checked-value 3 place isSmall _ (b .0) (b .1)) in
-    let ih = read-parts file place nodes count (soFar ++ (p ∷ [])) (at + 10) r (b .2) (all-snoc PartOk soFar p h (record { finite = s .0; fit = s .1 })) in
+    bind-then _ _ r e (λ a a-is e. bind-then _ _ r e (λ b b-is e.
+    let p : Part = record { node = a; factor = ofPattern b } in
+    let s = small-is b (checked-value 3 place isSmall _ b b-is) in
+    let ih = read-parts file place nodes count (soFar ++ (p ∷ [])) (at + 10) r e (all-snoc PartOk soFar p h s) in
     let l = length-append soFar (p ∷ []) in
-    (ih .0, ih .1 ∙ (let j : length (soFar ++ (p ∷ [])) + count ≡ length soFar + suc count = omega arith in j))
+    (ih .0, ih .1 ∙ (let j : length (soFar ++ (p ∷ [])) + count ≡ length soFar + suc count = omega arith in j))))
 
 pub record StorageOk (v : VirtualStorage) : Type 0 where
   pub parts : AllMem PartOk (v .parts)
@@ -171,19 +155,11 @@ pub record StorageOk (v : VirtualStorage) : Type 0 where
 read-storage : (net : Network) (file : List ℕ) (at : ℕ) (r : Read VirtualStorage) → readVirtualStorage net file at ≡ value r → StorageOk (r .item)
 unfolding readVirtualStorage
 read-storage net file at r e =
-    let a = bind-value _ _ r e in
-    let b = bind-value _ _ r (a .2) in
-    let c = bind-value _ _ r (b .2) in
-    let d = bind-value _ _ r (c .2) in
-    let g = bind-value _ _ r (d .2) in
-    let h = bind-value _ _ r (g .2) in
-    let i = bind-value _ _ r (h .2) in
-    let count : ℕ = h .0 in
-    let m : Read (List Part) = i .0 in
-    let k = read-parts file at (length (net .nodes)) count [] (at + 8) m (i .1) (all-none PartOk) in
-    let few = between-most 1 64 count (checked-value 3 at (between 1 64) _ count (h .1)) in
+    bind-then _ _ r e (λ a a-is e. bind-then _ _ r e (λ b b-is e. bind-then _ _ r e (λ c c-is e. bind-then _ _ r e (λ d d-is e. bind-then _ _ r e (λ g g-is e. bind-then _ _ r e (λ count count-is e. bind-then _ _ r e (λ m m-is e.
+    let k = read-parts file at (length (net .nodes)) count [] (at + 8) m m-is (all-none PartOk) in
+    let few = between-most 1 64 count (checked-value 3 at (between 1 64) _ count count-is) in
     let long : length (m .item) ≡ 0 + count = k .1 in
-    subst (λ (q : Read VirtualStorage). StorageOk (q .item)) (same-value _ r (i .2)) (record { parts = k .0; few = omega arith })
+    subst (λ (q : Read VirtualStorage). StorageOk (q .item)) (same-value _ r e) (record { parts = k .0; few = omega arith }))))))))
 
 -- ---- what every record keeps
 
@@ -277,13 +253,10 @@ body VS net file at r room e g =
 one-record : (file : List ℕ) (r q : Reading) → readRecord file r ≡ value q → Good (r .network) → Good (q .network)
 unfolding readRecord
 one-record file r q e g =
-    let a = bind-value _ _ q e in
-    let b = bind-value _ _ q (a .2) in
-    let c = bind-value _ _ q (b .2) in
-    let d = bind-value _ _ q (c .2) in
-    let room : T (hasRoom (r .network) (c .0)) =
-    subst (λ (m : Mark). T (hasRoom (r .network) m)) (need-value _ 6 (r .at) (b .0) (c .0) (c .1)) (need-test (hasRoom (r .network) (b .0)) 6 (r .at) (b .0) (c .0) (c .1)) in
-    subst (λ (p : Reading). Good (p .network)) (same-value _ q (d .2)) (body (c .0) (r .network) file (r .at) (d .0) room (d .1) g)
+    bind-then _ _ q e (λ a a-is e. bind-then _ _ q e (λ b b-is e. bind-then _ _ q e (λ c c-is e. bind-then _ _ q e (λ d d-is e.
+    let room : T (hasRoom (r .network) c) =
+    subst (λ (m : Mark). T (hasRoom (r .network) m)) (need-value _ 6 (r .at) b c c-is) (need-test (hasRoom (r .network) b) 6 (r .at) b c c-is) in
+    subst (λ (p : Reading). Good (p .network)) (same-value _ q e) (body c (r .network) file (r .at) d room d-is g)))))
 
 all-records : (left : ℕ) (file : List ℕ) (r : Reading) (net : Network) → readRecords left file r ≡ value net → Good (r .network) → Good net
 unfolding readRecords
@@ -355,13 +328,11 @@ pub record Sound (net : Network) : Type 0 where
 pub read-sound : (file : List ℕ) (net : Network) → parseNetwork file ≡ value net → Sound net
 unfolding parseNetwork checkNetwork unconnectedLink badConstant
 read-sound file net e =
-    let a = bind-value _ _ net e in
-    let b = bind-value _ _ net (a .2) in
-    let c = bind-value _ _ net (b .2) in
-    let n7 : a .0 ≡ b .0 = need-value _ 7 0 (a .0) (b .0) (b .1) in
-    let n8 = unless-value (b .0) (c .0) _ (c .1) in
-    let n9 = unless-value (c .0) net _ (c .2) in
-    let good : Good net = subst Good (n7 ∙ n8 .1 ∙ n9 .1) (all-records (length file) file _ (a .0) (a .1) good-empty) in
+    bind-then _ _ net e (λ a a-is e. bind-then _ _ net e (λ b b-is e. bind-then _ _ net e (λ c c-is e.
+    let n7 : a ≡ b = need-value _ 7 0 a b b-is in
+    let n8 = unless-value b c _ c-is in
+    let n9 = unless-value c net _ e in
+    let good : Good net = subst Good (n7 ∙ n8 .1 ∙ n9 .1) (all-records (length file) file _ a a-is good-empty) in
     let edgelessInputs : firstRefused (unconnectedLink net) 0 (net .nodes) ≡ none = subst (λ (m : Network). firstRefused (unconnectedLink m) 0 (m .nodes) ≡ none) (n8 .1 ∙ n9 .1) (n8 .0) in
     let bad : firstRefused (badConstant net) 0 (net .nodes) ≡ none = subst (λ (m : Network). firstRefused (badConstant m) 0 (m .nodes) ≡ none) (n9 .1) (n9 .0) in
     record {
@@ -374,4 +345,4 @@ read-sound file net e =
           let r = coefficients-of (x .constant) (lt (x .max) (x .min)) (isExclusive (net .aggregates) i) (eq (x .max) (inf true)) (eq (x .min) (inf false)) t u
           (subst (λ (m : ℕ). badConstant net m x ≡ none) (zero-add i) (none-refused (badConstant net) 0 (net .nodes) bad i x h)) in
           record { most = r .0; least = r .1 };
-    }
+    })))

@@ -9,6 +9,7 @@ use lib.ListN.{length, getD, drop, length-append, length-map, List·getD-append}
 use lib.Seq.{sets, sets-eq, length-sets, drop-at, getD-append-add}
 use lib.Dec.{lit≤}
 use lib.Ieee.{Float}
+use Rattle.laws.proofs.Runs.{flat-append}
 use Rattle.pywr.specs.declared.Sentinel.{Sentinel}
 use Rattle.pywr.specs.declared.Sentinel.the-variants.{Infinity, Largest}
 use Rattle.pywr.specs.Numbers.{zero64}
@@ -20,11 +21,6 @@ use Rattle.pywr.proofs.StoreLaws.{Holds, holds-left, holds-right, holds
 use Rattle.pywr.proofs.RowsBack.{rows-back, columns-back, Typed, held-head, held-tail, start-head, columns-length, factors-length}
 
 -- ---- lists
-
-flat-append : {A B : Type 0} (f : A → List B) (xs ys : List A) → flatMap f (xs ++ ys) ≡ flatMap f xs ++ flatMap f ys
-unfolding flatMap
-flat-append f [] ys = refl
-flat-append f (x ∷ xs) ys = ap (λ l. f x ++ l) (flat-append f xs ys) ∙ sym (append-assoc (f x) (flatMap f xs) (flatMap f ys))
 
 map-append : {A B : Type 0} (f : A → B) (xs ys : List A) → map f (xs ++ ys) ≡ map f xs ++ map f ys
 map-append f [] ys = refl
@@ -297,3 +293,34 @@ module _ (s : Store) (b : Built) (r : Represents s b) (v : List Row) (cols : Lis
         lowerRoom = let l = length-sets (s .rowLower) 0 (map lowerOf v) in let c = r .lowerRoom in omega arith;
         upperRoom = let l = length-sets (s .rowUpper) 0 (map upperOf v) in let c = r .upperRoom in omega arith;
       }
+
+-- ---- a step's store after another's
+
+write-again : {A : Type 0} (run xs ys : List A) → length xs ≡ length ys → length ys ≤ length run → sets (sets run 0 xs) 0 ys ≡ sets run 0 ys
+write-again run xs ys e room =
+    let l = length-sets run 0 xs in
+    sets-eq ys (sets run 0 xs) 0 (omega arith)
+    ∙ ap (λ r. ys ++ drop (0 + length ys) r) (sets-eq xs run 0 (omega arith))
+    ∙ ap (λ r. ys ++ r) (drop-at xs (drop (0 + length xs) run) (0 + length ys) (e ∙ sym (zero-add (length ys))) ∙ ap (λ (n : ℕ). drop (0 + n) run) e)
+    ∙ sym (sets-eq ys run 0 (omega arith))
+
+pub store-again : (s : Store) (b : Built) → Represents s b → (p q : Programme) → SameColumns (p .varying) (b .programme .varying) → SameColumns (q .varying) (b .programme .varying)
+    → length (p .columns) ≡ length (b .programme .columns) → length (q .columns) ≡ length (b .programme .columns) → steppedStore (steppedStore s p) q ≡ steppedStore s q
+unfolding steppedStore rowsOf
+store-again s b r p q hp hq cp cq =
+    let v : List Row = b .programme .varying in
+    let f : List Row = b .programme .fixed in
+    let np : length (p .varying) ≡ length v = same-length (p .varying) v hp in
+    let nq : length (q .varying) ≡ length v = same-length (q .varying) v hq in
+    let la = length-append v f in
+    let rows : (g : Row → Float) → length (map g (p .varying)) ≡ length (map g (q .varying)) = (λ g. length-map (p .varying) g ∙ np ∙ sym nq ∙ sym (length-map (q .varying) g)) in
+    let factors : length (flatMap factorsIn (q .varying)) ≡ length (flatMap factorsIn v) = factors-count (q .varying) ∙ same-count (q .varying) v hq ∙ sym (factors-count v) in
+    let long : length (s .elements) ≡ length (flatMap factorsIn v) + length (flatMap factorsIn f) + length (r .spareElements) =
+    ap length (r .elements) ∙ length-append (flatMap factorsIn (v ++ f)) (r .spareElements) ∙ ap (λ (n : ℕ). n + length (r .spareElements)) (ap length (flat-append factorsIn v f) ∙ length-append (flatMap factorsIn v) (flatMap factorsIn f)) in
+    let cost = write-again (s .colObjCoef) (map (λ (x : Column). x .cost) (p .columns)) (map (λ (x : Column). x .cost) (q .columns))
+    (length-map (p .columns) (λ (x : Column). x .cost) ∙ cp ∙ sym cq ∙ sym (length-map (q .columns) (λ (x : Column). x .cost)))
+    (let l = length-map (q .columns) (λ (x : Column). x .cost) in let c = r .costRoom in omega arith) in
+    let lower = write-again (s .rowLower) (map lowerOf (p .varying)) (map lowerOf (q .varying)) (rows lowerOf) (let l = length-map (q .varying) lowerOf in let c = r .lowerRoom in omega arith) in
+    let upper = write-again (s .rowUpper) (map upperOf (p .varying)) (map upperOf (q .varying)) (rows upperOf) (let l = length-map (q .varying) upperOf in let c = r .upperRoom in omega arith) in
+    let element = write-again (s .elements) (flatMap factorsIn (p .varying)) (flatMap factorsIn (q .varying)) (factors-count (p .varying) ∙ same-count (p .varying) v hp ∙ sym (factors-count v) ∙ sym factors) (omega arith) in
+    λ i. record { colLower = s .colLower; colUpper = s .colUpper; colObjCoef = cost i; rowLower = lower i; rowUpper = upper i; elements = element i; columns = s .columns; rowStarts = s .rowStarts; shape = s .shape }

@@ -3,13 +3,14 @@ use mathlib.Core.Path.{_≡_, refl, sym, ap, subst}
 use mathlib.Core.Logic.{_↔_}
 use Prim.Native.Nat.{ℕ, zero, suc, _<_}
 use native.Mathlib.Nat.{not-suc-le-zero, le-of-suc-le-suc}
-use mathlib.Core.Bool.{Bool, true, false, cond}
+use mathlib.Core.Bool.{Bool}
 use mathlib.Core.List.{List, [], _∷_, map}
 use lib.ListN.{length}
 use lib.IntN.{ℤ}
 use lib.Dec.{T}
-use lib.Ieee.{Float, lt, le, eq, neg, ofBits}
+use lib.Ieee.{binary64, lt, le, eq, neg, ofBits}
 use lib.Ieee.Fits.{and-i, and-l, and-r}
+use Rattle.doubles.proofs.Order.{larger-num, smaller-num}
 use Rattle.pywr.specs.declared.Sentinel.{Sentinel}
 use Rattle.pywr.specs.declared.Sentinel.the-variants.{Infinity, Largest}
 use Rattle.pywr.specs.declared.Interval.{Interval}
@@ -20,7 +21,7 @@ use Rattle.pywr.specs.Interval.{tighten, sentinels}
 use Rattle.pywr.specs.Step.{adjust, bounded, applyRowBounds, applyIntervals}
 use Rattle.pywr.specs.Plans.{meets, Plan, lowerMet, upperMet, allFrom}
 use Rattle.pywr.specs.Admits.{rowSum, rowMet}
-use Rattle.pywr.proofs.BoundLaws.{IsBound, IsInterval, tighten-met}
+use Rattle.pywr.proofs.BoundLaws.{IsInterval, tighten-met}
 
 -- the interval of a row
 abbrev pub own : Row → Interval
@@ -80,16 +81,12 @@ adjust-elements i zero (suc k) (x ∷ xs) = refl
 adjust-elements i (suc r) zero (x ∷ xs) = refl
 adjust-elements i (suc r) (suc k) (x ∷ xs) = adjust-elements i r k xs
 
-one-of : (x y : Float) (b : Bool) → IsBound x → IsBound y → IsBound (cond b x y)
-one-of x y true bx by = bx
-one-of x y false bx by = by
-
 tighten-sane : (a b : Interval) → IsInterval a → IsInterval b → IsInterval (tighten a b)
 unfolding tighten greater lesser
 tighten-sane a b ia ib =
     record {
-      lower = one-of (b .lower) (a .lower) (lt (a .lower) (b .lower)) (ib .lower) (ia .lower);
-      upper = one-of (b .upper) (a .upper) (lt (b .upper) (a .upper)) (ib .upper) (ia .upper);
+      lower = larger-num binary64 (a .lower) (b .lower) (ia .lower) (ib .lower);
+      upper = smaller-num binary64 (a .upper) (b .upper) (ia .upper) (ib .upper);
     }
 
 pub adjust-sane : (i : Interval) → IsInterval i → (r : ℕ) (rows : List Row) → Sane rows → Sane (adjust (applyRowBounds i) r rows)

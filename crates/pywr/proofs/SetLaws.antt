@@ -1,15 +1,18 @@
 -- Exclusive sets: every listed set is among the distinct ones, at its number; and an exclusivity row's sum is the count of the sets that are on. Assumes nothing.
 use mathlib.Core.Path.{_≡_, refl, sym, ap, ap₂, _∙_, subst}
 use mathlib.Core.Logic.{_⊎_, inl, inr}
-use Prim.Native.Nat.{ℕ, suc, _+_, _-_, _*_, _^_, _<_, _≤_}
-use native.Mathlib.Nat.{zero-add, suc-mul, add-mul, zero-mul, one-mul}
+use Prim.Native.Nat.{ℕ, suc, _+_, _-_, _*_, _^_, _<_}
+use native.Mathlib.Nat.{zero-add, add-mul, zero-mul, one-mul}
 use native.Mathlib.Omega.{arith}
 use mathlib.Core.Bool.{Bool, true, false, cond, not, _||_}
 use mathlib.Core.List.{List, [], _∷_, _++_, List·Memᴰ, List·Memᴰ·not-nil, List·Memᴰ·cases-cons}
-use lib.ListN.{length, getD}
+use mathlib.Core.Option.{Option, some}
+use lib.ListN.{length, getD, getElem?}
 use lib.IntN.{ℤ, pos, _+ℤ_, _*ℤ_, +ℤ-assoc, +ℤ-comm, +ℤ-idl, *ℤ-zero}
 use lib.Dec.{T, not-T, eqb, ltb, eqb→eq, eqb-refl, ltb→lt}
 use lib.Ieee.Fits.{and-i, and-l, and-r}
+use Rattle.laws.proofs.Tests.{to-true, or-l, or-r, or-elim, cond-no}
+use Rattle.doubles.proofs.Integers.{mul-addℤ}
 use Rattle.pywr.specs.Numbers.{one64}
 use Rattle.pywr.specs.Network.{Aggregate}
 use Rattle.pywr.specs.ExclusiveSets.{sameSet, hasSet, addSets, setsFrom, setNumber}
@@ -17,12 +20,9 @@ use Rattle.pywr.specs.Rows.{Element, addElement, ColumnMap, addActive}
 use Rattle.pywr.specs.Plans.{exact, Plan, unit}
 use Rattle.pywr.specs.Allows.{onCount}
 use Rattle.pywr.specs.Admits.{onColumn, rowSum}
-use Rattle.pywr.proofs.BoundLaws.{or-l, or-r, or-elim, cond-no}
-use Rattle.pywr.proofs.SumLaws.{times-add, Upto, AllUpto, add-element, add-element-upto}
-
-is-yes : (b : Bool) → T b → b ≡ true
-is-yes true t = refl
-is-yes false t = absurd t
+use Rattle.pywr.proofs.SumLaws.{AllUpto, add-element, add-element-upto}
+use Rattle.pywr.proofs.AmountLaws.{one-upto}
+use Rattle.pywr.proofs.ListLaws.{found-get}
 
 -- ---- sets
 
@@ -38,14 +38,17 @@ unfolding sameSet
 same-self [] = tt
 same-self (x ∷ xs) = and-i (eqb x x) (sameSet xs xs) (eqb-refl x) (same-self xs)
 
-pub number-found : (s : List ℕ) (sets : List (List ℕ)) → T (hasSet s sets) → getD sets (setNumber s sets) [] ≡ s
+pub number-at : (s : List ℕ) (sets : List (List ℕ)) → T (hasSet s sets) → getElem? sets (setNumber s sets) ≡ some s
 unfolding hasSet setNumber
-number-found s [] h = absurd h
-number-found s (t ∷ ts) h = go (sameSet t s) refl h (λ k. number-found s ts k)
+number-at s [] h = absurd h
+number-at s (t ∷ ts) h = go (sameSet t s) refl h (λ k. number-at s ts k)
   where
-    go : (b : Bool) → sameSet t s ≡ b → T (b || hasSet s ts) → (T (hasSet s ts) → getD ts (setNumber s ts) [] ≡ s) → getD (t ∷ ts) (cond b 0 (suc (setNumber s ts))) [] ≡ s
-    go true e k ih = same-set t s (subst T (sym e) tt)
+    go : (b : Bool) → sameSet t s ≡ b → T (b || hasSet s ts) → (T (hasSet s ts) → getElem? ts (setNumber s ts) ≡ some s) → getElem? (t ∷ ts) (cond b 0 (suc (setNumber s ts))) ≡ some s
+    go true e k ih = ap {B = Option (List ℕ)} some (same-set t s (subst T (sym e) tt))
     go false e k ih = ih k
+
+pub number-found : (s : List ℕ) (sets : List (List ℕ)) → T (hasSet s sets) → getD sets (setNumber s sets) [] ≡ s
+number-found s sets h = found-get sets (setNumber s sets) s [] (number-at s sets h)
 
 has-append : (s : List ℕ) (a b : List (List ℕ)) → T (hasSet s a) → T (hasSet s (a ++ b))
 unfolding hasSet
@@ -109,7 +112,7 @@ listed-known s a (b ∷ rest) known m x k = go (λ j. listed-known s a rest _ j 
     next = cond (b .exclusive) (addSets known (b .sets)) known
 
     here : a ≡ b → T (hasSet s next)
-    here e = subst (λ (c : Bool). T (hasSet s (cond c (addSets known (b .sets)) known))) (sym (is-yes (b .exclusive) (subst (λ (y : Aggregate). T (y .exclusive)) e x))) (adds-has s (b .sets) known (subst (λ (y : Aggregate). List·Memᴰ s (y .sets)) e k))
+    here e = subst (λ (c : Bool). T (hasSet s (cond c (addSets known (b .sets)) known))) (sym (to-true (b .exclusive) (subst (λ (y : Aggregate). T (y .exclusive)) e x))) (adds-has s (b .sets) known (subst (λ (y : Aggregate). List·Memᴰ s (y .sets)) e k))
 
     go : (List·Memᴰ a rest → T (hasSet s (setsFrom next rest))) → (a ≡ b) ⊎ List·Memᴰ a rest → T (hasSet s (setsFrom next rest))
     go ih (inl e) = from-keeps s rest next (here e)
@@ -136,21 +139,20 @@ count-times : (b : Bool) (n : ℕ) → (cond b 1 0 + n) * unit ≡ cond b unit 0
 count-times true n = add-mul 1 n unit ∙ ap (λ (k : ℕ). k + n * unit) (one-mul unit)
 count-times false n = ap (λ (k : ℕ). k * unit) (zero-add n) ∙ sym (zero-add (n * unit))
 
-module _ (g : ℕ) (deep : g ≤ 1074) (f : ColumnMap) (plan : Plan) (u : Upto g deep (2 ^ g) one64) where
-  pub active-sum : (ss : List (List ℕ)) → Known (f .sets) ss → (b : ℕ) (row : List Element) → AllUpto g deep b row → b + length ss * 2 ^ g < 2 ^ 53
+module _ (f : ColumnMap) (plan : Plan) where
+  pub active-sum : (ss : List (List ℕ)) → Known (f .sets) ss → (b : ℕ) (row : List Element) → AllUpto 0 b row → b + length ss < 2 ^ 53
       → rowSum f plan (addActive f ss row) ≡ exact one64 *ℤ pos (onCount plan ss * unit) +ℤ rowSum f plan row
   unfolding addActive onCount
   active-sum [] none b row us h = sym (ap (λ (z : ℤ). z +ℤ rowSum f plan row) (ap (λ (k : ℕ). exact one64 *ℤ pos k) (zero-mul unit) ∙ *ℤ-zero (exact one64)) ∙ +ℤ-idl (rowSum f plan row))
   active-sum (s ∷ ss) (more k ks) b row us h =
-      let t : suc (length ss) * 2 ^ g ≡ length ss * 2 ^ g + 2 ^ g = suc-mul (length ss) (2 ^ g) in
       let c : ℕ = f .edgeColumns + setNumber s (f .sets) in
       let r : ℤ = rowSum f plan row in
       let one : ℤ = exact one64 in
       let carry : onColumn f plan c ≡ cond (plan .on s) unit 0 = set-column f plan (setNumber s (f .sets)) ∙ ap (λ (x : List ℕ). cond (plan .on x) unit 0) (number-found s (f .sets) k) in
-      active-sum ss ks (b + 2 ^ g) (addElement c one64 row) (add-element-upto g deep c one64 b (2 ^ g) (omega arith) u row us) (omega arith)
-      ∙ ap (λ (z : ℤ). one *ℤ pos (onCount plan ss * unit) +ℤ z) (add-element g deep f plan c one64 b (2 ^ g) (omega arith) u row us ∙ ap (λ (n : ℕ). one *ℤ pos n +ℤ r) carry)
+      active-sum ss ks (b + 1) (addElement c one64 row) (add-element-upto c one64 b 1 (omega arith) one-upto row us) (omega arith)
+      ∙ ap (λ (z : ℤ). one *ℤ pos (onCount plan ss * unit) +ℤ z) (add-element f plan c one64 b 1 (omega arith) one-upto row us ∙ ap (λ (n : ℕ). one *ℤ pos n +ℤ r) carry)
       ∙ sym (+ℤ-assoc (one *ℤ pos (onCount plan ss * unit)) (one *ℤ pos (cond (plan .on s) unit 0)) r)
       ∙ ap (λ (z : ℤ). z +ℤ r)
       (+ℤ-comm (one *ℤ pos (onCount plan ss * unit)) (one *ℤ pos (cond (plan .on s) unit 0))
-      ∙ sym (times-add one (cond (plan .on s) unit 0) (onCount plan ss * unit))
+      ∙ sym (mul-addℤ one (pos (cond (plan .on s) unit 0)) (pos (onCount plan ss * unit)))
       ∙ ap (λ (n : ℕ). one *ℤ pos n) (sym (count-times (plan .on s) (onCount plan ss))))

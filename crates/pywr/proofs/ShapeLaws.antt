@@ -13,6 +13,7 @@ use lib.Seq.{getD-at}
 use lib.Dec.{T, isLe, isEq, leb, ltb, eqb, nleb→lt, leb→le, eqb→eq, eqb-refl, ltb→lt, le→leb, lt→ltb}
 use lib.Ieee.{Float, neg, eq}
 use lib.Ieee.Fits.{and-i, and-l, and-r}
+use borrow.Author.Tests.{ltb-false}
 use Rattle.pywr.specs.declared.Sentinel.{Sentinel}
 use Rattle.pywr.specs.Numbers.{double, zero64, one64, high}
 use Rattle.pywr.specs.Network.{output, link, storage, Node, Aggregate, Part, VirtualStorage, Network, kindOf}
@@ -26,7 +27,7 @@ use Rattle.pywr.specs.FixedRows.{massRowsFrom, upperCoefficient, lowerCo
 use Rattle.pywr.specs.Misshapen.{columnsRise}
 use Rattle.pywr.proofs.MassLaws.{HasColumn, added, Every, every-append}
 use Rattle.pywr.proofs.EvenLaws.{mapped-edge-of}
-use Rattle.pywr.proofs.JoinLaws.{position-found, position-most, not-below}
+use Rattle.pywr.proofs.JoinLaws.{position-found, position-most}
 use Rattle.pywr.proofs.ListLaws.{AllMem, all-snoc, found-mem, found-below, each-of}
 use Rattle.pywr.proofs.ListingLaws.{listing-sound, from-known}
 use Rattle.pywr.proofs.ReadLaws.{Sound}
@@ -328,7 +329,7 @@ sits-one asked r j s = go (ltb (position r (j .rows)) (length (j .rows))) refl
         sits-snoc (j .rows) asked (j .places) r p s l (same-cols (getD (j .rows) p []) r (position-found r (j .rows) l))
     go false e =
         let n = length-append (j .rows) (r ∷ []) in
-        let same : p ≡ length (j .rows) = (let m = position-most r (j .rows) in let g = not-below p (length (j .rows)) e in omega arith) in
+        let same : p ≡ length (j .rows) = (let m = position-most r (j .rows) in let g = ltb-false p (length (j .rows)) e in omega arith) in
         sits-snoc (j .rows ++ (r ∷ [])) asked (j .places) r p (sits-later (j .rows) asked (j .places) r s) (omega arith) (ap cols (getD-at (j .rows) r [] [] p (sym same)))
 
 pub sits-all : (asked before : List (List Element)) (j : Joined) → Sits (j .rows) before (j .places) → Sits (addVariableRows asked j .rows) (before ++ asked) (addVariableRows asked j .places)

@@ -11,6 +11,7 @@ use lib.ListN.{length, getD, getElem?, length-map}
 use lib.IntN.{ℤ}
 use lib.Dec.{T, T-not, not-T, eqb, leb, eqb→eq, lit<}
 use lib.Ieee.Fits.{and-i, and-l, and-r, eq→eqb}
+use Rattle.laws.proofs.Tests.{or-l, or-r, or-elim, by-cases, cond-yes, cond-no}
 use Rattle.pywr.specs.declared.Sentinel.{Sentinel}
 use Rattle.pywr.specs.declared.Interval.{Interval}
 use Rattle.pywr.specs.Network.{link, Node, Aggregate, Part, VirtualStorage, Network, noNode, kindOf, isExclusive}
@@ -28,7 +29,7 @@ use Rattle.pywr.specs.Plans.{meets, Plan, scaled, allFrom}
 use Rattle.pywr.specs.Allows.{allows, inflow, outflow, nodeAmount, setsAmount, partsAmount, balanced, ownInterval, nodeMeets, aggregateMeets, storageMeets, exclusiveMeets, memberMeets, setsMeet, onCount, exclusivityMeets}
 use Rattle.pywr.specs.Admits.{admits, carried, equalInColumn, rowSum, rowMet, columnMet}
 use Rattle.pywr.specs.Correspondence.{isWhole, factorsWhole}
-use Rattle.pywr.proofs.BoundLaws.{IsInterval, or-l, or-r, or-elim, by-cases, cond-yes, cond-no}
+use Rattle.pywr.proofs.BoundLaws.{IsInterval}
 use Rattle.pywr.proofs.AmountLaws.{Carries, listings, aggregate-sum, Factors, no-more, one-more, storage-sum}
 use Rattle.pywr.proofs.EvenLaws.{Balanced, balanced-even, carries}
 use Rattle.pywr.proofs.MassLaws.{Every, every-append, Met, every-met, Joined, mass-met}
@@ -158,12 +159,12 @@ module _ (w : Sentinel) (net : Network) (sound : Sound net) (only : OnlyConstant
       let e = sound .good .edgeCount in
       let x : listings (a .sets) ≤ 256 = omega arith in
       let y : length (net .edges) * 1 + length (net .edges) * 1 ≤ 1024 = omega arith in
-      aggregate-sum 0 zero-le net plan (columns-long net) each a (lt-of-le-of-lt (mul-le-mul x y) (lit< tt))
+      aggregate-sum net plan (columns-long net) each a (lt-of-le-of-lt (mul-le-mul x y) (lit< tt))
 
-  part-factors : (v : VirtualStorage) → StorageOk v → T (allFrom (λ (k : ℕ) (p : Part). isWhole p) 0 (v .parts)) → Factors 0 zero-le net plan (columns-long net) each 1000000 (v .parts)
+  part-factors : (v : VirtualStorage) → StorageOk v → T (allFrom (λ (k : ℕ) (p : Part). isWhole p) 0 (v .parts)) → Factors 0 1000000 (v .parts)
   part-factors v okv t = go (v .parts) (okv .parts) (λ n p e. all-at (λ (k : ℕ) (q : Part). isWhole q) (v .parts) 0 .0 t n p e)
     where
-      go : (ps : List Part) → AllMem PartOk ps → ((n : ℕ) (p : Part) → getElem? ps n ≡ some p → T (isWhole p)) → Factors 0 zero-le net plan (columns-long net) each 1000000 ps
+      go : (ps : List Part) → AllMem PartOk ps → ((n : ℕ) (p : Part) → getElem? ps n ≡ some p → T (isWhole p)) → Factors 0 1000000 ps
       go [] k h = no-more
       go (p ∷ ps) k h = one-more (whole-factor p (k p (List·Memᴰ·head refl)) (h 0 p refl)) (go ps (λ q m. k q (List·Memᴰ·tail m)) (λ n q e. h (suc n) q e))
 
@@ -175,7 +176,7 @@ module _ (w : Sentinel) (net : Network) (sound : Sound net) (only : OnlyConstant
       let ne = sound .good .edgeCount in
       let t = all-at (λ (m : ℕ) (u : VirtualStorage). allFrom (λ (k : ℕ) (p : Part). isWhole p) 0 (u .parts)) (net .virtualStorages) 0 .0 whole n v e in
       let y : length (net .edges) * 1000000 + length (net .edges) * 1000000 ≤ 1024000000 = omega arith in
-      storage-sum 0 zero-le net plan (columns-long net) each 1000000 v (part-factors v okv t) (lt-of-le-of-lt (mul-le-mul few y) (lit< tt))
+      storage-sum net plan (columns-long net) each 1000000 v (part-factors v okv t) (lt-of-le-of-lt (mul-le-mul few y) (lit< tt))
 
   -- the varying rows
   record VaryingMet : Type 0 where

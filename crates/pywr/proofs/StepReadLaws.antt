@@ -25,7 +25,7 @@ use Rattle.pywr.specs.StepIntervals.{intervals, nodeInterval, nodeInterv
 use Rattle.pywr.proofs.BoundLaws.{IsInterval}
 use Rattle.pywr.proofs.NumberLaws.{flow-bound, small-is, Divisor, days-is, storage-interval, virtual-interval, flow-interval}
 use Rattle.pywr.proofs.VaryingLaws.{sentinels-interval}
-use Rattle.pywr.proofs.RunLaws.{bind-value, need-value}
+use Rattle.pywr.proofs.RunLaws.{bind-then, bind-value, need-value}
 use Rattle.pywr.proofs.ListLaws.{AllMem, all-none, all-cons, all-snoc}
 use Rattle.pywr.proofs.ReadLaws.{same-value, checked-value}
 
@@ -34,11 +34,8 @@ use Rattle.pywr.proofs.ReadLaws.{same-value, checked-value}
 read-date : (file : List ℕ) (r : Read StepFile) → readDate file ≡ value r → Divisor (r .item .days)
 unfolding readDate
 read-date file r e =
-    let a = bind-value _ _ r e in
-    let b = bind-value _ _ r (a .2) in
-    let c = bind-value _ _ r (b .2) in
-    let d = bind-value _ _ r (c .2) in
-    subst (λ (q : Read StepFile). Divisor (q .item .days)) (same-value _ r (d .2)) (days-is (d .0) (checked-value 13 (a .0) isDays _ (d .0) (d .1)))
+    bind-then _ _ r e (λ a a-is e. bind-then _ _ r e (λ b b-is e. bind-then _ _ r e (λ c c-is e. bind-then _ _ r e (λ d d-is e.
+    subst (λ (q : Read StepFile). Divisor (q .item .days)) (same-value _ r e) (days-is d (checked-value 13 a isDays _ d d-is))))))
 
 -- ---- nodes: whatever the days
 
@@ -50,7 +47,7 @@ bounds-ok : (c st : Bool) (min max now : ℕ) → T (c || cond st (isSmall min) 
     → BoundsOk (cond {A = Option NodeBounds} c none (cond {A = Option NodeBounds} st (some (storageBounds (ofPattern min) (ofPattern max) (ofPattern now))) (some (Flow (ofPattern min) (ofPattern max)))))
 unfolding nodeInterval
 bounds-ok true st min max now hmin hmax hnow s days d = sentinels-interval s
-bounds-ok false true min max now hmin hmax hnow s days d = storage-interval days (ofPattern min) (ofPattern max) (ofPattern now) d (small-is min hmin .0) (small-is max hmax .0) (small-is now hnow .0)
+bounds-ok false true min max now hmin hmax hnow s days d = storage-interval days (ofPattern min) (ofPattern max) (ofPattern now) d (small-is min hmin) (small-is max hmax) (small-is now hnow)
 bounds-ok false false min max now hmin hmax hnow s days d = flow-interval days (ofPattern min) (ofPattern max) (flow-bound min hmin) (flow-bound max hmax)
 
 abbrev pub StepOk : NodeStep → Type 0
@@ -59,16 +56,12 @@ StepOk n = BoundsOk (n .bounds)
 read-node-step : (file : List ℕ) (n : NodeShape) (place : ℕ) (r : NodeStep) → readNodeStep file n place ≡ value r → StepOk r
 unfolding readNodeStep boundFits volumeFits boundsRead
 read-node-step file n place r e =
-    let a = bind-value _ _ r e in
-    let b = bind-value _ _ r (a .2) in
-    let c = bind-value _ _ r (b .2) in
-    let d = bind-value _ _ r (c .2) in
-    let g = bind-value _ _ r (d .2) in
-    subst StepOk (same-value _ r (g .2))
-    (bounds-ok (n .constant) (isStorage n) (c .0) (d .0) (g .0)
-    (checked-value 13 (a .0) (boundFits n) _ (c .0) (c .1))
-    (checked-value 13 (a .0) (boundFits n) _ (d .0) (d .1))
-    (checked-value 13 (a .0) (volumeFits n) _ (g .0) (g .1)))
+    bind-then _ _ r e (λ a a-is e. bind-then _ _ r e (λ b b-is e. bind-then _ _ r e (λ c c-is e. bind-then _ _ r e (λ d d-is e. bind-then _ _ r e (λ g g-is e.
+    subst StepOk (same-value _ r e)
+    (bounds-ok (n .constant) (isStorage n) c d g
+    (checked-value 13 a (boundFits n) _ c c-is)
+    (checked-value 13 a (boundFits n) _ d d-is)
+    (checked-value 13 a (volumeFits n) _ g g-is)))))))
 
 read-node-steps : (file : List ℕ) (ns : List NodeShape) (soFar : List NodeStep) (at : ℕ) (r : Read (List NodeStep)) → readNodeSteps file ns soFar at ≡ value r → AllMem StepOk soFar → AllMem StepOk (r .item)
 unfolding readNodeSteps
@@ -82,11 +75,9 @@ read-node-steps file (n ∷ ns) soFar at r e h =
 read-group : (file : List ℕ) (place : ℕ) (r : Interval) → readAggregateStep file place ≡ value r → IsInterval r
 unfolding readAggregateStep
 read-group file place r e =
-    let a = bind-value _ _ r e in
-    let b = bind-value _ _ r (a .2) in
-    let c = bind-value _ _ r (b .2) in
-    subst IsInterval (same-value _ r (c .2))
-    (record { lower = flow-bound (b .0) (checked-value 13 (a .0) isFlow _ (b .0) (b .1)); upper = flow-bound (c .0) (checked-value 13 (a .0) isFlow _ (c .0) (c .1)) })
+    bind-then _ _ r e (λ a a-is e. bind-then _ _ r e (λ b b-is e. bind-then _ _ r e (λ c c-is e.
+    subst IsInterval (same-value _ r e)
+    (record { lower = flow-bound b (checked-value 13 a isFlow _ b b-is); upper = flow-bound c (checked-value 13 a isFlow _ c c-is) }))))
 
 read-groups : (file : List ℕ) (count : ℕ) (soFar : List Interval) (at : ℕ) (r : Read (List Interval)) → readAggregateSteps file count soFar at ≡ value r → AllMem IsInterval soFar
     → AllMem IsInterval (r .item) × (length (r .item) ≡ length soFar + count)
@@ -106,16 +97,13 @@ VolumeOk b = (s : Sentinel) (days : Float) (active : Bool) → Divisor days → 
 read-store : (file : List ℕ) (place : ℕ) (r : NodeBounds) → readStorageStep file place ≡ value r → VolumeOk r
 unfolding readStorageStep
 read-store file place r e =
-    let a = bind-value _ _ r e in
-    let b = bind-value _ _ r (a .2) in
-    let c = bind-value _ _ r (b .2) in
-    let d = bind-value _ _ r (c .2) in
-    subst VolumeOk (same-value _ r (d .2))
+    bind-then _ _ r e (λ a a-is e. bind-then _ _ r e (λ b b-is e. bind-then _ _ r e (λ c c-is e. bind-then _ _ r e (λ d d-is e.
+    subst VolumeOk (same-value _ r e)
     (λ s days active k.
-    virtual-interval s days (ofPattern (b .0)) (ofPattern (c .0)) (ofPattern (d .0)) active k
-    (small-is (b .0) (checked-value 13 (a .0) isSmall _ (b .0) (b .1)) .0)
-    (small-is (c .0) (checked-value 13 (a .0) isSmall _ (c .0) (c .1)) .0)
-    (small-is (d .0) (checked-value 13 (a .0) isSmall _ (d .0) (d .1)) .0))
+    virtual-interval s days (ofPattern b) (ofPattern c) (ofPattern d) active k
+    (small-is b (checked-value 13 a isSmall _ b b-is))
+    (small-is c (checked-value 13 a isSmall _ c c-is))
+    (small-is d (checked-value 13 a isSmall _ d d-is)))))))
 
 read-stores : (file : List ℕ) (count : ℕ) (soFar : List NodeBounds) (at : ℕ) (r : Read (List NodeBounds)) → readStorageSteps file count soFar at ≡ value r → AllMem VolumeOk soFar
     → AllMem VolumeOk (r .item) × (length (r .item) ≡ length soFar + count)
@@ -140,23 +128,20 @@ pub record StepSound (aggregates storages : ℕ) (f : StepFile) : Type 0 where
 pub step-sound : (shapes : List NodeShape) (aggregates storages : ℕ) (file : List ℕ) (f : StepFile) → readStep shapes aggregates storages file ≡ value f → StepSound aggregates storages f
 unfolding readStep
 step-sound shapes aggregates storages file f e =
-    let a = bind-value _ _ f e in
-    let b = bind-value _ _ f (a .2) in
-    let c = bind-value _ _ f (b .2) in
-    let d = bind-value _ _ f (c .2) in
-    let g = read-groups file aggregates [] (b .0 .next) (c .0) (c .1) (all-none IsInterval) in
-    let h = read-stores file storages [] (c .0 .next) (d .0) (d .1) (all-none VolumeOk) in
-    let gl : length (c .0 .item) ≡ 0 + aggregates = g .1 in
-    let hl : length (d .0 .item) ≡ 0 + storages = h .1 in
-    subst (StepSound aggregates storages) (need-value _ 12 (d .0 .next) _ f (d .2))
+    bind-then _ _ f e (λ a a-is e. bind-then _ _ f e (λ b b-is e. bind-then _ _ f e (λ c c-is e. bind-then _ _ f e (λ d d-is e.
+    let g = read-groups file aggregates [] (b .next) c c-is (all-none IsInterval) in
+    let h = read-stores file storages [] (c .next) d d-is (all-none VolumeOk) in
+    let gl : length (c .item) ≡ 0 + aggregates = g .1 in
+    let hl : length (d .item) ≡ 0 + storages = h .1 in
+    subst (StepSound aggregates storages) (need-value _ 12 (d .next) _ f e)
     (record {
-      days = read-date file (a .0) (a .1);
-      nodes = read-node-steps file shapes [] (a .0 .next) (b .0) (b .1) (all-none StepOk);
+      days = read-date file a a-is;
+      nodes = read-node-steps file shapes [] (a .next) b b-is (all-none StepOk);
       groups = g .0;
       groupCount = omega arith;
       stores = h .0;
       storeCount = omega arith;
-    })
+    })))))
 
 -- ---- the intervals
 

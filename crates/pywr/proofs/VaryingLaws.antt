@@ -6,22 +6,26 @@ use mathlib.Core.List.{List, [], _∷_, map}
 use lib.ListN.{length, getD, length-map}
 use lib.IntN.{ℤ}
 use lib.Dec.{T}
-use lib.Ieee.{neg, ofBits, fits, isNan}
+use lib.Ieee.{binary64}
+use Rattle.doubles.proofs.Order.{neg-num}
 use Rattle.pywr.specs.declared.Sentinel.{Sentinel}
-use Rattle.pywr.specs.declared.Sentinel.the-variants.{Infinity, Largest}
 use Rattle.pywr.specs.declared.Interval.{Interval}
 use Rattle.pywr.specs.Numbers.{high, low}
 use Rattle.pywr.specs.Rows.{Element, ColumnMap}
-use Rattle.pywr.specs.Programme.{Row, RowType, NodeRow, Shape}
+use Rattle.pywr.specs.Programme.{Row, RowType, continuous, NodeRow, Shape}
 use Rattle.pywr.specs.Interval.{sentinels}
 use Rattle.pywr.specs.StepIntervals.{Intervals}
 use Rattle.pywr.specs.Step.{adjust, bounded, applyRowBounds, applyInterval, applyNodeRows, applyIntervals, rowOf, stepRows}
 use Rattle.pywr.specs.Plans.{meets, Plan}
 use Rattle.pywr.specs.Admits.{rowSum}
-use Rattle.pywr.proofs.BoundLaws.{IsInterval}
+use Rattle.pywr.proofs.BoundLaws.{IsInterval, high-bound}
 use Rattle.pywr.proofs.RowLaws.{Sane, adjust-length, adjust-elements, adjust-sane, elementsAt, AllMet, Fitting, sums, Applied, apply-met, reset-met}
 use Rattle.pywr.proofs.JoinLaws.{Placed}
-use Rattle.pywr.proofs.RunLaws.{Continuous}
+
+-- no exclusive node varies: every node row is continuous
+pub data Continuous : List NodeRow → Type 0 where
+  none : Continuous []
+  more : {n : NodeRow} {ns : List NodeRow} → n .rowType ≡ continuous → Continuous ns → Continuous (n ∷ ns)
 
 -- continuous node rows are intervals applied in turn
 unfoldable pub node-intervals : Sentinel → List Interval → List NodeRow → List Interval
@@ -79,9 +83,8 @@ apply-sane n [] [] rows Fitting.none s = s
 apply-sane n (r ∷ rs) (i ∷ is) rows (Fitting.more h ii fs) s = apply-sane n rs is (adjust (applyRowBounds i) r rows) fs (adjust-sane i ii r rows s)
 
 pub sentinels-interval : (w : Sentinel) → IsInterval (sentinels w)
-unfolding sentinels low high neg ofBits fits isNan
-sentinels-interval Infinity = record { lower = record { fit = tt; number = tt }; upper = record { fit = tt; number = tt } }
-sentinels-interval Largest = record { lower = record { fit = tt; number = tt }; upper = record { fit = tt; number = tt } }
+unfolding sentinels low
+sentinels-interval w = record { lower = neg-num binary64 (high w) (high-bound w); upper = high-bound w }
 
 reset-sane : (w : Sentinel) (rows : List Row) → Sane (map (bounded (sentinels w)) rows)
 unfolding bounded

@@ -1,5 +1,4 @@
--- The store of an accepted build is well shaped, and so is it after any list of steps; there a step file that reads well with ordered intervals is accepted.
--- Assumes nothing.
+-- The store of an accepted build is well shaped. Assumes nothing.
 use mathlib.Core.Path.{_≡_, refl, sym, ap, ap₂, _∙_, subst}
 use mathlib.Core.Logic.{_⊎_, inl, inr}
 use Prim.Native.Nat.{ℕ, zero, suc, _+_, _<_, _≤_, suc-le-suc, zero-le}
@@ -11,6 +10,7 @@ use mathlib.Core.Option.{Option, none, some}
 use lib.ListN.{length, getD, getElem?, length-append, length-map}
 use lib.Dec.{T, leb, ltb, eqb, le→leb, lt→ltb, lit≤}
 use lib.Ieee.Fits.{and-i, eq→eqb}
+use Rattle.laws.proofs.Tests.{or-l, or-r}
 use Rattle.pywr.specs.declared.Sentinel.{Sentinel}
 use Rattle.pywr.specs.declared.Sentinel.the-variants.{Infinity, Largest}
 use Rattle.pywr.specs.Network.{Edge, VirtualStorage, Network, listed}
@@ -25,7 +25,6 @@ use Rattle.pywr.specs.Store.{Store, word, sentinelCode, nodeCount, edgeC
 use Rattle.pywr.specs.Misshapen.{countsFit, startsRise, columnsRise, rowColumnsRise, nodeFits, edgeFits, nodeRowFits, aggregateFits, storageFits, allEntries, wellShaped}
 use Rattle.pywr.specs.Written.{sentinelWord, rowTypeWord, flagWord, nodeWords, edgeWords, nodeRowWords, storageWords, countWords, shapeAfter, startsFrom, columnsIn, rowsOf, builtStore}
 use Rattle.pywr.specs.Plans.{Plan}
-use Rattle.pywr.proofs.BoundLaws.{or-l, or-r}
 use Rattle.pywr.proofs.AmountLaws.{pipes-length}
 use Rattle.pywr.proofs.EvenLaws.{mapped-edge-of}
 use Rattle.pywr.proofs.MassLaws.{Every}

@@ -29,7 +29,7 @@ use Rattle.pywr.specs.Plans.{exact, meets, unit, signed, isFinite, scale
 use Rattle.pywr.specs.Allows.{allows, flowWith, inflow, outflow, nodeAmount, nodesAmount, setsAmount, partsAmount, balanced, ownInterval, nodeMeets, aggregateMeets, storageMeets, onAmount, exclusiveMeets, memberMeets, setsMeet, onCount, exclusivityMeets}
 use Rattle.pywr.specs.Admits.{admits, carried, equalInColumn, onColumn, rowSum, rowMet, columnMet}
 use Rattle.pywr.specs.Correspondence.{storeAfter, reports, lastAccepted, periodsOf, readBy, allowsRead, allowsUnder, networkAllows, programmeAdmits, exclusiveConstant, isWhole, factorsWhole, anyAccepted}
-use Rattle.pywr.specs.FileBytes.{w16, w32, w64, varying, constant, edge, setBytes, exclusive, date, nodeStep}
+use Rattle.pywr.specs.FileBytes.{w16, w32, w64, varying, constant, edge, setBytes, exclusive, date, nodeStep, aggregateStep}
 
 -- the doubles
 unfoldable pub rounding : ℕ
@@ -63,7 +63,7 @@ planning = 0
 
 -- the bytes of files
 unfoldable pub writing : ℕ
-unfolding flatMap w16 w32 w64 varying constant edge setBytes exclusive date nodeStep
+unfolding flatMap w16 w32 w64 varying constant edge setBytes exclusive date nodeStep aggregateStep
 writing = 0
 
 unfoldable pub computing : ℕ

@@ -35,3 +35,6 @@ date month day days = 83 ∷ 84 ∷ month ∷ day ∷ w64 days
 
 unfoldable pub nodeStep : Float → Float → Float → Float → List ℕ
 nodeStep cost min max volume = 78 ∷ 66 ∷ w64 cost ++ w64 min ++ w64 max ++ w64 volume
+
+unfoldable pub aggregateStep : Float → Float → List ℕ
+aggregateStep lower upper = 71 ∷ 66 ∷ w64 lower ++ w64 upper

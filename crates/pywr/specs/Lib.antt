@@ -26,6 +26,7 @@ pub mod Plans
 pub mod Allows
 pub mod Admits
 pub mod Correspondence
+pub mod PortRun
 pub mod FileBytes
 pub mod Compute
 pub mod Cases

@@ -11,15 +11,16 @@ ghost use Rattle.pywr.specs.Written.{flagWord, storageWords};
 ghost use Rattle.fields.specs.declared.Checked.the-variants.{Next};
 ghost use Rattle.virtual_storage.specs.VirtualStorage.{virtualStorageAt, virtualStorageEnd, checkVirtualStorage};
 ghost use Rattle.virtual_storage.specs.PeriodOf.{periodOf};
-ghost use Rattle.lp_builder.specs.LpBuilder.{Held, Holding, AfterVariableRow};
+ghost use Rattle.lp_builder.specs.LpBuilder.{Held, Holding};
+ghost use Rattle.variable_rows.specs.VariableRow.{AfterVariableRow};
 ghost use Rattle.row_tables.specs.Tables.{networkOf, EdgeTables};
 ghost use Rattle.joined_rows.specs.JoinedRows.{Gathered, HoldingVarying, AfterVariableRows};
 ghost use Rattle.storage_rows.specs.StorageRows.{storageRows, storageTable};
 use lp_builder::Filled;
 use lp_builder::RowsAdded;
-use lp_builder::VariableRow;
 use network_record::Counts;
 use pywr::Sentinel;
+use variable_rows::VariableRow;
 use virtual_storage::Period;
 
 // Gathers the row of the virtual storage at `at`: minus factor times node row, part by part.
@@ -100,7 +101,7 @@ fn add_virtual_storage_row(
         columns,
         &mut numbers[from..],
     );
-    lp_builder::add_variable_row(words, numbers, columns, n, f, sentinel)
+    variable_rows::add_variable_row(words, numbers, columns, n, f, sentinel)
 }
 
 // A period's flag in the table: 0 always, 1 a period.

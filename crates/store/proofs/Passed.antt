@@ -7,9 +7,9 @@ use lib.ListN.{length, getD}
 use lib.Dec.{leb, eqb, leb→le}
 use lib.Ieee.Fits.{and-l, and-r}
 use borrow.Author.Tests.{not-false}
+use Rattle.laws.proofs.Tests.{of-true, to-true}
 use Rattle.pywr.specs.Store.{Store, storeHasRoom, sentinelCode, nodeCount, edgeCount, edgeColumnCount, setCount, rowCount, elementsKept, nodeRowCount, aggregateCount, storageCount, nodesAt, edgesAt, nodeRowsAt, aggregatesAt, storagesAt, startOf}
 use Rattle.pywr.specs.Misshapen.{countsFit, startsRise, rowColumnsRise, nodeFits, edgeFits, nodeRowFits, aggregateFits, storageFits, allEntries, wellShaped}
-use Rattle.pywr.proofs.ListLaws.{of-true, to-true}
 use Rattle.pywr.proofs.Represents.{Roomy}
 use Rattle.pywr.proofs.DemandThree.{roomy-parts}
 use Rattle.store_shape.proofs.Entries.{ofShape}

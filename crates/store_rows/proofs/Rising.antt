@@ -12,8 +12,8 @@ use lib.ListN.{length, getD}
 use lib.Seq.{slice, slice-empty, slice-cons}
 use lib.Dec.{ltb, eqb, leb·zero, eqb·suc-zero, eqb-refl}
 use borrow.Author.Tests.{lt-ltb, le-ltb, ne-eqb}
+use Rattle.laws.proofs.Tests.{to-true}
 use Rattle.pywr.specs.Misshapen.{columnsRise, allEntries}
-use Rattle.pywr.proofs.ListLaws.{to-true}
 use Rattle.store_rows.specs.Falls.{fall, fallAt, sumFrom, startFall, rowFall}
 use Rattle.store_rows.specs.Starts.{StartsRise}
 use Rattle.store_rows.proofs.Starts.{start-under}

@@ -8,9 +8,9 @@ use mathlib.Core.List.{List, []}
 use lib.ListN.{getD}
 use lib.Dec.{T, leb, eqb, leb→le, eqb→eq}
 use lib.Ieee.Fits.{and-l, and-r}
+use Rattle.laws.proofs.Tests.{of-true}
 use Rattle.pywr.specs.Store.{Store, elementsKept, startOf}
 use Rattle.pywr.specs.Misshapen.{startsRise}
-use Rattle.pywr.proofs.ListLaws.{of-true}
 use Rattle.store_rows.specs.Starts.{StartsRise}
 
 -- a store of which only these three runs are read

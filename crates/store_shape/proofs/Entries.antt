@@ -1,14 +1,15 @@
 -- A loop that tests the entries of a table one after another and looks at all of them. Assumes nothing.
-use mathlib.Core.Path.{_≡_, refl, sym, _∙_}
+use mathlib.Core.Path.{_≡_, refl, sym, ap, _∙_}
 use Prim.Native.Nat.{ℕ, zero, suc, _+_, _*_, _-_, _≤_, _<_, zero-le}
-use native.Mathlib.Nat.{add-zero, add-assoc, add-comm, mul-zero, mul-suc, mul-add, mul-one, sub-zero, sub-eq-zero-of-le}
+use native.Mathlib.Nat.{add-zero, add-assoc, mul-zero, mul-add, mul-one, sub-zero, sub-eq-zero-of-le}
 use native.Mathlib.Omega.{arith}
 use mathlib.Core.Bool.{Bool, true, false, _&&_, and-true}
 use mathlib.Core.List.{List, []}
 use lib.Ieee.Fits.{and-l, and-r}
+use Rattle.laws.proofs.Tests.{of-true, to-true}
 use Rattle.pywr.specs.Store.{Store}
 use Rattle.pywr.specs.Misshapen.{allEntries}
-use Rattle.pywr.proofs.ListLaws.{of-true, to-true}
+use Rattle.store_shape.proofs.EntryLaws.{first-entry, next-entry}
 
 -- a store of which only the shape run is read
 abbrev pub ofShape : List ℕ → Store
@@ -55,8 +56,7 @@ pub entry-passes : (test : ℕ → Bool) (words count at : ℕ) → allEntries t
 unfolding allEntries
 entry-passes test words zero at e i lt = absurd (omega arith)
 entry-passes test words (suc count) at e zero lt =
-    rw (mul-zero, add-zero) (to-true (test at) (and-l (test at) (allEntries test words (at + words) count) (of-true (test at && allEntries test words (at + words) count) e)))
+    ap test (sym (first-entry words at)) ∙ to-true (test at) (and-l (test at) (allEntries test words (at + words) count) (of-true (test at && allEntries test words (at + words) count) e))
 entry-passes test words (suc count) at e (suc i) lt =
     let rest = and-r (test at) (allEntries test words (at + words) count) (of-true (test at && allEntries test words (at + words) count) e) in
-    let q : at + words * suc i ≡ at + words + words * i = rw (mul-suc, add-comm (words * i) words) (sym (add-assoc at words (words * i))) in
-    rw q (entry-passes test words count (at + words) (to-true (allEntries test words (at + words) count) rest) i (omega arith))
+    ap test (sym (next-entry words at i)) ∙ entry-passes test words count (at + words) (to-true (allEntries test words (at + words) count) rest) i (omega arith)

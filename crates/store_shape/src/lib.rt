@@ -1,8 +1,9 @@
 // The shape run of a store: its words, and the parts of refusal 17 that read no other run.
+use pywr::Sentinel;
 ghost use mathlib.Core.Path.{_≡_};
 ghost use Prim.Native.Nat.{_+_, _≤_, _<_};
 ghost use lib.ListN.{length, getD};
-ghost use Rattle.pywr.specs.Store.{Store, nodeCount, edgeCount, aggregateCount, storageCount, nodesAt, edgesAt, aggregatesAt, storagesAt};
+ghost use Rattle.pywr.specs.Store.{Store, sentinelOf, nodeCount, edgeCount, aggregateCount, storageCount, nodesAt, edgesAt, aggregatesAt, storagesAt};
 ghost use Rattle.pywr.specs.Misshapen.{countsFit, nodeFits, edgeFits, aggregateFits, storageFits, allEntries};
 
 // The words of the shape run: the sentinel's code, the counts, and where each table starts.
@@ -42,6 +43,18 @@ pub fn wide(x: u16) -> usize
     ensures { λ r. ⌜ (r ≡ x) × (r < 65536) ⌝ }
 {
     x as usize
+}
+
+// The sentinel that the store keeps.
+pub fn kept_sentinel(shape: &[u16]) -> Sentinel
+    requires { ⌜ 19723 ≤ length (now shape) ⌝ }
+    ensures { λ r. ⌜ r ≡ sentinelOf (getD (now (shape .entry)) 0 0) ⌝ }
+{
+    if shape[SENTINEL_CODE] == 0 {
+        Sentinel::Infinity
+    } else {
+        Sentinel::Largest
+    }
 }
 
 // The varying rows and the fixed ones.

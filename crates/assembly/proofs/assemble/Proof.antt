@@ -1,7 +1,7 @@
 -- `assembly::assemble` meets its contract. Assumes nothing.
-use Rattle.assembly.proofs.Ceilings.{not-read}
+use Rattle.programme.proofs.Ceilings.{not-read}
 use Rattle.assembly.proofs.Columns.{read-as, placed-as, refused-as}
-use Rattle.assembly.proofs.Finish.{refused-so}
+use Rattle.programme.proofs.Finish.{refused-so}
 use borrow.Author.Needs.{needs}
 use Rattle.assembly.proofs.assemble.Statement.{statement}
 use Rattle.assembly.proofs.assemble.Tie as tie

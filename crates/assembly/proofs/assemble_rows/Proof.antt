@@ -1,6 +1,6 @@
 -- `assembly::assemble_rows` meets its contract. Assumes nothing.
 use mathlib.Core.Path.{_≡_, refl, _∙_}
-use Rattle.assembly.proofs.Finish.{sets-refused}
+use Rattle.programme.proofs.Finish.{sets-refused}
 use borrow.Author.Needs.{needs}
 use Rattle.assembly.proofs.assemble_rows.Statement.{statement}
 use Rattle.assembly.proofs.assemble_rows.Tie as tie

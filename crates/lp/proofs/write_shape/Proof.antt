@@ -1,7 +1,7 @@
 -- `lp::write_shape` meets its contract. Assumes nothing.
-use mathlib.Core.Path.{_≡_, refl, sym, _∙_, ap}
+use mathlib.Core.Path.{_∙_}
 use native.Mathlib.Omega.{arith}
-use Rattle.lp.specs.Lp.{shapeWritten}
+use Rattle.lp.proofs.ShapeLaws.{node-rows-room, aggregates-room, storages-room, node-rows-held, aggregates-held, storages-held, written}
 use borrow.Author.Needs.{needs}
 use Rattle.lp.proofs.write_shape.Statement.{statement}
 use Rattle.lp.proofs.write_shape.Tie as tie
@@ -12,11 +12,11 @@ mul-copy-u16-3 c =
 
 copy-u16-requires-4 : tie.Need-copy-u16-requires-4
 copy-u16-requires-4 c κs =
-    (omega (arith, c .before .before .before .before .copy-u163 .kept .0, c .before .before .before .before .before .before .before .before .before .copy-u162 .kept .0, c .before .before .before .before .before .before .before .before .before .before .before .before .before .before .copy-u16 .kept .0, c .before .before .before .before .before .before .before .before .before .before .before .before .before .before .before .before .before .before .pre .0 .nodeRows, c .before .before .before .before .before .before .before .before .before .before .before .before .before .before .before .before .before .before .pre .2), omega (arith, c .before .before .before .before .before .before .before .before .before .before .before .before .before .before .before .before .before .before .pre .0 .nodeRows, c .before .before .before .before .before .before .before .before .before .before .before .before .before .before .before .before .before .before .pre .1))
+    (node-rows-room _ _ _ _ _ (c .before .before .before .before .copy-u163 .kept .0) (c .before .before .before .before .before .before .before .before .before .copy-u162 .kept .0) (c .before .before .before .before .before .before .before .before .before .before .before .before .before .before .copy-u16 .kept .0) (c .before .before .before .before .before .before .before .before .before .before .before .before .before .before .before .before .before .before .pre .0 .nodeRows) (c .before .before .before .before .before .before .before .before .before .before .before .before .before .before .before .before .before .before .pre .2), node-rows-held _ _ (c .before .before .before .before .before .before .before .before .before .before .before .before .before .before .before .before .before .before .pre .0 .nodeRows) (c .before .before .before .before .before .before .before .before .before .before .before .before .before .before .before .before .before .before .pre .1))
 
 copy-u16-requires-5 : tie.Need-copy-u16-requires-5
 copy-u16-requires-5 c κs =
-    (omega (arith, c .before .before .before .copy-u164 .kept .0, c .before .before .before .before .before .before .before .before .copy-u163 .kept .0, c .before .before .before .before .before .before .before .before .before .before .before .before .before .copy-u162 .kept .0, c .before .before .before .before .before .before .before .before .before .before .before .before .before .before .before .before .before .before .copy-u16 .kept .0, c .before .before .before .before .before .before .before .before .before .before .before .before .before .before .before .before .before .before .before .before .before .before .pre .0 .aggregates, c .before .before .before .before .before .before .before .before .before .before .before .before .before .before .before .before .before .before .before .before .before .before .pre .2), omega (arith, c .before .before .before .before .before .before .before .before .before .before .before .before .before .before .before .before .before .before .before .before .before .before .pre .0 .aggregates, c .before .before .before .before .before .before .before .before .before .before .before .before .before .before .before .before .before .before .before .before .before .before .pre .1))
+    (aggregates-room _ _ _ _ _ _ (c .before .before .before .copy-u164 .kept .0) (c .before .before .before .before .before .before .before .before .copy-u163 .kept .0) (c .before .before .before .before .before .before .before .before .before .before .before .before .before .copy-u162 .kept .0) (c .before .before .before .before .before .before .before .before .before .before .before .before .before .before .before .before .before .before .copy-u16 .kept .0) (c .before .before .before .before .before .before .before .before .before .before .before .before .before .before .before .before .before .before .before .before .before .before .pre .0 .aggregates) (c .before .before .before .before .before .before .before .before .before .before .before .before .before .before .before .before .before .before .before .before .before .before .pre .2), aggregates-held _ _ (c .before .before .before .before .before .before .before .before .before .before .before .before .before .before .before .before .before .before .before .before .before .before .pre .0 .aggregates) (c .before .before .before .before .before .before .before .before .before .before .before .before .before .before .before .before .before .before .before .before .before .before .pre .1))
 
 mul-copy-u16-4 : tie.Need-mul-copy-u16-4
 mul-copy-u16-4 c =
@@ -24,16 +24,15 @@ mul-copy-u16-4 c =
 
 copy-u16-requires-6 : tie.Need-copy-u16-requires-6
 copy-u16-requires-6 c κs =
-    (omega (arith, c .before .before .before .before .copy-u165 .kept .0, c .before .before .before .before .before .before .before .before .copy-u164 .kept .0, c .before .before .before .before .before .before .before .before .before .before .before .before .before .copy-u163 .kept .0, c .before .before .before .before .before .before .before .before .before .before .before .before .before .before .before .before .before .before .copy-u162 .kept .0, c .before .before .before .before .before .before .before .before .before .before .before .before .before .before .before .before .before .before .before .before .before .before .before .copy-u16 .kept .0, c .before .before .before .before .before .before .before .before .before .before .before .before .before .before .before .before .before .before .before .before .before .before .before .before .before .before .before .pre .0 .storages, c .before .before .before .before .before .before .before .before .before .before .before .before .before .before .before .before .before .before .before .before .before .before .before .before .before .before .before .pre .2), omega (arith, c .before .before .before .before .before .before .before .before .before .before .before .before .before .before .before .before .before .before .before .before .before .before .before .before .before .before .before .pre .0 .storages, c .before .before .before .before .before .before .before .before .before .before .before .before .before .before .before .before .before .before .before .before .before .before .before .before .before .before .before .pre .1))
+    (storages-room _ _ _ _ _ _ _ (c .before .before .before .before .copy-u165 .kept .0) (c .before .before .before .before .before .before .before .before .copy-u164 .kept .0) (c .before .before .before .before .before .before .before .before .before .before .before .before .before .copy-u163 .kept .0) (c .before .before .before .before .before .before .before .before .before .before .before .before .before .before .before .before .before .before .copy-u162 .kept .0) (c .before .before .before .before .before .before .before .before .before .before .before .before .before .before .before .before .before .before .before .before .before .before .before .copy-u16 .kept .0) (c .before .before .before .before .before .before .before .before .before .before .before .before .before .before .before .before .before .before .before .before .before .before .before .before .before .before .before .pre .0 .storages) (c .before .before .before .before .before .before .before .before .before .before .before .before .before .before .before .before .before .before .before .before .before .before .before .before .before .before .before .pre .2), storages-held _ _ (c .before .before .before .before .before .before .before .before .before .before .before .before .before .before .before .before .before .before .before .before .before .before .before .before .before .before .before .pre .0 .storages) (c .before .before .before .before .before .before .before .before .before .before .before .before .before .before .before .before .before .before .before .before .before .before .before .before .before .before .before .pre .1))
 
 same-length : tie.Need-same-length
 same-length c =
     c .before .before .copy-u166 .kept .0 ∙ c .before .before .before .before .before .before .before .copy-u165 .kept .0 ∙ c .before .before .before .before .before .before .before .before .before .before .before .copy-u164 .kept .0 ∙ c .before .before .before .before .before .before .before .before .before .before .before .before .before .before .before .before .copy-u163 .kept .0 ∙ c .before .before .before .before .before .before .before .before .before .before .before .before .before .before .before .before .before .before .before .before .before .copy-u162 .kept .0 ∙ c .before .before .before .before .before .before .before .before .before .before .before .before .before .before .before .before .before .before .before .before .before .before .before .before .before .before .copy-u16 .kept .0
 
 returns : tie.Need-returns
-unfolding shapeWritten
 returns c =
-    c .before .before .copy-u166 .ensures ∙ rw (c .before .before .before .before .before .before .before .copy-u165 .ensures, c .before .before .before .before .before .before .before .before .before .before .before .copy-u164 .ensures, c .before .before .before .before .before .before .before .before .before .before .before .before .before .before .before .before .copy-u163 .ensures, c .before .before .before .before .before .before .before .before .before .before .before .before .before .before .before .before .before .before .before .before .before .copy-u162 .ensures, c .before .before .before .before .before .before .before .before .before .before .before .before .before .before .before .before .before .before .before .before .before .before .before .before .before .before .copy-u16 .ensures)
+    written (c .before .before .before .before .before .before .before .before .before .before .before .before .before .before .before .before .before .before .before .before .before .before .before .before .before .before .before .before .before .before .args .z) _ _ _ _ _ _ _ _ (c .before .before .copy-u166 .ensures) (c .before .before .before .before .before .before .before .copy-u165 .ensures) (c .before .before .before .before .before .before .before .before .before .before .before .copy-u164 .ensures) (c .before .before .before .before .before .before .before .before .before .before .before .before .before .before .before .before .copy-u163 .ensures) (c .before .before .before .before .before .before .before .before .before .before .before .before .before .before .before .before .before .before .before .before .before .copy-u162 .ensures) (c .before .before .before .before .before .before .before .before .before .before .before .before .before .before .before .before .before .before .before .before .before .before .before .before .before .before .copy-u16 .ensures)
 
 pub write-shape-spec : {M : Type 1} → statement M
 write-shape-spec =

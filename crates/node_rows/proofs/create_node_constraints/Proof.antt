@@ -5,7 +5,7 @@ use native.Mathlib.Omega.{arith}
 use lib.ListN.{length}
 use Rattle.pywr.specs.Rows.{columnMap}
 use Rattle.row_tables.specs.Tables.{networkOf}
-use Rattle.node_rows.specs.NodeRows.{NodeRowsHeld, requestsBefore}
+use Rattle.node_row_table.specs.NodeRows.{NodeRowsHeld, requestsBefore}
 use Rattle.node_rows.proofs.NodeOrder.{node-under, order-first, order-full, order-done}
 use borrow.Author.Needs.{needs}
 use Rattle.node_rows.proofs.create_node_constraints.Statement.{statement}

@@ -1,0 +1,2 @@
+mod BothRows
+mod Listings

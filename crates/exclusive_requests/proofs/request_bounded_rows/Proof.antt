@@ -1,0 +1,72 @@
+-- `exclusive_requests::request_bounded_rows` meets its contract. Assumes nothing.
+use mathlib.Core.Path.{refl}
+use native.Mathlib.Omega.{arith}
+use lib.Ieee.{ofBits}
+use Rattle.pywr.specs.Numbers.{one64}
+use Rattle.pywr.specs.Written.{rowTypeWord}
+use Rattle.pywr.specs.Programme.{binaryUpper, binaryLower}
+use Rattle.node_row_table.proofs.Table.{count-more}
+use Rattle.exclusive_requests.proofs.BothRows.{edge-columns-few, set-column, upper-full, both-asked}
+use borrow.Author.Needs.{needs}
+use Rattle.exclusive_requests.proofs.request_bounded_rows.Statement.{statement}
+use Rattle.exclusive_requests.proofs.request_bounded_rows.Tie as tie
+
+add-column-index : tie.Need-add-column-index
+add-column-index c =
+    let few = edge-columns-few _ _ _ _ _ _ _ (c .before .before .before .before .pre .0) in
+    omega (arith, c .before .before .before .before .pre .2)
+
+column-index-requires : tie.Need-column-index-requires
+column-index-requires c κs =
+    let few = edge-columns-few _ _ _ _ _ _ _ (c .before .before .before .before .pre .0) in
+    omega (arith, c .before .before .before .before .pre .2)
+
+request-bounded-row-requires : tie.Need-request-bounded-row-requires
+request-bounded-row-requires c κs =
+    let p = c .before .before .before .before .before .before .before .before .pre in
+    let few = edge-columns-few _ _ _ _ _ _ _ (p .0) in
+    let column = c .before .before .before .column-index .ensures in
+    let set = c .before .before .before .before .wide16 .ensures .0 in
+    (p .0, p .1, omega arith, p .4, p .5, p .6, omega arith)
+
+request-bounded-row-requires-2 : tie.Need-request-bounded-row-requires-2
+unfolding rowTypeWord
+request-bounded-row-requires-2 c κs =
+    let p = c .before .before .before .before .before .before .before .before .before .before .before .before .before .before .before .before .before .before .before .pre in
+    let few = edge-columns-few _ _ _ _ _ _ _ (p .0) in
+    let column = c .before .before .before .before .before .before .before .before .before .before .before .before .before .before .column-index .ensures in
+    let set = c .before .before .before .before .before .before .before .before .before .before .before .before .before .before .before .wide16 .ensures .0 in
+    let upper = c .before .before .before .before .before .before .before .before .before .before .request-bounded-row .ensures binaryUpper refl (p .6 .asks) (p .6 .held) .done _ (c .before .before .before .before .r .given .1) in
+    let count = count-more _ (p .6 .asks) _ _ _ _ _ _ _ (p .6 .held) upper in
+    (p .0, p .1, omega arith, search needs, search needs, record { asks = _; held = upper }, omega arith)
+
+returns : tie.Need-returns
+unfolding rowTypeWord one64 ofBits
+returns c =
+    λ asks h.
+    upper-full _ _ _ _ _ _ (set-column _ (c .before .before .before .before .before .before .before .before .before .before .before .before .before .before .before .args .c) _ _ _ _ (c .before .before .before .before .before .before .before .before .before .before .before .before .before .before .before .pre .2) (c .before .before .before .before .before .before .before .before .before .before .before .wide16 .ensures .0) (c .before .before .before .before .before .before .before .before .before .before .column-index .ensures)) refl refl _ asks _ _ _ (c .before .before .before .before .before .before .request-bounded-row .ensures binaryUpper refl asks h) (c .enum-told .given .1)
+
+returns-2 : tie.Need-returns-2
+unfolding rowTypeWord one64 ofBits
+returns-2 c =
+    λ asks h.
+    let upper = c .before .before .before .before .before .before .before .before .before .before .before .before .before .before .before .request-bounded-row .ensures binaryUpper refl asks h .done _ (c .before .before .before .before .before .before .before .before .before .r .given .1) in
+    both-asked _ _ _ _ _ _ (set-column _ (c .before .before .before .before .before .before .before .before .before .before .before .before .before .before .before .before .before .before .before .before .before .before .before .before .args .c) _ _ _ _ (c .before .before .before .before .before .before .before .before .before .before .before .before .before .before .before .before .before .before .before .before .before .before .before .before .pre .2) (c .before .before .before .before .before .before .before .before .before .before .before .before .before .before .before .before .before .before .before .before .wide16 .ensures .0) (c .before .before .before .before .before .before .before .before .before .before .before .before .before .before .before .before .before .before .before .column-index .ensures)) refl refl _ asks _ _ _ (c .before .before .before .before .request-bounded-row2 .ensures binaryLower refl _ upper)
+
+pub request-bounded-rows-spec : {M : Type 1} → statement M
+request-bounded-rows-spec =
+    tie.close
+    (tie.spec
+    (λ c κs. search needs)
+    add-column-index
+    column-index-requires
+    request-bounded-row-requires
+    (λ c. search needs)
+    (λ c. search needs)
+    request-bounded-row-requires-2
+    (λ c. search needs)
+    (λ c. search needs)
+    returns
+    (λ c. search needs)
+    (λ c. search needs)
+    returns-2)

@@ -1,0 +1,23 @@
+-- `listing_fields::put_double` meets its contract. Assumes nothing.
+use native.Mathlib.Omega.{arith}
+use Rattle.listing_fields.proofs.FieldLaws.{put-then, put-sixteen}
+use Rattle.listing_fields.specs.Fields.{doubleField}
+use borrow.Author.Needs.{needs}
+use Rattle.listing_fields.proofs.put_double.Statement.{statement}
+use Rattle.listing_fields.proofs.put_double.Tie as tie
+
+returns : tie.Need-returns
+unfolding doubleField
+returns c =
+    let d = put-sixteen _ _ (c .before .before .before .bits .ensures) (c .before .before .put-hex .ensures) in
+    record { put = put-then (c .before .before .before .before .before .before .before .put .ensures) (d .put); end = omega (arith, c .before .before .before .before .before .before .before .put .ensures .next, d .end) }
+
+pub put-double-spec : {M : Type 1} → statement M
+put-double-spec =
+    tie.close
+    (tie.spec
+    (λ c κs. search needs)
+    (λ c κs. search needs)
+    (λ c κs. search needs)
+    (λ c. search needs)
+    returns)

@@ -1,0 +1,45 @@
+-- `node_requests::request_node_row` meets its contract. Assumes nothing.
+use mathlib.Core.Path.{refl}
+use lib.Ieee.{ofBits}
+use Rattle.pywr.specs.Numbers.{one64}
+use Rattle.pywr.specs.Misshapen.{columnsRise}
+use Rattle.pywr.specs.Written.{rowTypeWord}
+use Rattle.pywr.specs.Programme.{continuous}
+use Rattle.node_row_table.proofs.Table.{rows-lent, request-lent}
+use Rattle.node_requests.proofs.NodeGathered.{node-gathered}
+use borrow.Author.Needs.{needs}
+use Rattle.node_requests.proofs.request_node_row.Statement.{statement}
+use Rattle.node_requests.proofs.request_node_row.Tie as tie
+
+add-node-requires : tie.Need-add-node-requires
+unfolding columnsRise
+add-node-requires c κs =
+    search needs
+
+add-node-row-requires : tie.Need-add-node-row-requires
+add-node-row-requires c κs =
+    let h = c .before .before .before .before .before .before .before .before .before .before .before .before .before .pre .4 in
+    let ys = c .before .before .before .before .before .add-node .last .1 .1 .1 .1 .1 .1 .1 .1 .1 .1 .0 in
+    (search needs, search needs, c .before .before .before .before .before .add-node .ensures .few, c .before .before .before .before .before .add-node .ensures .rising, record { asks = h .asks; held = rows-lent _ (h .asks) _ _ ys _ (c .before .before .before .before .before .before .before .before .before .before .before .before .before .pre .3) (h .held) }, c .before .before .before .before .before .before .before .before .before .before .before .before .before .pre .5)
+
+returns : tie.Need-returns
+unfolding one64 ofBits rowTypeWord
+returns c =
+    let ys = c .before .before .before .before .before .before .before .before .before .before .add-node .last .1 .1 .1 .1 .1 .1 .1 .1 .1 .1 .0 in
+    let long = c .before .before .before .before .before .before .before .before .before .before .before .before .before .before .before .before .before .before .pre .3 in
+    λ asks h. request-lent _ asks _ _ ys _ long h _ _ _ _ _ _ _ _ _ (node-gathered _ _ _ _ _ _ _ _ _ refl (c .before .before .before .before .before .before .before .before .before .before .add-node .ensures) .is) (c .before .before .before .before .add-node-row .ensures continuous refl asks (rows-lent _ asks _ _ ys _ long h))
+
+pub request-node-row-spec : {M : Type 1} → statement M
+request-node-row-spec =
+    tie.close
+    (tie.spec
+    (λ c. search needs)
+    (λ c. search needs)
+    (λ c. search needs)
+    (λ c. search needs)
+    (λ c. search needs)
+    add-node-requires
+    add-node-row-requires
+    (λ c. search needs)
+    (λ c. search needs)
+    returns)

@@ -1,0 +1,5 @@
+pub mod Ceilings
+mod EdgeTable
+mod LaidOut
+mod Counts
+pub mod Finish

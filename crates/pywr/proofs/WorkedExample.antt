@@ -1,0 +1,193 @@
+-- The worked example of docs/DEMAND-3.md: both sides' numbers under two steps, and after a refused one, by computing the definitions.
+-- And the coefficients that a step gives a varying exclusive node. Assumes nothing.
+use mathlib.Core.Path.{_≡_, refl}
+use Prim.Native.Nat.{ℕ, suc, _*_}
+use mathlib.Core.List.{List, [], _∷_, _++_, map}
+use mathlib.Core.Bool.{Bool, true, false}
+use lib.ListN.{getD, replicate}
+use lib.IntN.{ℤ, pos, negℤ, negsuc}
+use lib.Ieee.{Float, fin, inf, neg}
+use Rattle.pywr.specs.declared.Sentinel.the-variants.{Infinity}
+use Rattle.pywr.specs.declared.Interval.{Interval}
+use Rattle.pywr.specs.Result.{value, Result, refused}
+use Rattle.pywr.specs.Numbers.{double, zero64}
+use Rattle.pywr.specs.Network.{input, output, link, storage, Node, Network}
+use Rattle.pywr.specs.NetworkFile.{parseNetwork}
+use Rattle.pywr.specs.Rows.{element}
+use Rattle.pywr.specs.Programme.{Column, Row, Programme}
+use Rattle.pywr.specs.StepFile.{StepFile}
+use Rattle.pywr.specs.StepIntervals.{intervals}
+use Rattle.pywr.specs.Store.{Store, programmeIn}
+use Rattle.pywr.specs.Calls.{buildStore, stepAnswer}
+use Rattle.pywr.specs.Plans.{Plan, unit}
+use Rattle.pywr.specs.Allows.{nodeAmount, ownInterval}
+use Rattle.pywr.specs.Correspondence.{Call, storeAfter, Report, reports, periodsOf, readBy, networkAllows, programmeAdmits, exclusiveConstant, factorsWhole}
+use Rattle.pywr.specs.FileBytes.{varying, constant, edge, exclusive, date, nodeStep, aggregateStep}
+use Rattle.pywr.specs.Compute.{computing}
+use Rattle.pywr.specs.Cases.{blank, work, whole, times, minusWhole}
+
+-- ---- the files
+
+-- nodes 0 intake, 1 main, 2 reservoir, 3 town, which takes 0 to 30
+network : List ℕ
+network = varying input ++ varying link ++ varying storage ++ constant output zero64 (double 30) ++ edge 0 1 ++ edge 1 2 ++ edge 2 3
+
+-- two days of June: the intake's bounds and the reservoir's volume change, costs are 1, 3, 0.5 and −10
+step : ℕ → Float → Float → ℕ → List ℕ
+step day least most volume =
+    date 6 day (double 2)
+    ++ nodeStep (double 1) least most zero64
+    ++ nodeStep (double 3) zero64 (double 40) zero64
+    ++ nodeStep (fin false 1 (negsuc 0)) (double 10) (double 100) (double volume)
+    ++ nodeStep (neg (double 10)) zero64 zero64 zero64
+
+-- 48.5 and 20 are the licence of either step
+first : List ℕ
+first = step 1 zero64 (fin false 97 (negsuc 0)) 30
+
+second : List ℕ
+second = step 3 zero64 (double 20) 40
+
+-- the second with 25 for the intake's least
+crossed : List ℕ
+crossed = step 3 (double 25) (double 20) 40
+
+-- ---- the network's side
+
+ofNetwork : {A : Type 0} → (Network → A) → A → Result Network → A
+ofNetwork get none (value net) = get net
+ofNetwork get none (refused number place) = none
+
+numbered : {A B : Type 0} → (ℕ → A → B) → ℕ → List A → List B
+numbered get n [] = []
+numbered get n (x ∷ xs) = get n x ∷ numbered get (suc n) xs
+
+ofStep : Network → Result StepFile → List Interval
+ofStep net (value f) = numbered (ownInterval Infinity (intervals Infinity (periodsOf net) f)) 0 (net .nodes)
+ofStep net (refused number place) = []
+
+-- each node's interval and amount
+intervalsUnder : List ℕ → List Interval
+intervalsUnder file = ofNetwork (λ net. ofStep net (readBy net file)) [] (parseNetwork network)
+
+amountsOf : Plan → List ℤ
+amountsOf p = ofNetwork (λ net. numbered (λ n (x : Node). nodeAmount net p n) 0 (net .nodes)) [] (parseNetwork network)
+
+plan : ℕ → ℕ → ℕ → Plan
+plan a b c = record { amount = λ e. getD (a ∷ b ∷ c ∷ []) e 0 * unit; on = λ s. false }
+
+planA : Plan
+planA = plan 25 25 28
+
+planB : Plan
+planB = plan 18 18 30
+
+-- 1 of 25 stays in the main
+planC : Plan
+planC = plan 25 24 28
+
+-- ---- both sides after a list of steps
+
+built : Store
+built = buildStore Infinity network blank (replicate 24844 0) (replicate 6784 zero64)
+
+call : List ℕ → Call
+call file = record { file = file; work = work }
+
+-- the programme's costs and rows, and what either side says of the three plans
+pub record Outcome : Type 0 where
+  costs : List Float
+  rows : List Row
+  allowed : List Bool
+  admitted : List Bool
+
+outcome : List (List ℕ) → Outcome
+outcome files =
+    let store : Store = storeAfter built (map call files) in
+    let told : List Report = reports built (map call files) in
+    let p : Programme = programmeIn store in
+    record {
+      costs = map (λ (c : Column). c .cost) (p .columns);
+      rows = p .varying ++ p .fixed;
+      allowed = map (networkAllows (parseNetwork network) Infinity told) (planA ∷ planB ∷ planC ∷ []);
+      admitted = map (programmeAdmits (parseNetwork network) store) (planA ∷ planB ∷ planC ∷ []);
+    }
+
+refusal : Result StepFile → ℕ × ℕ
+refusal (value f) = (0, 0)
+refusal (refused number place) = (number, place)
+
+-- row 0 of intake and main, row 1 of the reservoir, row 2 of the town
+rowsWith : Float → Float → Float → Float → List Row
+rowsWith least most low high =
+    record { lower = least; upper = most; elements = element 0 (whole 1) ∷ [] }
+    ∷ record { lower = low; upper = high; elements = element 0 (whole 1) ∷ element 1 (minusWhole 1) ∷ [] }
+    ∷ record { lower = zero64; upper = times 15 1; elements = element 1 (whole 1) ∷ [] }
+    ∷ []
+
+-- 4.5 and −10.5
+stepCostsAre : List Float
+stepCostsAre = fin false 9 (negsuc 0) ∷ fin true 21 (negsuc 0) ∷ []
+
+interval : Float → Float → Interval
+interval lower upper = record { lower = lower; upper = upper }
+
+pub record Example : Type 0 where
+  -- the premises of `Correspondence`
+  constantOnly : ofNetwork exclusiveConstant false (parseNetwork network) ≡ true
+  wholeOnly : ofNetwork factorsWhole false (parseNetwork network) ≡ true
+  -- 48.5, 40, −10 to 35 and 30; then 20, 40, −15 to 30 and 30
+  firstIntervals : intervalsUnder first ≡ interval zero64 (fin false 97 (negsuc 0)) ∷ interval zero64 (times 5 3) ∷ interval (fin true 5 (pos 1)) (whole 35) ∷ interval zero64 (times 15 1) ∷ []
+  secondIntervals : intervalsUnder second ≡ interval zero64 (times 5 2) ∷ interval zero64 (times 5 3) ∷ interval (minusWhole 15) (times 15 1) ∷ interval zero64 (times 15 1) ∷ []
+  amountsA : amountsOf planA ≡ pos (25 * unit) ∷ pos (25 * unit) ∷ negℤ (pos (3 * unit)) ∷ pos (28 * unit) ∷ []
+  amountsB : amountsOf planB ≡ pos (18 * unit) ∷ pos (18 * unit) ∷ negℤ (pos (12 * unit)) ∷ pos (30 * unit) ∷ []
+  amountsC : amountsOf planC ≡ pos (25 * unit) ∷ pos (24 * unit) ∷ negℤ (pos (4 * unit)) ∷ pos (28 * unit) ∷ []
+  fresh : outcome [] ≡ record { costs = zero64 ∷ zero64 ∷ []; rows = rowsWith zero64 (inf false) zero64 (inf false); allowed = false ∷ false ∷ false ∷ []; admitted = false ∷ false ∷ false ∷ [] }
+  afterFirst : outcome (first ∷ [])
+      ≡ record { costs = stepCostsAre; rows = rowsWith zero64 (times 5 3) (fin true 5 (pos 1)) (whole 35); allowed = true ∷ false ∷ false ∷ []; admitted = true ∷ false ∷ false ∷ [] }
+  afterSecond : outcome (first ∷ second ∷ [])
+      ≡ record { costs = stepCostsAre; rows = rowsWith zero64 (times 5 2) (minusWhole 15) (times 15 1); allowed = false ∷ true ∷ false ∷ []; admitted = false ∷ true ∷ false ∷ [] }
+  -- 14 at node 0, and all else as after the first
+  refused14 : refusal (stepAnswer built crossed work) ≡ (14, 0)
+  afterCrossed : outcome (first ∷ crossed ∷ [])
+      ≡ record { costs = stepCostsAre; rows = rowsWith zero64 (times 5 3) (fin true 5 (pos 1)) (whole 35); allowed = true ∷ false ∷ false ∷ []; admitted = true ∷ false ∷ false ∷ [] }
+
+pub example : Example
+unfolding computing blank work network step first second crossed ofNetwork numbered ofStep intervalsUnder amountsOf plan planA planB planC built call outcome refusal rowsWith stepCostsAre interval
+example =
+    record {
+      constantOnly = refl;
+      wholeOnly = refl;
+      firstIntervals = refl;
+      secondIntervals = refl;
+      amountsA = refl;
+      amountsB = refl;
+      amountsC = refl;
+      fresh = refl;
+      afterFirst = refl;
+      afterSecond = refl;
+      refused14 = refl;
+      afterCrossed = refl;
+    }
+
+-- ---- a varying exclusive node
+
+-- a pump alone in a set, to an output: column 0 is the edge's, column 1 the set's
+pump : List ℕ
+pump = varying input ++ constant output zero64 (double 5) ++ edge 0 1 ++ exclusive 0 1 ((0 ∷ []) ∷ [])
+
+-- the pump from 3 to 2,000,000, the aggregate from 0 to 9
+pumpStep : List ℕ
+pumpStep = date 6 1 (double 1) ++ nodeStep zero64 (double 3) (double 2000000) zero64 ++ nodeStep zero64 zero64 zero64 zero64 ++ aggregateStep zero64 (double 9)
+
+pub pumpRows : List Row
+pumpRows = programmeIn (storeAfter (buildStore Infinity pump blank (replicate 24844 0) (replicate 6784 zero64)) (call pumpStep ∷ [])) .varying
+
+-- "both sentinels .. the integer column's coefficient becomes the upper bound, or minus the lower, uncapped"
+pub uncapped : pumpRows
+    ≡ record { lower = inf true; upper = inf false; elements = element 0 (minusWhole 1) ∷ element 1 (times 15625 7) ∷ [] }
+    ∷ record { lower = inf true; upper = inf false; elements = element 0 (whole 1) ∷ element 1 (minusWhole 3) ∷ [] }
+    ∷ record { lower = zero64; upper = whole 9; elements = element 0 (whole 1) ∷ [] }
+    ∷ []
+unfolding computing blank work call pump pumpStep pumpRows
+uncapped = refl

@@ -1,0 +1,48 @@
+-- `variable_rows::add_variable_row` meets its contract. Assumes nothing.
+use mathlib.Core.Path.{refl}
+use mathlib.Core.List.{map}
+use lib.Ieee.{ofBits}
+use Rattle.pywr.specs.Numbers.{zero64}
+use Rattle.pywr.specs.VaryingRows.{freshRow}
+use Rattle.variable_rows.proofs.VariableRowLaws.{row-joined, row-new, row-full}
+use borrow.Author.Needs.{needs}
+use Rattle.variable_rows.proofs.add_variable_row.Statement.{statement}
+use Rattle.variable_rows.proofs.add_variable_row.Tie as tie
+
+returns : tie.Need-returns
+returns c =
+    let s = c .before .before .before .before .before .before .args .sentinel in
+    λ rows held. row-joined s rows _ _ _ _ _ held (c .before .position .ensures (map (freshRow s) rows) held) (c .if1 .taken)
+
+returns-2 : tie.Need-returns-2
+unfolding zero64 ofBits
+returns-2 c =
+    let s = c .before .before .before .before .before .before .before .before .before .before .before .before .before .before .before .before .before .args .sentinel in
+    λ rows held.
+    row-new s rows _ _ _ _ _ held (c .before .before .before .before .before .before .before .before .before .before .before .before .position .ensures (map (freshRow s) rows) held) _ _ _ _ _ (c .before .before .before .before .before .before .before .before .before .before .before .if1 .left) refl (c .before .before .before .before .before .before .before .before .high .ensures) (c .before .before .before .before .before .before .before .add-fixed-row .ensures (map (freshRow s) rows) held) _ (c .before .r .given .1)
+
+returns-3 : tie.Need-returns-3
+unfolding zero64 ofBits
+returns-3 c =
+    let s = c .before .before .before .before .before .before .before .before .before .before .before .before .before .before .before .before .args .sentinel in
+    λ rows held.
+    row-full s rows _ _ _ _ _ held (c .before .before .before .before .before .before .before .before .before .before .before .position .ensures (map (freshRow s) rows) held) _ _ _ _ _ (c .before .before .before .before .before .before .before .before .before .before .if1 .left) refl (c .before .before .before .before .before .before .before .high .ensures) (c .before .before .before .before .before .before .add-fixed-row .ensures (map (freshRow s) rows) held) (c .enum-told .given .1)
+
+pub add-variable-row-spec : {M : Type 1} → statement M
+add-variable-row-spec =
+    tie.close
+    (tie.spec
+    (λ c κs. search needs)
+    (λ c. search needs)
+    (λ c. search needs)
+    returns
+    (λ c κs. search needs)
+    (λ c κs. search needs)
+    (λ c. search needs)
+    (λ c. search needs)
+    (λ c. search needs)
+    (λ c. search needs)
+    returns-2
+    (λ c. search needs)
+    (λ c. search needs)
+    returns-3)
