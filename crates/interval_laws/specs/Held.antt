@@ -1,0 +1,33 @@
+-- The intervals of a step as its work run holds them: the lower of an interval at k, its upper at 352 + k;
+-- the nodes' from 0, the aggregates' from 256, the virtual storages' from 320. Assumes nothing.
+use mathlib.Core.Path.{_≡_}
+use Prim.Native.Nat.{ℕ, _+_}
+use mathlib.Core.List.{List}
+use lib.ListN.{getD}
+use lib.Ieee.{Float}
+use Rattle.pywr.specs.declared.Interval.{Interval}
+use Rattle.pywr.specs.Numbers.{zero64}
+use Rattle.pywr.specs.StepIntervals.{Intervals}
+use Rattle.pywr.specs.Store.{entries}
+
+abbrev pub uppersAt : ℕ
+uppersAt = 352
+
+abbrev pub groupsHeldAt : ℕ
+groupsHeldAt = 256
+
+abbrev pub storesHeldAt : ℕ
+storesHeldAt = 320
+
+unfoldable pub heldAt : List Float → ℕ → Interval
+heldAt work k = record { lower = getD work k zero64; upper = getD work (uppersAt + k) zero64 }
+
+-- `count` intervals from k on
+unfoldable pub heldFrom : List Float → ℕ → ℕ → List Interval
+heldFrom work k count = entries (heldAt work) 1 k count
+
+-- the run holds these intervals, as many as the store has nodes, aggregates and virtual storages
+pub record Held (nodes aggregates storages : ℕ) (work : List Float) (i : Intervals) : Type 0 where
+  pub nodes-are : heldFrom work 0 nodes ≡ i .nodes
+  pub aggregates-are : heldFrom work groupsHeldAt aggregates ≡ i .aggregates
+  pub storages-are : heldFrom work storesHeldAt storages ≡ i .virtualStorages

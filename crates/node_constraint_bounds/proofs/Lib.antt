@@ -1,0 +1,2 @@
+pub mod VaryingLaws
+pub mod NodeRows

@@ -1,0 +1,2 @@
+pub mod AdjustLaws
+pub mod Applied

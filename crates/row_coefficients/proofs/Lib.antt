@@ -1,0 +1,2 @@
+pub mod ColumnPlace
+pub mod FactorLaws

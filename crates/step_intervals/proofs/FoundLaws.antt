@@ -1,0 +1,97 @@
+-- Three loops one after the other find the intervals of a step, or the first refusal. Assumes nothing.
+use mathlib.Core.Path.{_≡_, refl, sym, ap, _∙_}
+use Prim.Native.Nat.{ℕ, _+_, _*_, _<_, _≤_}
+use native.Mathlib.Omega.{arith}
+use mathlib.Core.List.{List}
+use mathlib.Core.Option.{Option, none, some}
+use lib.ListN.{getD}
+use lib.Ieee.{Float}
+use Rattle.pywr.specs.declared.Answer.{Answer}
+use Rattle.pywr.specs.declared.Answer.the-variants.{Accepted, Refused}
+use Rattle.pywr.specs.declared.Interval.{Interval}
+use Rattle.pywr.specs.declared.Sentinel.{Sentinel}
+use Rattle.pywr.specs.Answers.{answerOf}
+use Rattle.pywr.specs.Result.{Result, _>>=_}
+use Rattle.pywr.specs.StepIntervals.{Intervals, firstCrossed, unless, ordered}
+use Rattle.pywr.specs.Store.{Store, word, nodeCount, aggregateCount, storageCount, sentinelOf, entries}
+use Rattle.step_file.specs.Decoded.{f64At}
+use Rattle.interval_laws.specs.Held.{heldAt, heldFrom, Held}
+use Rattle.interval_laws.specs.Written.{Written, crossedAnswer, Looked}
+use Rattle.node_intervals.specs.NodeIntervals.{nodeNumbered}
+use Rattle.storage_intervals.specs.StorageIntervals.{storageNumbered}
+use Rattle.aggregate_intervals.specs.AggregateIntervals.{aggregateNumbered}
+use Rattle.step_intervals.specs.Found.{intervalsIn, Found}
+use Rattle.store_shape.proofs.EntryLaws.{entries-same}
+use Rattle.step_intervals.proofs.IntervalLaws.{nodes-are, aggregates-are, storages-are}
+
+refuses : (o : Option ℕ) (i : Intervals) (next : Intervals → Result Intervals) (r : Answer) (number place : ℕ) → r ≡ crossedAnswer 14 o → r ≡ Refused number place
+    → Refused number place ≡ answerOf (unless 14 o i >>= next)
+unfolding crossedAnswer unless _>>=_ answerOf
+refuses none i next r number place e f = absurd (let z : _≡_ {A = ℕ} 0 1 = cc in omega arith)
+refuses (some p) i next r number place e f = sym f ∙ e
+
+passes : (o : Option ℕ) (r : Answer) → r ≡ crossedAnswer 14 o → r ≡ Accepted → o ≡ none
+unfolding crossedAnswer
+passes none r e f = refl
+passes (some p) r e f = absurd (let z : _≡_ {A = ℕ} 0 1 = cc in omega arith)
+
+answers : (o : Option ℕ) (i : Intervals) → crossedAnswer 15 o ≡ answerOf (unless 15 o i)
+unfolding crossedAnswer unless answerOf
+answers none i = refl
+answers (some p) i = refl
+
+-- held from a base as f numbers them
+holds : (work : List Float) (f : ℕ → Interval) (base count : ℕ) → ((k : ℕ) → k < count → heldAt work (base + k) ≡ f k) → heldFrom work base count ≡ entries f 1 0 count
+unfolding heldFrom
+holds work f base count h =
+    entries-same (heldAt work) f 1 1 base 0 count
+    (λ k lt. ap (λ (n : ℕ). heldAt work (base + n)) (let e : 1 * k ≡ k = omega arith in e) ∙ h k lt ∙ ap f (let e : k ≡ 0 + 1 * k = omega arith in e))
+
+module _ (s : Store) (shape file : List ℕ) (e : s .shape ≡ shape) (days : Float) (of-days : days ≡ f64At file 4) (sentinel : Sentinel) (kept : sentinel ≡ sentinelOf (getD shape 0 0))
+    (w₀ w₁ : List Float) (r₁ : Answer) (one : Looked 14 (nodeNumbered sentinel days shape file) 0 (getD shape 1 0) w₀ r₁ w₁) where
+  nodes-looked : Looked 14 (nodeNumbered (sentinelOf (word s 0)) (f64At file 4) (s .shape) file) 0 (nodeCount s) w₀ r₁ w₁
+  nodes-looked = rw (of-days, kept, ← e) at one
+
+  nodes-answer : r₁ ≡ crossedAnswer 14 (firstCrossed 0 (intervalsIn s file .nodes))
+  nodes-answer = rw (nodes-are s file) (nodes-looked .answer)
+
+  pub nodes-refuse : (number place : ℕ) → r₁ ≡ Refused number place → Found s file (Refused number place) w₁
+  unfolding ordered
+  nodes-refuse number place is =
+      record {
+        answer = refuses (firstCrossed 0 (intervalsIn s file .nodes)) (intervalsIn s file) (λ a. unless 15 (firstCrossed 0 (a .virtualStorages)) a) r₁ number place nodes-answer is;
+        held = λ a. absurd (let z : _≡_ {A = ℕ} 0 1 = cc in omega arith);
+      }
+
+  module _ (few-nodes : getD shape 1 0 ≤ 256) (few-aggregates : getD shape 9 0 ≤ 64) (accepted : r₁ ≡ Accepted)
+      (w₂ w₃ : List Float) (r₂ : Answer) (two : Written (aggregateNumbered shape file) 256 (getD shape 9 0) w₁ w₂)
+      (three : Looked 15 (storageNumbered sentinel days shape file) 320 (getD shape 10 0) w₂ r₂ w₃) where
+    storages-looked : Looked 15 (storageNumbered (sentinelOf (word s 0)) (f64At file 4) (s .shape) file) 320 (storageCount s) w₂ r₂ w₃
+    storages-looked = rw (of-days, kept, ← e) at three
+
+    aggregates-written : Written (aggregateNumbered (s .shape) file) 256 (aggregateCount s) w₁ w₂
+    aggregates-written = rw (← e) at two
+
+    all-held : r₂ ≡ Accepted → Held (nodeCount s) (aggregateCount s) (storageCount s) w₃ (intervalsIn s file)
+    all-held a =
+        let v = storages-looked .written a in
+        let n = nodes-looked .written accepted in
+        record {
+          nodes-are = holds w₃ (nodeNumbered (sentinelOf (word s 0)) (f64At file 4) (s .shape) file) 0 (nodeCount s)
+              (λ k lt. v .kept (0 + k) (omega (arith, ap (λ (l : List ℕ). getD l 1 0) e)) ∙ aggregates-written .kept (0 + k) (omega (arith, ap (λ (l : List ℕ). getD l 1 0) e)) ∙ n .held k lt)
+              ∙ sym (nodes-are s file);
+          aggregates-are = holds w₃ (aggregateNumbered (s .shape) file) 256 (aggregateCount s)
+              (λ k lt. v .kept (256 + k) (omega (arith, ap (λ (l : List ℕ). getD l 9 0) e)) ∙ aggregates-written .held k lt)
+              ∙ sym (aggregates-are s file);
+          storages-are = holds w₃ (storageNumbered (sentinelOf (word s 0)) (f64At file 4) (s .shape) file) 320 (storageCount s) (v .held) ∙ sym (storages-are s file);
+        }
+
+    pub all-found : Found s file r₂ w₃
+    unfolding ordered unless _>>=_
+    all-found =
+        let none-crossed = passes (firstCrossed 0 (intervalsIn s file .nodes)) r₁ nodes-answer accepted in
+        let last : r₂ ≡ crossedAnswer 15 (firstCrossed 0 (intervalsIn s file .virtualStorages)) = rw (storages-are s file) (storages-looked .answer) in
+        record {
+          answer = last ∙ answers (firstCrossed 0 (intervalsIn s file .virtualStorages)) (intervalsIn s file) ∙ sym (rw none-crossed);
+          held = all-held;
+        }

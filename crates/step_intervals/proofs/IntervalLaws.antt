@@ -1,0 +1,65 @@
+-- The intervals that a file gives on a store, by place. Assumes nothing.
+use mathlib.Core.Path.{_≡_, refl, ap, ap₂, _∙_}
+use Prim.Native.Nat.{ℕ, zero, suc, _+_, _*_}
+use native.Mathlib.Omega.{arith}
+use mathlib.Core.List.{List, [], _∷_, map}
+use Rattle.pywr.specs.declared.Sentinel.{Sentinel}
+use Rattle.pywr.specs.declared.Interval.{Interval}
+use Rattle.pywr.specs.Calls.{stepIntervals}
+use Rattle.pywr.specs.Period.{isActive, virtualInterval}
+use Rattle.pywr.specs.Step.{periodOf, periods}
+use Rattle.pywr.specs.StepFile.{StepFile}
+use Rattle.pywr.specs.StepIntervals.{nodeInterval, nodeIntervals, storageIntervals, intervals}
+use Rattle.pywr.specs.Store.{Store, word, nodeCount, aggregateCount, storageCount, sentinelOf, entries, nodeEntry, storageEntry, shapeOf, programmeIn}
+use Rattle.step_file.specs.Decoded.{f64At, nodeStepAt, nodeStepsAt, aggregateStepAt, storageStepAt, groupsAt, storesAt, decoded}
+use Rattle.node_intervals.specs.NodeIntervals.{nodeNumbered}
+use Rattle.period.specs.PeriodAt.{periodAt}
+use Rattle.virtual_interval.specs.VirtualInterval.{storageAt}
+use Rattle.storage_intervals.specs.StorageIntervals.{storageNumbered}
+use Rattle.aggregate_intervals.specs.AggregateIntervals.{aggregateNumbered}
+use Rattle.step_intervals.specs.Found.{intervalsIn}
+use Rattle.store_shape.proofs.EntryLaws.{first-entry, next-entry, entries-length, entries-same}
+
+-- a list made from two places that go on side by side
+module _ (make : ℕ → ℕ → ℕ → List Interval) (one : ℕ → ℕ → Interval) (p q : ℕ)
+    (ends : (place at : ℕ) → make zero place at ≡ []) (goes : (n place at : ℕ) → make (suc n) place at ≡ one place at ∷ make n (place + p) (at + q)) where
+  listed : (f : ℕ → Interval) (n place at j : ℕ) → ((k : ℕ) → one (place + p * k) (at + q * k) ≡ f (j + k)) → make n place at ≡ entries f 1 j n
+  unfolding entries
+  listed f zero place at j h = ends place at
+  listed f (suc n) place at j h =
+      goes n place at
+      ∙ ap₂ (λ (x : Interval) (xs : List Interval). x ∷ xs)
+      (ap₂ one (first-entry p place) (first-entry q at) ∙ h 0 ∙ ap f (let e : j + 0 ≡ j = omega arith in e))
+      (listed f n (place + p) (at + q) (j + 1) (λ k. ap₂ one (next-entry p place k) (next-entry q at k) ∙ h (suc k) ∙ ap f (let e : j + suc k ≡ j + 1 + k = omega arith in e)))
+
+module _ (s : Store) (file : List ℕ) where
+  pub nodes-are : intervalsIn s file .nodes ≡ entries (nodeNumbered (sentinelOf (word s 0)) (f64At file 4) (s .shape) file) 1 0 (nodeCount s)
+  unfolding intervalsIn stepIntervals intervals decoded shapeOf programmeIn nodeNumbered nodeEntry nodeIntervals nodeStepsAt entries
+  nodes-are =
+      listed (λ (n place at : ℕ). nodeIntervals (sentinelOf (word s 0)) (f64At file 4) (nodeStepsAt file (entries (nodeEntry s) 2 place n) at))
+      (λ (place at : ℕ). nodeInterval (sentinelOf (word s 0)) (f64At file 4) (nodeStepAt file (nodeEntry s place) at .bounds)) 2 34 (λ place at. refl) (λ n place at. refl)
+      (nodeNumbered (sentinelOf (word s 0)) (f64At file 4) (s .shape) file) (nodeCount s) 11 12 0
+      (λ k. ap (nodeNumbered (sentinelOf (word s 0)) (f64At file 4) (s .shape) file) (let e : k ≡ 0 + k = omega arith in e))
+
+  pub aggregates-are : intervalsIn s file .aggregates ≡ entries (aggregateNumbered (s .shape) file) 1 0 (aggregateCount s)
+  unfolding intervalsIn stepIntervals intervals decoded shapeOf aggregateNumbered
+  aggregates-are =
+      rw (entries-length (nodeEntry s) 2 11 (nodeCount s), entries-length (word s) 1 19467 (aggregateCount s))
+      (entries-same (aggregateStepAt file) (aggregateNumbered (s .shape) file) 18 1 (groupsAt (nodeCount s)) 0 (aggregateCount s)
+      (λ k lt. ap (aggregateNumbered (s .shape) file) (let e : k ≡ 0 + 1 * k = omega arith in e)))
+
+  storage-list : (t : Sentinel) (f : StepFile) (g : ℕ → Interval) (n at : ℕ)
+      → ((k : ℕ) → virtualInterval t (f .days) (isActive (storageEntry s (19531 + 6 * k) .period) (f .month) (f .day)) (storageStepAt file (at + 26 * k)) ≡ g (0 + k))
+      → storageIntervals t f (map periodOf (entries (storageEntry s) 6 19531 n)) (entries (storageStepAt file) 26 at n) ≡ entries g 1 0 n
+  unfolding storageIntervals entries periodOf
+  storage-list t f g n at h =
+      listed (λ (n place at : ℕ). storageIntervals t f (map periodOf (entries (storageEntry s) 6 place n)) (entries (storageStepAt file) 26 at n))
+      (λ (place at : ℕ). virtualInterval t (f .days) (isActive (storageEntry s place .period) (f .month) (f .day)) (storageStepAt file at)) 6 26 (λ place at. refl) (λ n place at. refl)
+      g n 19531 at 0 h
+
+  pub storages-are : intervalsIn s file .virtualStorages ≡ entries (storageNumbered (sentinelOf (word s 0)) (f64At file 4) (s .shape) file) 1 0 (storageCount s)
+  unfolding intervalsIn stepIntervals intervals decoded shapeOf programmeIn periods storageEntry periodAt storageAt storageNumbered
+  storages-are =
+      rw (entries-length (nodeEntry s) 2 11 (nodeCount s), entries-length (word s) 1 19467 (aggregateCount s), entries-length (storageEntry s) 6 19531 (storageCount s))
+      (storage-list (sentinelOf (word s 0)) _ (storageNumbered (sentinelOf (word s 0)) (f64At file 4) (s .shape) file) (storageCount s) (storesAt (nodeCount s) (aggregateCount s))
+      (λ k. ap (storageNumbered (sentinelOf (word s 0)) (f64At file 4) (s .shape) file) (let e : k ≡ 0 + k = omega arith in e)))

@@ -1,0 +1,22 @@
+-- What finding the intervals of a step promises: its answer, and the work run where it accepts. Assumes nothing.
+use mathlib.Core.Path.{_≡_}
+use Prim.Native.Nat.{ℕ}
+use mathlib.Core.List.{List}
+use lib.ListN.{length}
+use lib.Ieee.{Float}
+use Rattle.pywr.specs.declared.Answer.{Answer}
+use Rattle.pywr.specs.declared.Answer.the-variants.{Accepted}
+use Rattle.pywr.specs.Answers.{answerOf}
+use Rattle.pywr.specs.Calls.{stepIntervals}
+use Rattle.pywr.specs.StepIntervals.{Intervals, ordered}
+use Rattle.pywr.specs.Store.{Store, nodeCount, aggregateCount, storageCount, shapeOf}
+use Rattle.step_file.specs.Decoded.{decoded}
+use Rattle.interval_laws.specs.Held.{Held}
+
+-- the intervals that a file gives on a store
+unfoldable pub intervalsIn : Store → List ℕ → Intervals
+intervalsIn s file = stepIntervals s (decoded (shapeOf s .nodes) (length (shapeOf s .aggregates)) (length (shapeOf s .virtualStorages)) file)
+
+pub record Found (s : Store) (file : List ℕ) (r : Answer) (work : List Float) : Type 0 where
+  pub answer : r ≡ answerOf (ordered (intervalsIn s file))
+  pub held : r ≡ Accepted → Held (nodeCount s) (aggregateCount s) (storageCount s) work (intervalsIn s file)

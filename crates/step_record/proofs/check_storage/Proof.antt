@@ -1,0 +1,25 @@
+-- `check_storage` meets its contract: field by field. Assumes nothing.
+use Rattle.step_record.specs.Check.{checkStorage}
+use borrow.Author.Needs.{needs}
+use Rattle.step_record.proofs.check_storage.Statement.{statement}
+use Rattle.step_record.proofs.check_storage.Tie as tie
+
+returns : tie.Need-returns
+unfolding checkStorage
+returns c =
+    let c2 = c .before .before in
+    let c3 = c2 .before in
+    rw (← (c3 .check-mark .ensures), ← (c2 .field-after .ensures), ← (c .before .field-after2 .ensures)) (c .field-after3 .ensures)
+
+pub check-storage-spec : {M : Type 1} → statement M
+check-storage-spec =
+    tie.close
+    (tie.spec
+    (λ c κs. search needs)
+    (λ c. search needs)
+    (λ c κs. search needs)
+    (λ c. search needs)
+    (λ c κs. search needs)
+    (λ c. search needs)
+    (λ c κs. search needs)
+    returns)

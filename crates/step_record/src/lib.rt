@@ -1,0 +1,179 @@
+// The records of a step file, each checked where it stands: refusals 12 and 13 with the record's place.
+ghost use mathlib.Core.Path.{_≡_};
+ghost use Prim.Native.Nat.{_≤_};
+ghost use lib.Dec.{eqb};
+ghost use Rattle.pywr.specs.Numbers.{isDays};
+ghost use Rattle.pywr.specs.StepFile.{daysIn};
+ghost use Rattle.step_record.specs.Check.{inRange, boundRange, volumeRange, checkMark, checkField, checkByte, answerThen, checkDate, checkNode, checkAggregate, checkStorage};
+use pywr::Answer;
+
+// What a double of the file may be. One that is not read may be anything.
+pub enum Range {
+    Unread,
+    Flow,
+    Small,
+    Days,
+}
+
+// Days from 1/1024 to 366.
+fn is_days(bits: u64) -> bool
+    ensures { λ r. ⌜ r ≡ isDays bits ⌝ }
+{
+    if 9218868437227405312 < bits % 9223372036854775808 {
+        return false;
+    }
+    let x = f64::from_bits(bits);
+    if 0.0009765625 <= x {
+        return x <= 366.0;
+    }
+    false
+}
+
+fn in_range(range: Range, bits: u64) -> bool
+    ensures { λ r. ⌜ r ≡ inRange range bits ⌝ }
+{
+    match range {
+        Range::Unread => true,
+        Range::Flow => fields::is_flow(bits),
+        Range::Small => fields::is_small(bits),
+        Range::Days => is_days(bits),
+    }
+}
+
+// A node's min and max: kind 3 is a storage.
+fn bound_range(kind: u16, constant: u16) -> Range
+    ensures { λ r. ⌜ r ≡ boundRange (eqb constant 1) (eqb kind 3) ⌝ }
+{
+    if constant == 1 {
+        return Range::Unread;
+    }
+    if kind == 3 {
+        return Range::Small;
+    }
+    Range::Flow
+}
+
+fn volume_range(kind: u16) -> Range
+    ensures { λ r. ⌜ r ≡ volumeRange (eqb kind 3) ⌝ }
+{
+    if kind == 3 {
+        return Range::Small;
+    }
+    Range::Unread
+}
+
+// The two letters of the record at `at`.
+fn check_mark(file: &[u8], at: usize, a: u8, b: u8) -> Answer
+    ensures { λ r. ⌜ r ≡ checkMark (now (file .entry)) at a b ⌝ }
+{
+    if fields::is_within(file, at, 2) {
+        if (file[at] == a) & (file[at + 1] == b) {
+            return Answer::Accepted;
+        }
+        return Answer::Refused(12, at);
+    }
+    Answer::Refused(12, at)
+}
+
+// A double of the record at `place`.
+fn check_field(file: &[u8], place: usize, at: usize, range: Range) -> Answer
+    ensures { λ r. ⌜ r ≡ checkField (now (file .entry)) place at range ⌝ }
+{
+    if fields::is_within(file, at, 8) {
+        if in_range(range, fields::u64_at(file, at)) {
+            return Answer::Accepted;
+        }
+        return Answer::Refused(13, place);
+    }
+    Answer::Refused(12, place)
+}
+
+// A double behind what was answered so far.
+fn field_after(before: Answer, file: &[u8], place: usize, at: usize, range: Range) -> Answer
+    ensures { λ r. ⌜ r ≡ answerThen before (checkField (now (file .entry)) place at range) ⌝ }
+{
+    match before {
+        Answer::Refused(number, record) => Answer::Refused(number, record),
+        Answer::Accepted => check_field(file, place, at, range),
+    }
+}
+
+// A byte of the `ST` record, from 1 to `most`.
+fn check_byte(file: &[u8], at: usize, most: u8) -> Answer
+    ensures { λ r. ⌜ r ≡ checkByte (now (file .entry)) at most ⌝ }
+{
+    if file.len() <= at {
+        return Answer::Refused(12, 0);
+    }
+    if (1 <= file[at]) & (file[at] <= most) {
+        return Answer::Accepted;
+    }
+    Answer::Refused(13, 0)
+}
+
+// The days of a month: 02-29 always exists.
+fn days_in(month: u8) -> u8
+    ensures { λ r. ⌜ r ≡ daysIn month ⌝ }
+{
+    if month == 2 {
+        return 29;
+    }
+    if (month == 4) | (month == 6) | (month == 9) | (month == 11) {
+        return 30;
+    }
+    31
+}
+
+// `ST` month, day, days.
+pub fn check_date(file: &[u8]) -> Answer
+    ensures { λ r. ⌜ r ≡ checkDate (now (file .entry)) ⌝ }
+{
+    let mark = check_mark(file, 0, 83, 84);
+    match mark {
+        Answer::Refused(number, record) => Answer::Refused(number, record),
+        Answer::Accepted => {
+            let month = check_byte(file, 2, 12);
+            match month {
+                Answer::Refused(number, record) => Answer::Refused(number, record),
+                Answer::Accepted => {
+                    let day = check_byte(file, 3, days_in(file[2]));
+                    field_after(day, file, 0, 4, Range::Days)
+                }
+            }
+        }
+    }
+}
+
+// `NB` cost, min, max, volume, of a node with this kind and flag.
+pub fn check_node(file: &[u8], at: usize, kind: u16, constant: u16) -> Answer
+    requires { ⌜ at ≤ 65536 ⌝ }
+    ensures { λ r. ⌜ r ≡ checkNode (now (file .entry)) (record { kind = kind; constant = eqb constant 1 }) at ⌝ }
+{
+    let bounds = bound_range(kind, constant);
+    let mark = check_mark(file, at, 78, 66);
+    let cost = field_after(mark, file, at, at + 2, Range::Small);
+    let min = field_after(cost, file, at, at + 10, bounds);
+    let max = field_after(min, file, at, at + 18, bounds);
+    field_after(max, file, at, at + 26, volume_range(kind))
+}
+
+// `GB` lower, upper.
+pub fn check_aggregate(file: &[u8], at: usize) -> Answer
+    requires { ⌜ at ≤ 65536 ⌝ }
+    ensures { λ r. ⌜ r ≡ checkAggregate (now (file .entry)) at ⌝ }
+{
+    let mark = check_mark(file, at, 71, 66);
+    let lower = field_after(mark, file, at, at + 2, Range::Flow);
+    field_after(lower, file, at, at + 10, Range::Flow)
+}
+
+// `VB` min, max, volume.
+pub fn check_storage(file: &[u8], at: usize) -> Answer
+    requires { ⌜ at ≤ 65536 ⌝ }
+    ensures { λ r. ⌜ r ≡ checkStorage (now (file .entry)) at ⌝ }
+{
+    let mark = check_mark(file, at, 86, 66);
+    let min = field_after(mark, file, at, at + 2, Range::Small);
+    let max = field_after(min, file, at, at + 10, Range::Small);
+    field_after(max, file, at, at + 18, Range::Small)
+}
