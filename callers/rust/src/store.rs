@@ -1,0 +1,89 @@
+//! A store: the nine runs that hold a programme with what its steps need.
+use crate::{COLUMNS, ELEMENTS, ROW_STARTS, ROWS, Refusal, SHAPE, Sentinel, calls};
+
+/// Each run may be longer than its least length. One that is shorter is refused with 16.
+#[derive(Debug, Clone)]
+pub struct Store {
+    pub col_lower: Vec<f64>,
+    pub col_upper: Vec<f64>,
+    pub col_obj_coef: Vec<f64>,
+    pub row_lower: Vec<f64>,
+    pub row_upper: Vec<f64>,
+    pub elements: Vec<f64>,
+    pub columns: Vec<u16>,
+    pub row_starts: Vec<u32>,
+    pub shape: Vec<u16>,
+}
+
+/// One row: where it stands in `columns` and `elements`, and these parts.
+#[derive(Debug, Clone, Copy, PartialEq)]
+pub struct Row<'a> {
+    pub start: usize,
+    pub columns: &'a [u16],
+    pub elements: &'a [f64],
+}
+
+impl Store {
+    pub fn new() -> Self {
+        Self {
+            col_lower: vec![0.0; COLUMNS],
+            col_upper: vec![0.0; COLUMNS],
+            col_obj_coef: vec![0.0; COLUMNS],
+            row_lower: vec![0.0; ROWS],
+            row_upper: vec![0.0; ROWS],
+            elements: vec![0.0; ELEMENTS],
+            columns: vec![0; ELEMENTS],
+            row_starts: vec![0; ROW_STARTS],
+            shape: vec![0; SHAPE],
+        }
+    }
+
+    /// Writes the programme of a network file, or refuses with 1 to 11 or 16. The work runs are all zero after it, but untouched after 16.
+    pub fn build(&mut self, file: &[u8], sentinel: Sentinel, words: &mut [u16], numbers: &mut [f64]) -> Result<(), Refusal> {
+        calls::build(file, sentinel, self, words, numbers)
+    }
+
+    /// Writes a step file's costs, bounds and coefficients, or refuses with 12 to 17. The work run is all zero after it, but untouched after 16.
+    pub fn step(&mut self, file: &[u8], work: &mut [f64]) -> Result<(), Refusal> {
+        calls::step(file, self, work)
+    }
+
+    /// The columns and elements of a row, or a refusal with 16 to 18.
+    pub fn row(&self, row: usize) -> Result<Row<'_>, Refusal> {
+        let (start, length, answer) = self.row_part(row);
+        answer.map(|()| Row {
+            start,
+            columns: &self.columns[start..start + length],
+            elements: &self.elements[start..start + length],
+        })
+    }
+
+    /// The same as the start and the length of the row's part: both are 0 where it is refused.
+    pub fn row_part(&self, row: usize) -> (usize, usize, Result<(), Refusal>) {
+        calls::row(self, row)
+    }
+
+    /// How many columns are for edges; those behind them are the sets' integer columns.
+    pub fn edge_column_count(&self) -> usize {
+        self.shape[3] as usize
+    }
+
+    pub fn column_count(&self) -> usize {
+        self.edge_column_count() + self.shape[4] as usize
+    }
+
+    /// How many rows a step writes; those behind them are fixed.
+    pub fn varying_row_count(&self) -> usize {
+        self.shape[5] as usize
+    }
+
+    pub fn row_count(&self) -> usize {
+        self.varying_row_count() + self.shape[6] as usize
+    }
+}
+
+impl Default for Store {
+    fn default() -> Self {
+        Self::new()
+    }
+}

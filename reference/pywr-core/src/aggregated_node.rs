@@ -1,0 +1,26 @@
+//! aggregated_node.rs: the sets, exclusivity and bounds of the source, and how an aggregate is made.
+use crate::NodeIndex;
+use crate::metric::{ConstantMetricF64Error, MetricF64, MetricF64Error};
+use crate::network::{AggregateParts, AggregatedNodeIndex, Network, indices};
+use crate::node::{FlowConstraints, NodeMeta, UnresolvedNode};
+use crate::state::{ConstParameterValues, State};
+use thiserror::Error;
+
+include!(concat!(env!("OUT_DIR"), "/aggregated_node.rs"));
+
+impl AggregatedNode {
+    /// Stands for `AggregatedNodeBuilder::build`. An aggregate's name is its number.
+    pub(crate) fn from_parts(index: AggregatedNodeIndex, parts: &AggregateParts) -> Self {
+        Self {
+            meta: NodeMeta::from_unresolved_name(UnresolvedNode::new(&index.to_string(), None), index),
+            flow_constraints: FlowConstraints::new(
+                Some(MetricF64::AggregateLower(index)),
+                Some(MetricF64::AggregateUpper(index)),
+            ),
+            nodes: parts.sets.iter().map(|set| indices(set)).collect(),
+            relationship: parts.exclusive.map(|(min_active, max_active)| {
+                Relationship::Exclusive(Exclusivity { min_active: min_active.into(), max_active: max_active.into() })
+            }),
+        }
+    }
+}

@@ -1,0 +1,2 @@
+//! edge.rs of the source, whole.
+include!(concat!(env!("OUT_DIR"), "/edge.rs"));

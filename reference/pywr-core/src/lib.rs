@@ -1,0 +1,19 @@
+//! The part of pywr-core that turns a network into a linear programme, compiled from its source (build/main.rs), over stand-ins.
+pub mod aggregated_node;
+pub mod civil;
+pub mod edge;
+mod first_appearance;
+pub mod metric;
+pub mod network;
+pub mod node;
+pub mod solvers;
+pub mod state;
+pub mod timestep;
+pub mod virtual_storage;
+
+/// Stand-in for the source's clock.
+pub mod clock {
+    pub use std::time::Instant;
+}
+
+pub use network::NodeIndex;

@@ -1,0 +1,74 @@
+//! network.rs: the index types and accessors of the source over a stand-in for the network, and how one is made.
+use crate::aggregated_node::AggregatedNode;
+use crate::edge::Edge;
+use crate::node::{Node, NodeType};
+use crate::virtual_storage::VirtualStorageNode;
+use std::fmt::{self, Display, Formatter};
+use std::ops::Deref;
+
+include!(concat!(env!("OUT_DIR"), "/network.rs"));
+
+#[derive(Debug, Default)]
+pub struct Network {
+    nodes: Vec<Node>,
+    edges: Vec<Edge>,
+    aggregated_nodes: Vec<AggregatedNode>,
+    virtual_storage_nodes: Vec<VirtualStorageNode>,
+}
+
+/// A node of the network file: its kind and, if constant, its min and max.
+#[derive(Debug, Clone, Copy, PartialEq)]
+pub struct NodeParts {
+    pub kind: NodeType,
+    pub constant: Option<(f64, f64)>,
+}
+
+/// An aggregate of the network file: its sets and, if exclusive, min_active and max_active.
+#[derive(Debug, Clone, PartialEq)]
+pub struct AggregateParts {
+    pub sets: Vec<Vec<usize>>,
+    pub exclusive: Option<(u32, u32)>,
+}
+
+/// A virtual storage of the network file: its period (start month, start day, end month, end day) if it has one, its nodes and factors.
+#[derive(Debug, Clone, PartialEq)]
+pub struct VirtualStorageParts {
+    pub period: Option<[u8; 4]>,
+    pub nodes: Vec<(usize, f64)>,
+}
+
+pub(crate) fn indices(numbers: &[usize]) -> Vec<NodeIndex> {
+    numbers.iter().map(|&n| NodeIndex(n)).collect()
+}
+
+impl Network {
+    /// Stands for `NetworkBuilder`, which refuses more than document 01 does. Nodes list their edges in edge order, as there.
+    pub fn from_parts(
+        nodes: &[NodeParts],
+        edges: &[(usize, usize)],
+        aggregates: &[AggregateParts],
+        virtual_storages: &[VirtualStorageParts],
+    ) -> Self {
+        let mut incoming = vec![Vec::new(); nodes.len()];
+        let mut outgoing = vec![Vec::new(); nodes.len()];
+        for (i, &(from, to)) in edges.iter().enumerate() {
+            outgoing[from].push(EdgeIndex(i));
+            incoming[to].push(EdgeIndex(i));
+        }
+        let edge_lists = incoming.into_iter().zip(outgoing);
+        Self {
+            nodes: (nodes.iter().zip(edge_lists).enumerate())
+                .map(|(i, (node, (incoming, outgoing)))| Node::from_parts(NodeIndex(i), node, incoming, outgoing))
+                .collect(),
+            edges: (edges.iter().enumerate())
+                .map(|(i, &(from, to))| Edge::new(EdgeIndex(i), NodeIndex(from), NodeIndex(to)))
+                .collect(),
+            aggregated_nodes: (aggregates.iter().enumerate())
+                .map(|(i, parts)| AggregatedNode::from_parts(AggregatedNodeIndex(i), parts))
+                .collect(),
+            virtual_storage_nodes: (virtual_storages.iter().enumerate())
+                .map(|(i, parts)| VirtualStorageNode::from_parts(VirtualStorageIndex(i), parts))
+                .collect(),
+        }
+    }
+}

@@ -1,0 +1,42 @@
+//! virtual_storage.rs: the periods and volumes of the source, and how a virtual storage is made.
+use crate::NodeIndex;
+use crate::civil::Date;
+use crate::metric::{MetricF64, MetricF64Error, SimpleMetricF64, SimpleMetricF64Error};
+use crate::network::{Network, VirtualStorageIndex, VirtualStorageParts, indices};
+use crate::node::{NodeMeta, StorageConstraints, StorageInitialVolume, UnresolvedNode};
+use crate::state::{NetworkStateError, State, StateError};
+use crate::timestep::Timestep;
+use std::num::NonZeroUsize;
+use thiserror::Error;
+
+include!(concat!(env!("OUT_DIR"), "/virtual_storage.rs"));
+
+impl VirtualStorageNode {
+    /// Stands for `VirtualStorageNodeBuilder::build`. Its name is its number; resets are no part of a step.
+    pub(crate) fn from_parts(index: VirtualStorageIndex, parts: &VirtualStorageParts) -> Self {
+        let (nodes, factors): (Vec<usize>, Vec<f64>) = parts.nodes.iter().copied().unzip();
+        Self {
+            meta: NodeMeta::from_unresolved_name(UnresolvedNode::new(&index.to_string(), None), index),
+            nodes: indices(&nodes),
+            factors,
+            initial_volume: StorageInitialVolume::Absolute(0.0),
+            storage_constraints: StorageConstraints::new(
+                Some(SimpleMetricF64::VirtualStorageMin(index)),
+                Some(SimpleMetricF64::VirtualStorageMax(index)),
+            ),
+            reset: VirtualStorageReset::Never,
+            reset_volume: VirtualStorageResetVolume::Initial,
+            rolling_window: None,
+            active_period: match parts.period {
+                None => VirtualStorageActivePeriod::Always,
+                Some([start_month, start_day, end_month, end_day]) => VirtualStorageActivePeriod::Period {
+                    start_day: start_day as i8,
+                    start_month: start_month as i8,
+                    end_day: end_day as i8,
+                    end_month: end_month as i8,
+                },
+            },
+            cost: None,
+        }
+    }
+}

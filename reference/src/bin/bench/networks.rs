@@ -1,0 +1,101 @@
+//! Supply systems made of equal units, and a day's step for them.
+use pywr_core::network::{AggregateParts, NodeParts, VirtualStorageParts};
+use pywr_core::node::NodeType::{self, Input, Link, Output, Storage};
+use pywr_core::state::{AggregateNumbers, NodeNumbers, VirtualStorageNumbers};
+use pywr_reference::generate::encode::{self, Step};
+use pywr_reference::{NetworkFile, random::Random};
+
+pub struct Named {
+    pub name: &'static str,
+    pub file: NetworkFile,
+    pub network: Vec<u8>,
+    pub step: Vec<u8>,
+}
+
+pub fn all() -> Vec<Named> {
+    vec![named("small", system(1)), named("medium", system(5)), named("ceiling", at_the_ceiling())]
+}
+
+fn named(name: &'static str, file: NetworkFile) -> Named {
+    let network = encode::network_records(&file).concat();
+    let step = encode::step_records(&day(&file)).concat();
+    Named { name, file, network, step }
+}
+
+const UNIT: [(NodeType, Option<(f64, f64)>); 10] = [
+    (Input, Some((0.0, 48.5))),           // 0 intake
+    (Input, None),                        // 1 catchment
+    (Storage, None),                      // 2 reservoir
+    (Link, Some((0.0, 30.0))),            // 3 pump 1
+    (Link, Some((4.0, 20.0))),            // 4 pump 2
+    (Link, None),                         // 5 treatment works
+    (Link, Some((0.0, 60.0))),            // 6 trunk main
+    (Storage, None),                      // 7 service reservoir
+    (Output, None),                       // 8 demand
+    (Output, Some((2.0, f64::INFINITY))), // 9 spill
+];
+const EDGES: [(usize, usize); 11] = [(0, 3), (0, 4), (3, 5), (4, 5), (1, 2), (2, 5), (5, 6), (6, 7), (7, 8), (2, 9), (7, 9)];
+
+/// Units, each joined to the next by an edge between their service reservoirs. At most one pump of a unit runs; its intake has two licences.
+fn system(units: usize) -> NetworkFile {
+    let mut file = NetworkFile::default();
+    for u in 0..units {
+        let at = 10 * u;
+        file.nodes.extend(UNIT.map(|(kind, constant)| NodeParts { kind, constant }));
+        file.edges.extend(EDGES.map(|(from, to)| (at + from, at + to)));
+        if u > 0 {
+            file.edges.push((at - 3, at + 7));
+        }
+        file.aggregates.push(AggregateParts { sets: vec![vec![at + 3], vec![at + 4]], exclusive: Some((0, 1)) });
+        file.aggregates.push(AggregateParts { sets: vec![vec![at, at + 1]], exclusive: None });
+        file.virtual_storages.push(licence(&[at, at + 1], Some([4, 1, 3, 31])));
+    }
+    file
+}
+
+fn licence(nodes: &[usize], period: Option<[u8; 4]>) -> VirtualStorageParts {
+    VirtualStorageParts { period, nodes: nodes.iter().map(|&n| (n, 1.0)).collect() }
+}
+
+/// 256 nodes, 512 edges, 64 aggregates, 32 virtual storages.
+fn at_the_ceiling() -> NetworkFile {
+    let mut file = system(25);
+    file.nodes.extend([NodeParts { kind: Storage, constant: None }; 6]);
+    let r = &mut Random::new(1);
+    while file.edges.len() < 512 {
+        let (from, to) = (r.below(256), r.below(256));
+        let fits =
+            from != to && file.nodes[to].kind != Input && file.nodes[from].kind != Output && !file.edges.contains(&(from, to));
+        if fits {
+            file.edges.push((from, to));
+        }
+    }
+    while file.aggregates.len() < 64 {
+        let sets = (0..2).map(|_| (0..8).map(|_| r.below(256)).collect()).collect();
+        file.aggregates.push(AggregateParts { sets, exclusive: None });
+    }
+    while file.virtual_storages.len() < 32 {
+        let nodes: Vec<usize> = (0..32).map(|_| r.below(256)).collect();
+        file.virtual_storages.push(licence(&nodes, None));
+    }
+    file
+}
+
+fn day(file: &NetworkFile) -> Step {
+    let node = |n: &NodeParts| match n.kind {
+        Storage => NodeNumbers { cost: -0.25, min: 10.0, max: 100.0, volume: 80.0 },
+        _ => NodeNumbers { cost: 1.5, min: 0.0, max: 40.0, volume: 0.0 },
+    };
+    Step {
+        month: 7,
+        day: 15,
+        days: 1.0,
+        nodes: file.nodes.iter().map(node).collect(),
+        aggregates: file.aggregates.iter().map(|_| AggregateNumbers { lower: 0.0, upper: 60.0 }).collect(),
+        virtual_storages: file
+            .virtual_storages
+            .iter()
+            .map(|_| VirtualStorageNumbers { min: 0.0, max: 9000.0, volume: 7500.0 })
+            .collect(),
+    }
+}

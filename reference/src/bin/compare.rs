@@ -1,0 +1,124 @@
+//! compare [PORT] [--from INDEX] [--out DIR] SEED COUNT: cases INDEX up to INDEX + COUNT of SEED, the port beside the reference.
+//! compare [PORT] --case FILE: one case that was written out. PORT is `--library` (with the feature `library`) or `--lister PROGRAM`;
+//! without it the reference runs alone.
+use pywr_reference::comparison::{self, Tally};
+use pywr_reference::generate::{self, Case};
+use pywr_reference::port::Port;
+use pywr_reference::{case_file, port_lister::Lister};
+use std::panic::{AssertUnwindSafe, catch_unwind};
+use std::time::{Duration, Instant};
+
+const MOST_FAILURES: u64 = 20;
+const USAGE: &str = "compare [--library | --lister PROGRAM] [--from INDEX] [--out DIR] SEED COUNT
+compare [--library | --lister PROGRAM] --case FILE";
+
+#[derive(Default)]
+struct Arguments {
+    library: bool,
+    lister: Option<String>,
+    case: Option<String>,
+    out: String,
+    from: u64,
+    numbers: Vec<u64>,
+}
+
+fn arguments() -> Option<Arguments> {
+    let mut read = Arguments { out: "failures".into(), ..Arguments::default() };
+    let mut words = std::env::args().skip(1);
+    while let Some(word) = words.next() {
+        match word.as_str() {
+            "--library" => read.library = true,
+            "--lister" => read.lister = Some(words.next()?),
+            "--case" => read.case = Some(words.next()?),
+            "--out" => read.out = words.next()?,
+            "--from" => read.from = words.next()?.parse().ok()?,
+            number => read.numbers.push(number.parse().ok()?),
+        }
+    }
+    let complete = if read.case.is_some() { read.numbers.is_empty() } else { read.numbers.len() == 2 };
+    complete.then_some(read)
+}
+
+fn main() {
+    let Some(arguments) = arguments() else {
+        eprintln!("{USAGE}");
+        std::process::exit(2);
+    };
+    let mut port: Option<Box<dyn Port>> = arguments.lister.as_ref().map(|program| Box::new(Lister::new(program.into())) as _);
+    if arguments.library {
+        port = Some(library());
+    }
+    let mut tally = Tally::default();
+    let failures = match &arguments.case {
+        Some(path) => replay(path, &mut port, &mut tally),
+        None => run(&arguments, &mut port, &mut tally),
+    };
+    println!("networks {}, compared {}; {}", tally.builds.total(), tally.builds_compared, tally.builds.text());
+    println!("steps {}, compared {}; {}", tally.steps.total(), tally.steps_compared, tally.steps.text());
+    if let Some(report) = port.and_then(|port| port.report()) {
+        println!("{report}");
+    }
+    println!("differences {failures}");
+    std::process::exit((failures > 0) as i32);
+}
+
+#[cfg(feature = "library")]
+fn library() -> Box<dyn Port> {
+    Box::new(pywr_reference::port_library::Library::new())
+}
+
+#[cfg(not(feature = "library"))]
+fn library() -> Box<dyn Port> {
+    eprintln!("built without the library: `cargo build --release --features library`");
+    std::process::exit(2);
+}
+
+fn replay(path: &str, port: &mut Option<Box<dyn Port>>, tally: &mut Tally) -> u64 {
+    let text = std::fs::read_to_string(path).unwrap_or_else(|e| panic!("{path}: {e}"));
+    let case = case_file::read(&text).unwrap_or_else(|e| panic!("{path}: {e}"));
+    match comparison::compare(&case, port, tally) {
+        Ok(()) => 0,
+        Err(difference) => {
+            println!("{difference}");
+            1
+        }
+    }
+}
+
+fn run(arguments: &Arguments, port: &mut Option<Box<dyn Port>>, tally: &mut Tally) -> u64 {
+    let (seed, count) = (arguments.numbers[0], arguments.numbers[1]);
+    let start = Instant::now();
+    let mut told = start;
+    let mut failures = 0;
+    for index in arguments.from..arguments.from + count {
+        let case = generate::case(seed, index);
+        // A panic of the Rust is a difference too: what passes refusals 1 to 10 builds there.
+        let compared = catch_unwind(AssertUnwindSafe(|| comparison::compare(&case, port, tally)));
+        if let Err(difference) = compared.unwrap_or_else(|_| Err("the reference panics".into())) {
+            failures += 1;
+            write_out(arguments, index, &case, &difference);
+            if failures == MOST_FAILURES {
+                println!("stopped after {failures} differences");
+                break;
+            }
+        }
+        if told.elapsed() > Duration::from_secs(5) {
+            told = Instant::now();
+            eprintln!("{} of {count} after {} s, {failures} differences", index + 1 - arguments.from, start.elapsed().as_secs());
+        }
+    }
+    failures
+}
+
+fn write_out(arguments: &Arguments, index: u64, case: &Case, difference: &str) {
+    let path = format!("{}/{}-{index}.case", arguments.out, arguments.numbers[0]);
+    let port = match (&arguments.lister, arguments.library) {
+        (_, true) => " --library".into(),
+        (Some(program), _) => format!(" --lister {program}"),
+        _ => String::new(),
+    };
+    let replay = format!("compare{port} --case {path}");
+    let text = case_file::write(case, &format!("{difference}\n{replay}"));
+    std::fs::create_dir_all(&arguments.out).and_then(|()| std::fs::write(&path, text)).unwrap_or_else(|e| panic!("{path}: {e}"));
+    println!("case {index} ({}): {difference}\n  {replay}", case.kind);
+}

@@ -1,0 +1,99 @@
+//! Runs the port beside the reference on one case.
+use crate::generate::Case;
+use crate::port::{Answer, Port};
+use crate::{Reference, Refusal, Sentinel};
+
+/// How often each answer came: at 0 accepted, at n refused with number n.
+#[derive(Debug, Clone, Copy, Default)]
+pub struct Answers([u64; 16]);
+
+impl Answers {
+    fn count(&mut self, answer: Result<(), Refusal>) {
+        self.0[answer.map_or_else(|r| r.number as usize, |()| 0)] += 1;
+    }
+
+    /// How often `number` came, 0 for accepted.
+    pub fn of(&self, number: usize) -> u64 {
+        self.0[number]
+    }
+
+    pub fn total(&self) -> u64 {
+        self.0.iter().sum()
+    }
+
+    /// `accepted` and the refusals reached, each number with its count.
+    pub fn text(&self) -> String {
+        let refused = (1..16).filter(|&n| self.0[n] > 0).map(|n| format!(", {n}: {}", self.0[n]));
+        format!("accepted {}{}", self.0[0], refused.collect::<String>())
+    }
+}
+
+/// What was reached, and how much of it was compared with the port.
+#[derive(Debug, Default)]
+pub struct Tally {
+    pub builds: Answers,
+    pub steps: Answers,
+    pub builds_compared: u64,
+    pub steps_compared: u64,
+}
+
+/// Builds the case and takes its steps, with the port if there is one. An error says what differs.
+pub fn compare(case: &Case, port: &mut Option<Box<dyn Port>>, tally: &mut Tally) -> Result<(), String> {
+    let Some(port) = port.as_deref_mut() else {
+        return run_alone(case, case.sentinel, tally);
+    };
+    let sentinel = port.sentinel(case.sentinel);
+    let build = Reference::build(&case.network, sentinel);
+    let answer = build.as_ref().map(|_| ()).map_err(|r| *r);
+    tally.builds.count(answer);
+    tally.builds_compared += 1;
+    same_answer(answer, port.build(&case.network, sentinel)).map_err(|e| format!("build: {e}"))?;
+    match build {
+        Ok(mut reference) => {
+            same_programme(&reference, port).map_err(|e| format!("build: {e}"))?;
+            if port.columns_of_edges().is_some_and(|columns| columns != reference.columns_of_edges()) {
+                return Err("build: the columns of edges differ".into());
+            }
+            compare_steps(case, &mut reference, port, tally)
+        }
+        Err(_) => Ok(()),
+    }
+}
+
+/// The programme is compared after each step, refused ones too.
+fn compare_steps(case: &Case, reference: &mut Reference, port: &mut dyn Port, tally: &mut Tally) -> Result<(), String> {
+    for (k, step) in case.steps.iter().enumerate() {
+        let answer = reference.step(step);
+        tally.steps.count(answer);
+        if port.has_steps() {
+            tally.steps_compared += 1;
+            let same = same_answer(answer, port.step(step)).and_then(|()| same_programme(reference, port));
+            same.map_err(|e| format!("step {k}: {e}"))?;
+        }
+    }
+    Ok(())
+}
+
+fn run_alone(case: &Case, sentinel: Sentinel, tally: &mut Tally) -> Result<(), String> {
+    let build = Reference::build(&case.network, sentinel);
+    tally.builds.count(build.as_ref().map(|_| ()).map_err(|r| *r));
+    if let Ok(mut reference) = build {
+        for step in &case.steps {
+            tally.steps.count(reference.step(step));
+        }
+    }
+    Ok(())
+}
+
+fn same_answer(reference: Result<(), Refusal>, port: Answer) -> Result<(), String> {
+    let text = |answer: Result<(), Refusal>| answer.map_or_else(|r| r.to_string(), |()| "accepted".into());
+    let port = port?;
+    if reference == port { Ok(()) } else { Err(format!("the Rust answers {}, the port {}", text(reference), text(port))) }
+}
+
+fn same_programme(reference: &Reference, port: &mut dyn Port) -> Result<(), String> {
+    match reference.programme().difference(&port.programme()?) {
+        Some(difference) => Err(format!("the Rust's and the port's programme differ: {difference}")),
+        None => Ok(()),
+    }
+}

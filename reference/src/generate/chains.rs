@@ -1,0 +1,53 @@
+//! Chains and rings of links, keyed in random edge order.
+use super::small;
+use crate::NetworkFile;
+use crate::random::Random;
+use pywr_core::node::NodeType;
+
+pub fn network(r: &mut Random) -> NetworkFile {
+    let mut network = NetworkFile::default();
+    for _ in 0..r.between(1, 4) {
+        add_chain(r, &mut network);
+    }
+    for _ in 0..r.below(4) {
+        let count = network.nodes.len();
+        let (from, to) = (r.below(count), r.below(count));
+        small::add_edge(&mut network, from, to);
+    }
+    match r.below(4) {
+        0 => {}
+        1 => network.edges.reverse(),
+        _ => r.shuffle(&mut network.edges),
+    }
+    small::add_aggregates(r, &mut network, 2);
+    small::add_virtual_storages(r, &mut network, 2);
+    network
+}
+
+/// A source, links one behind the other, a sink; or a ring of links.
+fn add_chain(r: &mut Random, network: &mut NetworkFile) {
+    let links = if r.chance(10) { r.between(20, 60) } else { r.between(1, 8) };
+    let ring = r.chance(25);
+    let mut order: Vec<usize> = Vec::new();
+    let mut add = |r: &mut Random, kind: NodeType| {
+        order.push(network.nodes.len());
+        let node = small::node(r, kind);
+        network.nodes.push(node);
+    };
+    if !ring {
+        let source = *r.pick(&[NodeType::Input, NodeType::Storage]);
+        add(r, source);
+    }
+    for _ in 0..links + ring as usize {
+        add(r, NodeType::Link);
+    }
+    if ring {
+        order.push(order[0]);
+    } else {
+        let sink = *r.pick(&[NodeType::Output, NodeType::Storage]);
+        add(r, sink);
+    }
+    for pair in order.windows(2) {
+        small::add_edge(network, pair[0], pair[1]);
+    }
+}

@@ -1,0 +1,122 @@
+//! Doubles: everyday ones, those at each limit of document 01, infinities and subnormals.
+use crate::random::Random;
+
+const LEAST: f64 = f64::from_bits(1);
+const LARGEST_SUBNORMAL: f64 = f64::from_bits(0x000f_ffff_ffff_ffff);
+
+/// A flow bound: anything but NaN.
+pub fn flow(r: &mut Random) -> f64 {
+    let limits = [
+        0.0,
+        -0.0,
+        1.0,
+        5.0,
+        48.5,
+        0.1,
+        1e-6,
+        1e-6_f64.next_up(),
+        1e-6_f64.next_down(),
+        1e-7,
+        1e6,
+        1e6_f64.next_up(),
+        1e6_f64.next_down(),
+        2e6,
+        1e300,
+        -1.0,
+        -3.0,
+        -1e-6,
+        LEAST,
+        -LEAST,
+        LARGEST_SUBNORMAL,
+        f64::MIN_POSITIVE,
+        f64::MAX,
+        f64::MIN,
+        f64::MAX.next_down(),
+        f64::INFINITY,
+        f64::NEG_INFINITY,
+    ];
+    match r.below(10) {
+        0..5 => everyday(r),
+        5..9 => *r.pick(&limits),
+        _ => Some(f64::from_bits(r.bits())).filter(|x| !x.is_nan()).unwrap_or(0.0),
+    }
+}
+
+/// A lower and an upper bound, in order.
+pub fn interval(r: &mut Random) -> (f64, f64) {
+    let (a, b) = match r.below(10) {
+        0 => (0.0, f64::INFINITY),
+        1..4 => (0.0, everyday(r).abs()),
+        4 => {
+            let x = flow(r);
+            (x, x)
+        }
+        _ => (flow(r), flow(r)),
+    };
+    if a > b { (b, a) } else { (a, b) }
+}
+
+/// A cost, a volume or a factor: magnitude at most 1e12.
+pub fn amount(r: &mut Random) -> f64 {
+    let limits = [
+        0.0,
+        -0.0,
+        1.0,
+        -1.0,
+        3.0,
+        4.0,
+        0.75,
+        0.1,
+        1.0 / 3.0,
+        1e12,
+        -1e12,
+        1e12_f64.next_down(),
+        LEAST,
+        -LEAST,
+        LARGEST_SUBNORMAL,
+        f64::MIN_POSITIVE,
+        1e-300,
+        4503599627370497.0 / 8192.0,
+    ];
+    match r.below(10) {
+        0..5 => everyday(r),
+        5..9 => *r.pick(&limits),
+        _ => Some(f64::from_bits(r.bits())).filter(|x| x.abs() <= 1e12).unwrap_or(2.0),
+    }
+}
+
+/// A least and a greatest volume, in order.
+pub fn volumes(r: &mut Random) -> (f64, f64) {
+    let (a, b) = (amount(r), amount(r));
+    if r.chance(10) {
+        (a, a)
+    } else if a > b {
+        (b, a)
+    } else {
+        (a, b)
+    }
+}
+
+pub fn days(r: &mut Random) -> f64 {
+    let limits = [1.0 / 1024.0, (1.0_f64 / 1024.0).next_up(), 366.0, 366.0_f64.next_down(), 1.0, 2.0, 7.0, 0.1, 30.5, 1.0 / 3.0];
+    if r.chance(70) { *r.pick(&limits) } else { 1.0 + r.below(365_000) as f64 / 1000.0 }
+}
+
+/// Any bits at all, NaN often: for numbers that are not read.
+pub fn unread(r: &mut Random) -> f64 {
+    match r.below(4) {
+        0 => f64::NAN,
+        1 => f64::from_bits(0xfff0_0000_0000_0001),
+        2 => f64::NEG_INFINITY,
+        _ => f64::from_bits(r.bits()),
+    }
+}
+
+fn everyday(r: &mut Random) -> f64 {
+    match r.below(4) {
+        0 => r.below(10) as f64,
+        1 => r.below(2000) as f64 - 1000.0,
+        2 => r.below(100_000) as f64 / 1000.0,
+        _ => r.below(1000) as f64 / 8.0,
+    }
+}

@@ -1,0 +1,24 @@
+//! What is compared with the reference. Each way of calling the port stands behind this trait.
+use crate::{Programme, Refusal, Sentinel};
+
+/// The outer error is a fault of its own: the port did not run, or wrote what it must not write.
+pub type Answer = Result<Result<(), Refusal>, String>;
+
+pub trait Port {
+    /// The sentinel that `build` gets where `wanted` is asked for: a program may know one alone.
+    fn sentinel(&self, wanted: Sentinel) -> Sentinel;
+    /// Whether `step` can be called.
+    fn has_steps(&self) -> bool;
+    fn build(&mut self, network: &[u8], sentinel: Sentinel) -> Answer;
+    fn step(&mut self, step: &[u8]) -> Answer;
+    /// The programme now held. A port with a store reads each row's columns by its own call.
+    fn programme(&mut self) -> Result<Programme, String>;
+    /// The column of each edge after a build, if the port tells.
+    fn columns_of_edges(&self) -> Option<Vec<usize>> {
+        None
+    }
+    /// What it has tried besides the cases that it was given.
+    fn report(&self) -> Option<String> {
+        None
+    }
+}

@@ -1,0 +1,80 @@
+//! The reference's answers: the Rust's programme for a network file, and what each step file makes of it.
+use crate::ceilings;
+use crate::programme::Programme;
+use crate::solver::{InOrder, Solver, Unaltered};
+use crate::{NetworkFile, Refusal, Sentinel, step_file};
+use pywr_core::network::Network;
+use pywr_core::solvers::SolverSolveError;
+
+pub struct Reference {
+    file: NetworkFile,
+    network: Network,
+    high: f64,
+    /// Takes every step first: a refused `update` stops half way.
+    trial: Option<InOrder>,
+    /// Takes accepted steps only.
+    kept: InOrder,
+    /// The source as it is, where at most one distinct set exists.
+    unaltered: Option<Unaltered>,
+    programme: Programme,
+}
+
+impl Reference {
+    pub fn build(file: &[u8], sentinel: Sentinel) -> Result<Self, Refusal> {
+        let file = NetworkFile::read(file)?;
+        file.check()?;
+        let built = Self::build_read(file, sentinel);
+        ceilings::check(&built.programme)?;
+        Ok(built)
+    }
+
+    /// The build of a network that passes refusals 1 to 10, whatever its size.
+    pub fn build_read(file: NetworkFile, sentinel: Sentinel) -> Self {
+        let network = file.network();
+        let high = sentinel.high();
+        let kept = InOrder::create(&network, high).expect("the Rust builds what passes refusals 1 to 10");
+        let unaltered = (file.distinct_sets() <= 1).then(|| Unaltered::create(&network, high).unwrap());
+        let programme = kept.programme();
+        let built = Self { file, network, high, trial: None, kept, unaltered, programme };
+        built.require_agreement();
+        built
+    }
+
+    /// Refusals 12 and 13 by the file, 14 and 15 by the Rust. A refused step leaves the programme as it was.
+    pub fn step(&mut self, file: &[u8]) -> Result<(), Refusal> {
+        let (timestep, state) = step_file::read(&self.file, file)?;
+        let trial = self.trial.get_or_insert_with(|| InOrder::create(&self.network, self.high).unwrap());
+        trial.step(&self.network, &timestep, &state).map_err(refusal)?;
+        self.kept.step(&self.network, &timestep, &state).expect("the trial accepted this step");
+        if let Some(unaltered) = &mut self.unaltered {
+            unaltered.step(&self.network, &timestep, &state).expect("the trial accepted this step");
+        }
+        self.programme = self.kept.programme();
+        assert!(trial.programme().same_bits(&self.programme), "a step after a refused one differs");
+        self.require_agreement();
+        Ok(())
+    }
+
+    pub fn programme(&self) -> &Programme {
+        &self.programme
+    }
+
+    pub fn columns_of_edges(&self) -> Vec<usize> {
+        self.kept.columns_of_edges(&self.network)
+    }
+
+    fn require_agreement(&self) {
+        if let Some(unaltered) = &self.unaltered {
+            assert!(unaltered.programme().same_bits(&self.programme), "the altered and the unaltered Rust differ");
+        }
+    }
+}
+
+/// Names are numbers.
+fn refusal(error: SolverSolveError) -> Refusal {
+    match error {
+        SolverSolveError::NodeBoundsInfeasible { name, .. } => Refusal::new(14, name.parse().unwrap()),
+        SolverSolveError::VirtualStorageBoundsInfeasible { name, .. } => Refusal::new(15, name.parse().unwrap()),
+        other => panic!("the Rust refuses a step for another reason: {other}"),
+    }
+}

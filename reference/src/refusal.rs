@@ -1,0 +1,20 @@
+//! Document 01's refusals: a number and a place.
+use std::fmt;
+
+#[derive(Debug, Clone, Copy, PartialEq, Eq)]
+pub struct Refusal {
+    pub number: u8,
+    pub place: usize,
+}
+
+impl Refusal {
+    pub fn new(number: u8, place: usize) -> Self {
+        Self { number, place }
+    }
+}
+
+impl fmt::Display for Refusal {
+    fn fmt(&self, f: &mut fmt::Formatter<'_>) -> fmt::Result {
+        write!(f, "N {} {}", self.number, self.place)
+    }
+}

@@ -1,0 +1,15 @@
+//! What an upper bound has that binds nothing.
+#[derive(Debug, Clone, Copy, PartialEq, Eq)]
+pub enum Sentinel {
+    Infinity,
+    LargestFinite,
+}
+
+impl Sentinel {
+    pub fn high(self) -> f64 {
+        match self {
+            Self::Infinity => f64::INFINITY,
+            Self::LargestFinite => f64::MAX,
+        }
+    }
+}

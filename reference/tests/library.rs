@@ -1,0 +1,75 @@
+//! The port through its static library, and what the comparison looks at there.
+#![cfg(feature = "library")]
+use pywr::Store;
+use pywr_reference::comparison::{Tally, compare};
+use pywr_reference::lent::{Kept, changed, kept_from, store};
+use pywr_reference::port::Port;
+use pywr_reference::port_library::Library;
+use pywr_reference::random::Random;
+use pywr_reference::store_shape::misshapen;
+use pywr_reference::{Sentinel, generate};
+
+#[test]
+fn no_difference() {
+    let mut tally = Tally::default();
+    let mut port: Option<Box<dyn Port>> = Some(Box::new(Library::new()));
+    for index in 0..500 {
+        let case = generate::case(3, index);
+        compare(&case, &mut port, &mut tally).unwrap_or_else(|e| panic!("case {index}: {e}"));
+    }
+    assert!(tally.steps_compared > 1000);
+}
+
+/// A bit of each run, and one that a run may have changed.
+#[test]
+fn written_bytes_are_seen() {
+    let old = store(&mut Random::new(1));
+    let faults: [fn(&mut Store); 9] = [
+        |s| s.col_lower[639] = -s.col_lower[639],
+        |s| s.col_upper[0] = -s.col_upper[0],
+        |s| s.col_obj_coef[7] = f64::from_bits(s.col_obj_coef[7].to_bits() ^ 1),
+        |s| s.row_lower[1023] = -s.row_lower[1023],
+        |s| s.row_upper[5] = -s.row_upper[5],
+        |s| s.elements[4095] = -s.elements[4095],
+        |s| s.columns[4095] ^= 1,
+        |s| s.row_starts[1024] ^= 1,
+        |s| s.shape[19722] ^= 1,
+    ];
+    assert_eq!(changed(&old, &old.clone()), Ok(()));
+    for fault in faults {
+        let mut new = old.clone();
+        fault(&mut new);
+        assert!(changed(&old, &new).is_err());
+        assert_eq!(changed(&old, &new).is_ok(), kept_from(&old, &new, &Kept::default()).is_ok());
+    }
+    let mut new = old.clone();
+    new.col_obj_coef[7] = 1.0;
+    assert_eq!(kept_from(&old, &new, &Kept { costs: 8, ..Kept::default() }), Ok(()));
+    assert!(kept_from(&old, &new, &Kept { costs: 7, ..Kept::default() }).is_err());
+}
+
+#[test]
+fn misshapen_stores() {
+    let network = std::fs::read(concat!(env!("CARGO_MANIFEST_DIR"), "/../examples/intake.network")).unwrap();
+    let mut built = Library::new();
+    assert_eq!(built.build(&network, Sentinel::Infinity), Ok(Ok(())));
+    let store = built.store();
+    assert!(!misshapen(store));
+    // The sentinel kept; a count; a start that falls; the last start; a column that does not rise; a kind; an edge's column; a row.
+    let faults: [fn(&mut Store); 8] = [
+        |s| s.shape[0] = 2,
+        |s| s.shape[9] = 65,
+        |s| s.row_starts[2] = 0,
+        |s| s.row_starts[20] += 1,
+        |s| s.columns[2] = s.columns[1],
+        |s| s.shape[11] = 4,
+        |s| s.shape[525] = 9,
+        |s| s.shape[19467] = 8,
+    ];
+    for (k, fault) in faults.iter().enumerate() {
+        let mut damaged = store.clone();
+        fault(&mut damaged);
+        assert!(misshapen(&damaged), "fault {k}");
+        assert_eq!(damaged.row(0).unwrap_err(), pywr::Refusal { number: 17, place: 0 });
+    }
+}

@@ -1,0 +1,133 @@
+//! Refusals 12 to 14 of a step file, their order, and the programme after them.
+mod records;
+
+use pywr_reference::{Reference, Refusal, Sentinel};
+use records::*;
+
+fn built(records: &[Vec<u8>]) -> Reference {
+    Reference::build(&records.concat(), Sentinel::Infinity).unwrap_or_else(|r| panic!("refused: {r}"))
+}
+
+fn answer(records: &[Vec<u8>], step: &[Vec<u8>]) -> Result<(), Refusal> {
+    built(records).step(&step.concat())
+}
+
+fn refused(records: &[Vec<u8>], step: &[Vec<u8>], number: u8, place: usize) {
+    assert_eq!(answer(records, step), Err(Refusal::new(number, place)));
+}
+
+fn accepted(records: &[Vec<u8>], step: &[Vec<u8>]) {
+    assert_eq!(answer(records, step), Ok(()));
+}
+
+fn day() -> Vec<u8> {
+    st(6, 1, 1.0)
+}
+
+fn free() -> Vec<u8> {
+    nb(0.0, 0.0, f64::INFINITY, f64::NAN)
+}
+
+#[test]
+fn short_wrongly_marked_or_left_over() {
+    let network = [pair(), plain(&[&[0]]), vs(None, &[(0, 1.0)])];
+    let step = [day(), free(), free(), gb(0.0, 1.0), vb(0.0, 1.0, 0.5)];
+    accepted(&network, &step);
+    let whole = step.concat();
+    let starts = [0, 12, 46, 80, 98];
+    for length in 0..whole.len() {
+        let record = *starts.iter().rev().find(|s| **s <= length).unwrap();
+        refused(&network, &[whole[..length].to_vec()], 12, record);
+    }
+    refused(&network, &[whole.clone(), vec![0]], 12, whole.len());
+    for record in starts {
+        let mut wrong = whole.clone();
+        wrong[record + 1] = b'X';
+        refused(&network, &[wrong], 12, record);
+    }
+    // Bytes left over come before 14.
+    refused(&[pair()], &[day(), nb(0.0, 3.0, 2.0, 0.0), free(), vec![0]], 12, 80);
+}
+
+#[test]
+fn values_of_the_date_and_days() {
+    let with = |month, d, days| [st(month, d, days), free(), free()];
+    for (month, d) in [(1, 31), (2, 29), (4, 30), (12, 31)] {
+        accepted(&[pair()], &with(month, d, 1.0));
+        refused(&[pair()], &with(month, d + 1, 1.0), 13, 0);
+    }
+    refused(&[pair()], &[b"ST\x00".to_vec()], 13, 0);
+    refused(&[pair()], &[b"ST\x0d".to_vec()], 13, 0);
+    refused(&[pair()], &[b"ST\x01\x00".to_vec()], 13, 0);
+    accepted(&[pair()], &with(1, 1, 1.0 / 1024.0));
+    refused(&[pair()], &with(1, 1, (1.0_f64 / 1024.0).next_down()), 13, 0);
+    accepted(&[pair()], &with(1, 1, 366.0));
+    refused(&[pair()], &with(1, 1, 366.0_f64.next_up()), 13, 0);
+    refused(&[pair()], &with(1, 1, f64::NAN), 13, 0);
+}
+
+#[test]
+fn values_of_nodes() {
+    let network = [nd(INPUT), constant(OUTPUT, 0.0, 1.0), nd(STORAGE), ed(0, 1)];
+    let with = |k: usize, numbers: [f64; 4]| {
+        let mut step = [day(), free(), nb(1.0, f64::NAN, f64::NAN, f64::NAN), nb(0.0, 0.0, 0.0, 0.0)];
+        step[1 + k] = nb(numbers[0], numbers[1], numbers[2], numbers[3]);
+        step
+    };
+    let (nan, inf, over) = (f64::NAN, f64::INFINITY, 1e12_f64.next_up());
+    accepted(&network, &with(0, [1e12, -inf, inf, nan]));
+    accepted(&network, &with(2, [-1e12, -1e12, 1e12, 1e12]));
+    for numbers in [[nan, 0.0, 0.0, 0.0], [over, 0.0, 0.0, 0.0], [0.0, nan, 0.0, 0.0], [0.0, 0.0, nan, 0.0]] {
+        refused(&network, &with(0, numbers), 13, 12);
+    }
+    for cost in [nan, inf, -over] {
+        refused(&network, &with(1, [cost, 0.0, 0.0, 0.0]), 13, 46);
+    }
+    for i in 0..4 {
+        for value in [nan, inf, over, -over] {
+            let mut numbers = [0.0; 4];
+            numbers[i] = value;
+            refused(&network, &with(2, numbers), 13, 80);
+        }
+    }
+}
+
+#[test]
+fn values_of_aggregates_and_virtual_storages() {
+    let network = [pair(), plain(&[&[0]]), vs(Some([1, 1, 1, 1]), &[(0, 1.0)])];
+    let with = |g: [f64; 2], v: [f64; 3]| [day(), free(), free(), gb(g[0], g[1]), vb(v[0], v[1], v[2])];
+    accepted(&network, &with([f64::INFINITY, f64::NEG_INFINITY], [1e12, -1e12, 0.0]));
+    refused(&network, &with([f64::NAN, 0.0], [0.0; 3]), 13, 80);
+    refused(&network, &with([0.0, f64::NAN], [0.0; 3]), 13, 80);
+    // Looked at although the virtual storage is inactive on that day.
+    for i in 0..3 {
+        let mut numbers = [0.0; 3];
+        numbers[i] = 1e12_f64.next_up();
+        refused(&network, &with([0.0, 1.0], numbers), 13, 98);
+    }
+}
+
+#[test]
+fn lower_over_upper() {
+    accepted(&[pair()], &[day(), nb(0.0, 3.0, 3.0, 0.0), free()]);
+    refused(&[pair()], &[day(), nb(0.0, 3.0, 2.0, 0.0), free()], 14, 0);
+    refused(&[pair()], &[day(), free(), nb(0.0, f64::INFINITY, f64::MAX, 0.0)], 14, 1);
+    let storage = [nd(STORAGE), nd(OUTPUT), ed(0, 1)];
+    refused(&storage, &[day(), nb(0.0, 2.0, 1.0, 0.0), free()], 14, 0);
+    accepted(&storage, &[day(), nb(0.0, 2.0, 2.0, 9.0), free()]);
+    // An exclusive varying node is asked too.
+    refused(&[pair(), exclusive(&[&[1]], 0, 1)], &[day(), free(), nb(0.0, 1.0, 0.5, 0.0), gb(0.0, 0.0)], 14, 1);
+}
+
+#[test]
+fn a_refused_step_leaves_the_programme() {
+    let mut reference = built(&[pair()]);
+    reference.step(&[day(), nb(7.0, 1.0, 2.0, 0.0), nb(1.0, 0.0, 9.0, 0.0)].concat()).unwrap();
+    let before = reference.programme().to_string();
+    for wrong in [vec![], [day(), nb(5.0, 0.0, 1.0, 0.0), nb(4.0, 9.0, 8.0, 0.0)].concat()] {
+        assert!(reference.step(&wrong).is_err());
+        assert_eq!(reference.programme().to_string(), before);
+    }
+    reference.step(&[day(), nb(0.0, 0.0, 5.0, 0.0), nb(0.0, 0.0, 9.0, 0.0)].concat()).unwrap();
+    assert_ne!(reference.programme().to_string(), before);
+}
