@@ -7,31 +7,54 @@ use Rattle.add_node.proofs.add_node.Tie as tie
 
 add-columns-requires : tie.Need-add-columns-requires
 add-columns-requires c κs =
-    (c .before .before .before .before .before .before .before .before .pre .2, c .before .before .before .before .before .before .before .before .pre .3, c .before .before .before .before .before .before .before .before .pre .4, in-listed _ _ _ _ _ _ _ (c .before .before .before .before .before .before .before .before .pre .0) (c .before .before .before .before .before .wide16 .result))
+    let c5 = c .before .before .before .before .before in
+    let c8 = c5 .before .before .before in
+    (c8 .pre .2, c8 .pre .3, c8 .pre .4, in-listed _ _ _ _ _ _ _ (c8 .pre .0) (c5 .wide16 .result))
 
 returns : tie.Need-returns
 returns c =
-    output-added _ _ _ _ _ _ _ (c .before .before .before .before .before .before .before .before .before .before .before .pre .0) _ (c .before .before .before .before .before .before .before .before .wide16 .result) (c .before .before .before .before .before .before .before .before .wide16 .ensures .0) (c .before .before .before .before .before .before .before .before .before .before .before .pre .1) _ _ _ _ _ _ _ (c .before .before .before .before .before .before .if1 .taken) (c .before .before .add-columns .ensures)
+    let c2 = c .before .before in
+    let c6 = c2 .before .before .before .before in
+    let c8 = c6 .before .before in
+    let c11 = c8 .before .before .before in
+    output-added _ _ _ _ _ _ _ (c11 .pre .0) _ (c8 .wide16 .result) (c8 .wide16 .ensures .0) (c11 .pre .1) _ _ _ _ _ _ _ (c6 .if1 .taken) (c2 .add-columns .ensures)
 
 add-columns-requires-2 : tie.Need-add-columns-requires-2
 add-columns-requires-2 c κs =
-    (c .before .before .before .before .before .before .before .before .before .pre .2, c .before .before .before .before .before .before .before .before .before .pre .3, c .before .before .before .before .before .before .before .before .before .pre .4, in-listed _ _ _ _ _ _ _ (c .before .before .before .before .before .before .before .before .before .pre .0) (c .before .before .before .before .before .before .wide16 .result))
+    let c6 = c .before .before .before .before .before .before in
+    let c9 = c6 .before .before .before in
+    (c9 .pre .2, c9 .pre .3, c9 .pre .4, in-listed _ _ _ _ _ _ _ (c9 .pre .0) (c6 .wide16 .result))
 
 add-columns-requires-3 : tie.Need-add-columns-requires-3
 add-columns-requires-3 c κs =
-    (c .before .before .before .before .before .add-columns2 .ensures .few, omega (arith, c .before .before .before .before .before .add-columns2 .kept .1 .1 .1 .1 .1 .0, c .before .before .before .before .before .before .before .before .before .before .before .before .before .before .before .pre .3), c .before .before .before .before .before .add-columns2 .ensures .rising, out-listed _ _ _ _ _ _ _ (c .before .before .before .before .before .before .before .before .before .before .before .before .before .before .before .pre .0) (c .before .before .before .before .before .before .before .before .before .before .before .before .wide16 .result))
+    let c5 = c .before .before .before .before .before in
+    let c12 = c5 .before .before .before .before .before .before .before in
+    let c15 = c12 .before .before .before in
+    (c5 .add-columns2 .ensures .few, omega (arith, c5 .add-columns2 .kept .1 .1 .1 .1 .1 .0, c15 .pre .3), c5 .add-columns2 .ensures .rising, out-listed _ _ _ _ _ _ _ (c15 .pre .0) (c12 .wide16 .result))
 
 returns-2 : tie.Need-returns-2
 returns-2 c =
-    storage-added _ _ _ _ _ _ _ (c .before .before .before .before .before .before .before .before .before .before .before .before .before .before .before .before .before .before .pre .0) _ (c .before .before .before .before .before .before .before .before .before .before .before .before .before .before .before .wide16 .result) (c .before .before .before .before .before .before .before .before .before .before .before .before .before .before .before .wide16 .ensures .0) (c .before .before .before .before .before .before .before .before .before .before .before .before .before .before .before .before .before .before .pre .1) _ _ _ _ _ _ _ _ _ _ (c .before .before .before .before .before .before .before .before .before .before .before .before .if2 .taken) (c .before .before .before .before .before .before .before .before .add-columns2 .ensures) (c .before .before .add-columns3 .ensures)
+    let c2 = c .before .before in
+    let c8 = c2 .before .before .before .before .before .before in
+    let c12 = c8 .before .before .before .before in
+    let c15 = c12 .before .before .before in
+    let c18 = c15 .before .before .before in
+    storage-added _ _ _ _ _ _ _ (c18 .pre .0) _ (c15 .wide16 .result) (c15 .wide16 .ensures .0) (c18 .pre .1) _ _ _ _ _ _ _ _ _ _ (c12 .if2 .taken) (c8 .add-columns2 .ensures) (c2 .add-columns3 .ensures)
 
 add-columns-requires-4 : tie.Need-add-columns-requires-4
 add-columns-requires-4 c κs =
-    (c .before .before .before .before .before .before .before .before .before .pre .2, c .before .before .before .before .before .before .before .before .before .pre .3, c .before .before .before .before .before .before .before .before .before .pre .4, out-listed _ _ _ _ _ _ _ (c .before .before .before .before .before .before .before .before .before .pre .0) (c .before .before .before .before .before .before .wide16 .result))
+    let c6 = c .before .before .before .before .before .before in
+    let c9 = c6 .before .before .before in
+    (c9 .pre .2, c9 .pre .3, c9 .pre .4, out-listed _ _ _ _ _ _ _ (c9 .pre .0) (c6 .wide16 .result))
 
 returns-3 : tie.Need-returns-3
 returns-3 c =
-    outgoing-added _ _ _ _ _ _ _ (c .before .before .before .before .before .before .before .before .before .before .before .before .pre .0) _ (c .before .before .before .before .before .before .before .before .before .wide16 .result) (c .before .before .before .before .before .before .before .before .before .wide16 .ensures .0) (c .before .before .before .before .before .before .before .before .before .before .before .before .pre .1) _ _ _ _ _ _ _ (c .before .before .before .before .before .before .before .if1 .left) (c .before .before .before .before .before .before .if2 .left) (c .before .before .add-columns4 .ensures)
+    let c2 = c .before .before in
+    let c6 = c2 .before .before .before .before in
+    let c7 = c6 .before in
+    let c9 = c7 .before .before in
+    let c12 = c9 .before .before .before in
+    outgoing-added _ _ _ _ _ _ _ (c12 .pre .0) _ (c9 .wide16 .result) (c9 .wide16 .ensures .0) (c12 .pre .1) _ _ _ _ _ _ _ (c7 .if1 .left) (c6 .if2 .left) (c2 .add-columns4 .ensures)
 
 pub add-node-spec : {M : Type 1} → statement M
 add-node-spec =

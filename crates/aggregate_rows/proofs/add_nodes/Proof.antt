@@ -44,8 +44,14 @@ add-node-requires c κs =
 loop-again : tie.Need-loop-again Inv-loop μ-loop
 unfolding one64 ofBits
 loop-again c =
-    let l = c .before .before .before .before .before .before .before .loop in
-    (nodes-more _ (c .before .before .before .before .before .before .before .before .before .before .before .args .c) _ _ _ _ _ _ (l .inv .0) _ _ _ _ _ (omega (arith, c .before .before .before .before .before .before .before .before .set-size .ensures .0, c .before .before .before .before .before .before .loop-test .taken)) (c .before .before .before .before .before .member .ensures) refl (c .before .before .add-node .ensures), c .before .before .add-node .kept .1 .1 .1 .1 .1 .1 .1 .1 .1 .1 .0 ∙ l .inv .1)
+    let c2 = c .before .before in
+    let c5 = c2 .before .before .before in
+    let c6 = c5 .before in
+    let c7 = c6 .before in
+    let c8 = c7 .before in
+    let c11 = c8 .before .before .before in
+    let l = c7 .loop in
+    (nodes-more _ (c11 .args .c) _ _ _ _ _ _ (l .inv .0) _ _ _ _ _ (omega (arith, c8 .set-size .ensures .0, c6 .loop-test .taken)) (c5 .member .ensures) refl (c2 .add-node .ensures), c2 .add-node .kept .1 .1 .1 .1 .1 .1 .1 .1 .1 .1 .0 ∙ l .inv .1)
 
 same-length : tie.Need-same-length Inv-loop μ-loop
 same-length c =

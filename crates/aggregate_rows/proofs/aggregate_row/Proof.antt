@@ -47,10 +47,15 @@ set-end-requires c κs =
 
 loop-again : tie.Need-loop-again Inv-loop μ-loop
 loop-again c =
-    let t = c .before .before .before .before .before .before .before .before .before .before .before in
-    let l = c .before .before .before .before .before .before .before .loop in
-    let lt : l .i < byte (t .args .s .now) (t .args .at + 3) = omega (arith, c .before .before .before .before .before .before .before .before .set-count .ensures .0, c .before .before .before .before .before .before .loop-test .taken) in
-    (sets-more _ (t .args .c) _ _ _ _ _ _ (l .inv .0) _ _ _ _ lt (c .set-end .ensures) (c .before .before .before .add-nodes .ensures), set-next _ _ _ (t .pre .1) _ _ lt (l .inv .1) _ (c .set-end .ensures), c .before .before .before .add-nodes .kept .1 .1 .1 .1 .1 .1 .1 .1 .1 .0 ∙ l .inv .2)
+    let c3 = c .before .before .before in
+    let c6 = c3 .before .before .before in
+    let c7 = c6 .before in
+    let c8 = c7 .before in
+    let c11 = c8 .before .before .before in
+    let t = c11 in
+    let l = c7 .loop in
+    let lt : l .i < byte (t .args .s .now) (t .args .at + 3) = omega (arith, c8 .set-count .ensures .0, c6 .loop-test .taken) in
+    (sets-more _ (t .args .c) _ _ _ _ _ _ (l .inv .0) _ _ _ _ lt (c .set-end .ensures) (c3 .add-nodes .ensures), set-next _ _ _ (t .pre .1) _ _ lt (l .inv .1) _ (c .set-end .ensures), c3 .add-nodes .kept .1 .1 .1 .1 .1 .1 .1 .1 .1 .0 ∙ l .inv .2)
 
 same-length : tie.Need-same-length Inv-loop μ-loop
 same-length c =

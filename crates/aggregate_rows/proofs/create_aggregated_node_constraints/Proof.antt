@@ -52,20 +52,29 @@ same-length-2 c =
 
 returns : tie.Need-returns Inv-loop μ-loop
 returns c =
-    let t = c .before .before .before .before .before .before .before .before .before .before .before .before .before .before .before .before .before .before in
-    let l = c .before .before .before .before .before .before .before .before .before .before .before .before .loop in
-    let lt = c .before .before .before .before .before .before .before .before .before .before .if1 .taken in
+    let c6 = c .before .before .before .before .before .before in
+    let c10 = c6 .before .before .before .before in
+    let c12 = c10 .before .before in
+    let c18 = c12 .before .before .before .before .before .before in
+    let t = c18 in
+    let l = c12 .loop in
+    let lt = c10 .if1 .taken in
     λ rows held.
     let a = l .inv .0 rows held in
-    asked-full _ _ _ _ _ _ _ (omega arith) _ _ _ _ _ _ _ _ (asked-under _ (t .args .c) (t .pre .0 .sections) _ _ lt (l .inv .1)) (asked-row _ (t .args .c) (t .pre .0 .sections) _ _ lt (l .inv .1)) a (c .before .before .before .before .before .before .add-aggregate-row .ensures _ (a .held)) _ (c .enum-told .given .1)
+    asked-full _ _ _ _ _ _ _ (omega arith) _ _ _ _ _ _ _ _ (asked-under _ (t .args .c) (t .pre .0 .sections) _ _ lt (l .inv .1)) (asked-row _ (t .args .c) (t .pre .0 .sections) _ _ lt (l .inv .1)) a (c6 .add-aggregate-row .ensures _ (a .held)) _ (c .enum-told .given .1)
 
 row-word-requires : tie.Need-row-word-requires Inv-loop μ-loop
 row-word-requires c κs =
-    let t = c .before .before .before .before .before .before .before .before .before .before .before .before .before .before .before .before .before .before .before in
-    let l = c .before .before .before .before .before .before .before .before .before .before .before .before .before .loop in
-    let lt = c .before .before .before .before .before .before .before .before .before .before .before .if1 .taken in
+    let c1 = c .before in
+    let c7 = c1 .before .before .before .before .before .before in
+    let c11 = c7 .before .before .before .before in
+    let c13 = c11 .before .before in
+    let c19 = c13 .before .before .before .before .before .before in
+    let t = c19 in
+    let l = c13 .loop in
+    let lt = c11 .if1 .taken in
     let a = l .inv .0 (t .pre .3 .rows) (t .pre .3 .held) in
-    place-fits _ _ _ _ _ _ _ (omega arith) _ _ _ _ _ _ _ _ (asked-under _ (t .args .c) (t .pre .0 .sections) _ _ lt (l .inv .1)) (asked-row _ (t .args .c) (t .pre .0 .sections) _ _ lt (l .inv .1)) a (c .before .before .before .before .before .before .before .add-aggregate-row .ensures _ (a .held)) _ _ (c .before .r .given .1)
+    place-fits _ _ _ _ _ _ _ (omega arith) _ _ _ _ _ _ _ _ (asked-under _ (t .args .c) (t .pre .0 .sections) _ _ lt (l .inv .1)) (asked-row _ (t .args .c) (t .pre .0 .sections) _ _ lt (l .inv .1)) a (c7 .add-aggregate-row .ensures _ (a .held)) _ _ (c1 .r .given .1)
 
 add-words : tie.Need-add-words Inv-loop μ-loop
 add-words c =
@@ -100,15 +109,21 @@ loop-less c =
 
 loop-again : tie.Need-loop-again Inv-loop μ-loop
 loop-again c =
-    let t = c .before .before .before .before .before .before .before .before .before .before .before .before .before .before .before .before .before .before .before .before .before in
-    let l = c .before .before .before .before .before .before .before .before .before .before .before .before .before .before .before .loop in
-    let lt = c .before .before .before .before .before .before .before .before .before .before .before .before .before .if1 .taken in
-    let call = c .before .before .before .before .before .before .before .before .before .add-aggregate-row in (
+    let c1 = c .before in
+    let c3 = c1 .before .before in
+    let c9 = c3 .before .before .before .before .before .before in
+    let c13 = c9 .before .before .before .before in
+    let c15 = c13 .before .before in
+    let c21 = c15 .before .before .before .before .before .before in
+    let t = c21 in
+    let l = c15 .loop in
+    let lt = c13 .if1 .taken in
+    let call = c9 .add-aggregate-row in (
       (λ rows held.
           let a = l .inv .0 rows held in
-          asked-more _ _ _ _ _ _ _ (omega arith) _ _ _ _ _ _ _ _ (asked-under _ (t .args .c) (t .pre .0 .sections) _ _ lt (l .inv .1)) (asked-row _ (t .args .c) (t .pre .0 .sections) _ _ lt (l .inv .1)) a (call .ensures _ (a .held)) _ _ (c .before .before .before .r .given .1) _ (c .before .row-word .result ∷ []) _ (omega arith) refl
+          asked-more _ _ _ _ _ _ _ (omega arith) _ _ _ _ _ _ _ _ (asked-under _ (t .args .c) (t .pre .0 .sections) _ _ lt (l .inv .1)) (asked-row _ (t .args .c) (t .pre .0 .sections) _ _ lt (l .inv .1)) a (call .ensures _ (a .held)) _ _ (c3 .r .given .1) _ (c1 .row-word .result ∷ []) _ (omega arith) refl
           (omega (arith, call .kept .1 .1 .1 .1 .1 .1 .1 .1 .1 .0, l .inv .3, t .pre .1, t .pre .0 .sections .few-aggregates, lt))
-          (λ places e. ap (λ (k : ℕ). places ++ (k ∷ [])) (sym (c .before .row-word .ensures))) refl),
+          (λ places e. ap (λ (k : ℕ). places ++ (k ∷ [])) (sym (c1 .row-word .ensures))) refl),
       aggregate-next _ (t .args .c) (t .pre .0 .sections) _ _ lt (l .inv .1) _ (c .aggregate-end .ensures),
       omega arith,
       simp length-set (call .kept .1 .1 .1 .1 .1 .1 .1 .1 .1 .0 ∙ l .inv .3),

@@ -41,7 +41,10 @@ loop-holds c =
 
 set-end-requires : tie.Need-set-end-requires Inv-loop μ-loop
 set-end-requires c κs =
-    omega (arith, set-inside (c .before .before .before .before .args .s .now) (c .before .before .before .before .args .at) (c .before .before .set-count .result) (c .before .loop .i) (c .before .loop .here) (c .before .before .before .before .pre) (c .before .loop .inv) (c .loop-test .taken))
+    let c1 = c .before in
+    let c2 = c1 .before in
+    let c4 = c2 .before .before in
+    omega (arith, set-inside (c4 .args .s .now) (c4 .args .at) (c2 .set-count .result) (c1 .loop .i) (c1 .loop .here) (c4 .pre) (c1 .loop .inv) (c .loop-test .taken))
 
 loop-again : tie.Need-loop-again Inv-loop μ-loop
 loop-again c =

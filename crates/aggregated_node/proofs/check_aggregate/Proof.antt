@@ -24,12 +24,26 @@ returns-2 c =
 returns-3 : tie.Need-returns-3
 unfolding checkAggregate
 returns-3 c =
-    (rw (← (c .before .before .before .before .before .before .before .before .before .before .before .byte-field .ensures), c .before .before .before .before .before .before .before .before .before .k2 .given .1, ← (c .before .before .before .before .before .before .before .byte-field2 .ensures), c .before .before .before .before .before .c2 .given .1, ← (c .before .before .before .active-field .ensures), c .before .l .given .1), tt)
+    let c1 = c .before in
+    let c3 = c1 .before .before in
+    let c5 = c3 .before .before in
+    let c7 = c5 .before .before in
+    let c9 = c7 .before .before in
+    let c11 = c9 .before .before in
+    (rw (← (c11 .byte-field .ensures), c9 .k2 .given .1, ← (c7 .byte-field2 .ensures), c5 .c2 .given .1, ← (c3 .active-field .ensures), c1 .l .given .1), tt)
 
 returns-4 : tie.Need-returns-4
 unfolding checkAggregate
 returns-4 c =
-    (rw (← (c .before .before .before .before .before .before .before .before .before .before .before .before .before .before .before .byte-field .ensures), c .before .before .before .before .before .before .before .before .before .before .before .before .before .k2 .given .1, ← (c .before .before .before .before .before .before .before .before .before .before .before .byte-field2 .ensures), c .before .before .before .before .before .before .before .before .before .c2 .given .1, ← (c .before .before .before .before .before .before .before .active-field .ensures), c .before .before .before .before .before .l2 .given .1, ← (c .before .before .before .active-field2 .ensures), c .before .m .given .1), tt)
+    let c1 = c .before in
+    let c3 = c1 .before .before in
+    let c5 = c3 .before .before in
+    let c7 = c5 .before .before in
+    let c9 = c7 .before .before in
+    let c11 = c9 .before .before in
+    let c13 = c11 .before .before in
+    let c15 = c13 .before .before in
+    (rw (← (c15 .byte-field .ensures), c13 .k2 .given .1, ← (c11 .byte-field2 .ensures), c9 .c2 .given .1, ← (c7 .active-field .ensures), c5 .l2 .given .1, ← (c3 .active-field2 .ensures), c1 .m .given .1), tt)
 
 returns-5 : tie.Need-returns-5
 unfolding checkAggregate

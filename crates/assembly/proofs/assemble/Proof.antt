@@ -8,7 +8,10 @@ use Rattle.assembly.proofs.assemble.Tie as tie
 
 assemble-columns-requires : tie.Need-assemble-columns-requires
 assemble-columns-requires c κs =
-    (read-as _ _ _ (c .before .before .before .r2 .given .1) (c .before .before .before .before .before .load .ensures .0), placed-as _ _ _ (c .before .before .before .r2 .given .1) (c .before .before .before .before .before .load .ensures .1), c .before .before .before .before .before .before .before .before .before .pre .0, c .before .before .before .before .before .before .before .before .before .pre .1)
+    let c3 = c .before .before .before in
+    let c5 = c3 .before .before in
+    let c9 = c5 .before .before .before .before in
+    (read-as _ _ _ (c3 .r2 .given .1) (c5 .load .ensures .0), placed-as _ _ _ (c3 .r2 .given .1) (c5 .load .ensures .1), c9 .pre .0, c9 .pre .1)
 
 returns : tie.Need-returns
 returns c =

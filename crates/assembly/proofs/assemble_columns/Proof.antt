@@ -20,14 +20,21 @@ list-edges-requires-2 c κs =
 
 map-edges-requires : tie.Need-map-edges-requires
 map-edges-requires c κs =
-    let s = c .before .before .before .before .before .before .before .before .before .before .before .before .before .before .pre .1 in
-    (s .few-nodes, s .few-edges, omega (arith, s .fixed, s .inside), (λ e h. from-under _ _ _ (s .edges-pass) e h), c .before .before .before .before .before .before .before .before .list-edges .ensures, c .before .before .before .before .before .list-edges2 .ensures)
+    let c5 = c .before .before .before .before .before in
+    let c8 = c5 .before .before .before in
+    let c14 = c8 .before .before .before .before .before .before in
+    let s = c14 .pre .1 in
+    (s .few-nodes, s .few-edges, omega (arith, s .fixed, s .inside), (λ e h. from-under _ _ _ (s .edges-pass) e h), c8 .list-edges .ensures, c5 .list-edges2 .ensures)
 
 assemble-rows-requires : tie.Need-assemble-rows-requires
 assemble-rows-requires c κs =
-    let c₀ = c .before .before .before .before .before .before .before .before .before .before .before .before .before .before .before .before .before .before .before .before .before .before .args .c in
-    let m = c .before .before .before .before .before .before .before .map-edges .ensures (c₀ .aggregates) (c₀ .«virtual_storages») in
-    (record { parsed = c .before .before .before .before .before .before .before .before .before .before .before .before .before .before .before .before .before .before .before .before .before .before .pre .0; sections = c .before .before .before .before .before .before .before .before .before .before .before .before .before .before .before .before .before .before .before .before .before .before .pre .1; into = c .before .before .before .before .before .before .before .before .before .before .before .before .before .before .before .before .list-edges .ensures; outOf = c .before .before .before .before .before .before .before .before .before .before .before .before .before .list-edges2 .ensures; mapped = mapped-so _ _ _ m }, m .count-is, c .before .before .before .before .before .before .before .before .before .before .before .before .before .before .before .before .before .before .before .before .before .before .pre .2, c .before .before .before .before .before .before .before .before .before .before .before .before .before .before .before .before .before .before .before .before .before .before .pre .3)
+    let c7 = c .before .before .before .before .before .before .before in
+    let c13 = c7 .before .before .before .before .before .before in
+    let c16 = c13 .before .before .before in
+    let c22 = c16 .before .before .before .before .before .before in
+    let c₀ = c22 .args .c in
+    let m = c7 .map-edges .ensures (c₀ .aggregates) (c₀ .«virtual_storages») in
+    (record { parsed = c22 .pre .0; sections = c22 .pre .1; into = c16 .list-edges .ensures; outOf = c13 .list-edges2 .ensures; mapped = mapped-so _ _ _ m }, m .count-is, c22 .pre .2, c22 .pre .3)
 
 pub assemble-columns-spec : {M : Type 1} → statement M
 assemble-columns-spec =

@@ -11,12 +11,18 @@ list-members-requires c κs =
 
 add-rows-requires : tie.Need-add-rows-requires
 add-rows-requires c κs =
-    let k = c .before .before .before .before .before .before .before .before .before .before .before .before .collect-sets .ensures .held _ (c .before .before .before .before .before .before .before .before .before .before .k .given .1) in
-    (c .before .before .before .before .before .before .before .before .before .before .before .before .before .before .before .before .before .pre .0, record { held = k .0; fit = k .1; listed = c .before .before .before .before .before .list-members .ensures }, c .before .before .before .before .before .before .before .before .before .before .before .before .before .before .before .before .before .pre .1, c .before .before .before .before .before .before .before .before .before .before .before .before .before .before .before .before .before .pre .2, c .before .before .before .before .before .before .before .before .before .before .before .before .before .before .before .before .before .pre .3)
+    let c5 = c .before .before .before .before .before in
+    let c10 = c5 .before .before .before .before .before in
+    let c12 = c10 .before .before in
+    let c17 = c12 .before .before .before .before .before in
+    let k = c12 .collect-sets .ensures .held _ (c10 .k .given .1) in
+    (c17 .pre .0, record { held = k .0; fit = k .1; listed = c5 .list-members .ensures }, c17 .pre .1, c17 .pre .2, c17 .pre .3)
 
 returns : tie.Need-returns
 returns c =
-    sets-refused (c .before .before .before .before .before .before .before .args .sentinel) _ (c .before .before .before .before .before .before .before .args .c) _ _ _ _ _ (c .before .before .before .before .before .before .before .pre .0) _ _ (c .before .before .collect-sets .ensures .over (c .enum-told .given .1))
+    let c2 = c .before .before in
+    let c7 = c2 .before .before .before .before .before in
+    sets-refused (c7 .args .sentinel) _ (c7 .args .c) _ _ _ _ _ (c7 .pre .0) _ _ (c2 .collect-sets .ensures .over (c .enum-told .given .1))
 
 pub assemble-rows-spec : {M : Type 1} → statement M
 assemble-rows-spec =

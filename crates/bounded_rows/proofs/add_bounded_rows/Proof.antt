@@ -31,8 +31,10 @@ column-index-requires c κs =
 
 add-bounded-row-requires : tie.Need-add-bounded-row-requires
 add-bounded-row-requires c κs =
-    let u = set-column-under _ _ _ _ _ _ _ (c .before .before .before .before .before .before .before .before .before .before .pre .0) _ _ (c .before .before .before .before .before .before .before .before .before .before .pre .2) (c .before .before .before .before .before .before .before .before .before .before .pre .3) in
-    (c .before .before .before .before .before .before .before .before .before .before .pre .0, c .before .before .before .before .before .before .before .before .before .before .pre .1, omega (arith, c .before .before .before .before .column-index .ensures), c .before .before .before .before .before .before .before .before .before .before .pre .4, c .before .before .before .before .before .before .before .before .before .before .pre .5, c .before .before .before .before .before .before .before .before .before .before .pre .6)
+    let c4 = c .before .before .before .before in
+    let c10 = c4 .before .before .before .before .before .before in
+    let u = set-column-under _ _ _ _ _ _ _ (c10 .pre .0) _ _ (c10 .pre .2) (c10 .pre .3) in
+    (c10 .pre .0, c10 .pre .1, omega (arith, c4 .column-index .ensures), c10 .pre .4, c10 .pre .5, c10 .pre .6)
 
 same-length : tie.Need-same-length
 same-length c =
@@ -45,18 +47,29 @@ same-length-2 c =
 returns : tie.Need-returns
 unfolding columnMap zero64 one64 ofBits
 returns c =
-    upper-only _ (columnMap _) _ _ (nodeAt (c .before .before .before .before .before .before .before .before .before .before .before .before .before .before .before .before .before .before .before .args .s .now) (20 * c .before .before .before .before .before .before .before .before .before .before .before .before .before .before .before .before .before .before .before .args .node .0)) _ (c .before .before .before .before .before .before .before .before .before .before .before .before .before .column-index .ensures ∙ ap (λ (j : ℕ). j + c .before .before .before .before .before .before .before .before .before .before .before .before .before .before .before .before .before .before .before .args .set) (c .before .before .before .before .before .before .before .before .before .before .before .before .before .before .before .before .before .before .before .pre .2)) _ _ _ _ (upper-is _ _ _ (c .before .before .before .before .before .before .before .before .before .before .before .before .before .before .max .ensures) (c .before .before .before .before .before .before .before .before .before .before .before .before .lesser .ensures)) _ _ _ (c .before .before .before .before .before .before .before .before .add-bounded-row .ensures) _ (c .before .before .r .given .1) (ap (λ (v : Float). eq v zero64) (sym (c .before .before .before .before .before .before .before .before .before .before .before .before .before .before .before .min .ensures)) ∙ c .if1 .taken)
+    let c2 = c .before .before in
+    let c8 = c2 .before .before .before .before .before .before in
+    let c12 = c8 .before .before .before .before in
+    let c13 = c12 .before in
+    let c14 = c13 .before in
+    let c15 = c14 .before in
+    let c19 = c15 .before .before .before .before in
+    upper-only _ (columnMap _) _ _ (nodeAt (c19 .args .s .now) (20 * c19 .args .node .0)) _ (c13 .column-index .ensures ∙ ap (λ (j : ℕ). j + c19 .args .set) (c19 .pre .2)) _ _ _ _ (upper-is _ _ _ (c14 .max .ensures) (c12 .lesser .ensures)) _ _ _ (c8 .add-bounded-row .ensures) _ (c2 .r .given .1) (ap (λ (v : Float). eq v zero64) (sym (c15 .min .ensures)) ∙ c .if1 .taken)
 
 add-bounded-row-requires-2 : tie.Need-add-bounded-row-requires-2
 add-bounded-row-requires-2 c κs =
-    let u = set-column-under _ _ _ _ _ _ _ (c .before .before .before .before .before .before .before .before .before .before .before .before .before .before .before .before .before .before .before .before .before .before .before .pre .0) _ _ (c .before .before .before .before .before .before .before .before .before .before .before .before .before .before .before .before .before .before .before .before .before .before .before .pre .2) (c .before .before .before .before .before .before .before .before .before .before .before .before .before .before .before .before .before .before .before .before .before .before .before .pre .3) in
-    let h = c .before .before .before .before .before .before .before .before .before .before .before .before .before .before .before .before .before .before .before .before .before .before .before .pre .6 in (
-      c .before .before .before .before .before .before .before .before .before .before .before .before .before .before .before .before .before .before .before .before .before .before .before .pre .0,
-      c .before .before .before .before .before .before .before .before .before .before .before .before .before .before .before .before .before .before .before .before .before .before .before .pre .1,
-      omega (arith, c .before .before .before .before .before .before .before .before .before .before .before .before .before .before .before .before .before .column-index .ensures),
-      omega (arith, c .before .before .before .before .before .before .before .before .before .before .before .before .add-bounded-row .kept .1 .1 .1 .1 .1 .1 .1 .1 .1 .1 .1 .1 .0, c .before .before .before .before .before .before .before .before .before .before .before .before .before .before .before .before .before .before .before .before .before .before .before .pre .4),
-      omega (arith, c .before .before .before .before .before .before .before .before .before .before .before .before .add-bounded-row .kept .1 .1 .1 .1 .1 .1 .1 .1 .1 .1 .1 .1 .1 .0, c .before .before .before .before .before .before .before .before .before .before .before .before .before .before .before .before .before .before .before .before .before .before .before .pre .5),
-      record { rows = _; held = c .before .before .before .before .before .before .before .before .before .before .before .before .add-bounded-row .ensures (h .rows) (h .held) .held _ (c .before .before .before .before .before .before .r .given .1) },
+    let c6 = c .before .before .before .before .before .before in
+    let c12 = c6 .before .before .before .before .before .before in
+    let c17 = c12 .before .before .before .before .before in
+    let c23 = c17 .before .before .before .before .before .before in
+    let u = set-column-under _ _ _ _ _ _ _ (c23 .pre .0) _ _ (c23 .pre .2) (c23 .pre .3) in
+    let h = c23 .pre .6 in (
+      c23 .pre .0,
+      c23 .pre .1,
+      omega (arith, c17 .column-index .ensures),
+      omega (arith, c12 .add-bounded-row .kept .1 .1 .1 .1 .1 .1 .1 .1 .1 .1 .1 .1 .0, c23 .pre .4),
+      omega (arith, c12 .add-bounded-row .kept .1 .1 .1 .1 .1 .1 .1 .1 .1 .1 .1 .1 .1 .0, c23 .pre .5),
+      record { rows = _; held = c12 .add-bounded-row .ensures (h .rows) (h .held) .held _ (c6 .r .given .1) },
     )
 
 same-length-3 : tie.Need-same-length-3
@@ -70,20 +83,39 @@ same-length-4 c =
 returns-2 : tie.Need-returns-2
 unfolding columnMap zero64 one64 ofBits
 returns-2 c =
-    upper-over _ (columnMap _) _ _ (nodeAt (c .before .before .before .before .before .before .before .before .before .before .before .before .before .before .before .before .before .args .s .now) (20 * c .before .before .before .before .before .before .before .before .before .before .before .before .before .before .before .before .before .args .node .0)) _ (c .before .before .before .before .before .before .before .before .before .before .before .column-index .ensures ∙ ap (λ (j : ℕ). j + c .before .before .before .before .before .before .before .before .before .before .before .before .before .before .before .before .before .args .set) (c .before .before .before .before .before .before .before .before .before .before .before .before .before .before .before .before .before .pre .2)) _ _ _ _ (upper-is _ _ _ (c .before .before .before .before .before .before .before .before .before .before .before .before .max .ensures) (c .before .before .before .before .before .before .before .before .before .before .lesser .ensures)) _ _ _ (c .before .before .before .before .before .before .add-bounded-row .ensures) (c .enum-told .given .1)
+    let c6 = c .before .before .before .before .before .before in
+    let c10 = c6 .before .before .before .before in
+    let c11 = c10 .before in
+    let c12 = c11 .before in
+    let c17 = c12 .before .before .before .before .before in
+    upper-over _ (columnMap _) _ _ (nodeAt (c17 .args .s .now) (20 * c17 .args .node .0)) _ (c11 .column-index .ensures ∙ ap (λ (j : ℕ). j + c17 .args .set) (c17 .pre .2)) _ _ _ _ (upper-is _ _ _ (c12 .max .ensures) (c10 .lesser .ensures)) _ _ _ (c6 .add-bounded-row .ensures) (c .enum-told .given .1)
 
 same-length-5 : tie.Need-same-length-5
 same-length-5 c =
-    c .before .before .before .before .add-bounded-row2 .kept .1 .1 .1 .1 .1 .1 .1 .1 .1 .1 .1 .1 .0 ∙ c .before .before .before .before .before .before .before .before .before .before .before .before .before .before .before .before .before .add-bounded-row .kept .1 .1 .1 .1 .1 .1 .1 .1 .1 .1 .1 .1 .0
+    let c4 = c .before .before .before .before in
+    let c17 = c4 .before .before .before .before .before .before .before .before .before .before .before .before .before in
+    c4 .add-bounded-row2 .kept .1 .1 .1 .1 .1 .1 .1 .1 .1 .1 .1 .1 .0 ∙ c17 .add-bounded-row .kept .1 .1 .1 .1 .1 .1 .1 .1 .1 .1 .1 .1 .0
 
 same-length-6 : tie.Need-same-length-6
 same-length-6 c =
-    c .before .before .before .before .add-bounded-row2 .kept .1 .1 .1 .1 .1 .1 .1 .1 .1 .1 .1 .1 .1 .0 ∙ c .before .before .before .before .before .before .before .before .before .before .before .before .before .before .before .before .before .add-bounded-row .kept .1 .1 .1 .1 .1 .1 .1 .1 .1 .1 .1 .1 .1 .0
+    let c4 = c .before .before .before .before in
+    let c17 = c4 .before .before .before .before .before .before .before .before .before .before .before .before .before in
+    c4 .add-bounded-row2 .kept .1 .1 .1 .1 .1 .1 .1 .1 .1 .1 .1 .1 .1 .0 ∙ c17 .add-bounded-row .kept .1 .1 .1 .1 .1 .1 .1 .1 .1 .1 .1 .1 .1 .0
 
 returns-3 : tie.Need-returns-3
 unfolding columnMap zero64 one64 ofBits
 returns-3 c =
-    both-rows _ (columnMap _) _ _ (nodeAt (c .before .before .before .before .before .before .before .before .before .before .before .before .before .before .before .before .before .before .before .before .before .before .before .before .before .before .before .before .args .s .now) (20 * c .before .before .before .before .before .before .before .before .before .before .before .before .before .before .before .before .before .before .before .before .before .before .before .before .before .before .before .before .args .node .0)) _ (c .before .before .before .before .before .before .before .before .before .before .before .before .before .before .before .before .before .before .before .before .before .before .column-index .ensures ∙ ap (λ (j : ℕ). j + c .before .before .before .before .before .before .before .before .before .before .before .before .before .before .before .before .before .before .before .before .before .before .before .before .before .before .before .before .args .set) (c .before .before .before .before .before .before .before .before .before .before .before .before .before .before .before .before .before .before .before .before .before .before .before .before .before .before .before .before .pre .2)) _ _ _ _ (upper-is _ _ _ (c .before .before .before .before .before .before .before .before .before .before .before .before .before .before .before .before .before .before .before .before .before .before .before .max .ensures) (c .before .before .before .before .before .before .before .before .before .before .before .before .before .before .before .before .before .before .before .before .before .lesser .ensures)) _ _ _ (c .before .before .before .before .before .before .before .before .before .before .before .before .before .before .before .before .before .add-bounded-row .ensures) _ (c .before .before .before .before .before .before .before .before .before .before .before .r .given .1) (ap (λ (v : Float). eq v zero64) (sym (c .before .before .before .before .before .before .before .before .before .before .before .before .before .before .before .before .before .before .before .before .before .before .before .before .min .ensures)) ∙ c .before .before .before .before .before .before .before .before .before .if1 .left) _ (lower-is _ _ _ (c .before .before .before .before .before .before .before .before .before .before .before .before .before .before .before .before .before .before .before .before .before .before .before .before .min .ensures) (c .before .before .before .before .before .before .before .before .greater .ensures)) _ _ _ (c .before .before .before .before .add-bounded-row2 .ensures)
+    let c4 = c .before .before .before .before in
+    let c8 = c4 .before .before .before .before in
+    let c9 = c8 .before in
+    let c11 = c9 .before .before in
+    let c17 = c11 .before .before .before .before .before .before in
+    let c21 = c17 .before .before .before .before in
+    let c22 = c21 .before in
+    let c23 = c22 .before in
+    let c24 = c23 .before in
+    let c28 = c24 .before .before .before .before in
+    both-rows _ (columnMap _) _ _ (nodeAt (c28 .args .s .now) (20 * c28 .args .node .0)) _ (c22 .column-index .ensures ∙ ap (λ (j : ℕ). j + c28 .args .set) (c28 .pre .2)) _ _ _ _ (upper-is _ _ _ (c23 .max .ensures) (c21 .lesser .ensures)) _ _ _ (c17 .add-bounded-row .ensures) _ (c11 .r .given .1) (ap (λ (v : Float). eq v zero64) (sym (c24 .min .ensures)) ∙ c9 .if1 .left) _ (lower-is _ _ _ (c24 .min .ensures) (c8 .greater .ensures)) _ _ _ (c4 .add-bounded-row2 .ensures)
 
 pub add-bounded-rows-spec : {M : Type 1} → statement M
 add-bounded-rows-spec =

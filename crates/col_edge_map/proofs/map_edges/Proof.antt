@@ -39,27 +39,47 @@ add-simple-edge-requires c κs =
 
 loop-again : tie.Need-loop-again Inv-loop μ-loop
 loop-again c =
-    let k = shared-read _ _ _ (c .before .before .before .before .before .before .before .before .before .before .pre .4) (c .before .before .before .before .before .before .before .before .before .before .pre .5) (c .before .before .before .before .before .before .before .loop .e) _ _ (rw (c .before .before .before .before .before .narrow .ensures) at (c .before .before .before .before .from-node-index .ensures)) (c .before .before .before .shares-with .ensures) in
-    let under = c .before .before .before .before .before .before .before .before .before .before .pre .3 (c .before .before .before .before .before .before .before .loop .e) (c .before .before .before .before .before .before .loop-test .taken) in
-    simple-placed _ _ _ _ _ _ _ _ (c .before .before .before .before .before .before .before .loop .inv) (c .before .before .before .before .before .before .loop-test .taken) under (c .add-simple-edge .ensures .0) (sym k ∙ c .before .before .if1 .taken)
-    (rw (c .before .before .before .before .before .narrow .ensures) at (c .add-simple-edge .ensures .1 (c .before .before .before .before .before .before .before .loop .inv .now-columns) (c .before .before .before .before .before .before .before .loop .inv .mapped) (omega (arith, c .before .before .before .before .before .before .before .loop .inv .long, c .before .before .before .before .before .narrow .ensures))))
+    let c2 = c .before .before in
+    let c3 = c2 .before in
+    let c4 = c3 .before in
+    let c5 = c4 .before in
+    let c6 = c5 .before in
+    let c7 = c6 .before in
+    let c10 = c7 .before .before .before in
+    let k = shared-read _ _ _ (c10 .pre .4) (c10 .pre .5) (c7 .loop .e) _ _ (rw (c5 .narrow .ensures) at (c4 .from-node-index .ensures)) (c3 .shares-with .ensures) in
+    let under = c10 .pre .3 (c7 .loop .e) (c6 .loop-test .taken) in
+    simple-placed _ _ _ _ _ _ _ _ (c7 .loop .inv) (c6 .loop-test .taken) under (c .add-simple-edge .ensures .0) (sym k ∙ c2 .if1 .taken)
+    (rw (c5 .narrow .ensures) at (c .add-simple-edge .ensures .1 (c7 .loop .inv .now-columns) (c7 .loop .inv .mapped) (omega (arith, c7 .loop .inv .long, c5 .narrow .ensures))))
 
 add-equal-edges-requires : tie.Need-add-equal-edges-requires Inv-loop μ-loop
 add-equal-edges-requires c κs =
-    let few = c .before .before .before .before .before .before .loop .inv .few-columns in
-    let most = c .before .before .before .before .before .before .before .before .before .pre .1 in
-    let q = c .before .before .before .before .narrow .ensures in
-    let k = shared-read _ _ _ (c .before .before .before .before .before .before .before .before .before .pre .4) (c .before .before .before .before .before .before .before .before .before .pre .5) (c .before .before .before .before .before .before .loop .e) _ _ (rw (c .before .before .before .before .narrow .ensures) at (c .before .before .before .from-node-index .ensures)) (c .before .before .shares-with .ensures) in
-    let under = shared-under _ _ _ (c .before .before .before .before .before .before .before .before .before .pre .4) (c .before .before .before .before .before .before .loop .e) _ k (c .before .if1 .left) in
+    let c1 = c .before in
+    let c2 = c1 .before in
+    let c3 = c2 .before in
+    let c4 = c3 .before in
+    let c6 = c4 .before .before in
+    let c9 = c6 .before .before .before in
+    let few = c6 .loop .inv .few-columns in
+    let most = c9 .pre .1 in
+    let q = c4 .narrow .ensures in
+    let k = shared-read _ _ _ (c9 .pre .4) (c9 .pre .5) (c6 .loop .e) _ _ (rw (c4 .narrow .ensures) at (c3 .from-node-index .ensures)) (c2 .shares-with .ensures) in
+    let under = shared-under _ _ _ (c9 .pre .4) (c6 .loop .e) _ k (c1 .if1 .left) in
     (omega arith, omega arith, omega arith)
 
 loop-again-2 : tie.Need-loop-again-2 Inv-loop μ-loop
 loop-again-2 c =
-    let k = shared-read _ _ _ (c .before .before .before .before .before .before .before .before .before .before .pre .4) (c .before .before .before .before .before .before .before .before .before .before .pre .5) (c .before .before .before .before .before .before .before .loop .e) _ _ (rw (c .before .before .before .before .before .narrow .ensures) at (c .before .before .before .before .from-node-index .ensures)) (c .before .before .before .shares-with .ensures) in
-    let there = shared-under _ _ _ (c .before .before .before .before .before .before .before .before .before .before .pre .4) (c .before .before .before .before .before .before .before .loop .e) _ k (c .before .before .if1 .left) in
-    let under = c .before .before .before .before .before .before .before .before .before .before .pre .3 (c .before .before .before .before .before .before .before .loop .e) (c .before .before .before .before .before .before .loop-test .taken) in
-    equal-placed _ _ _ _ _ _ _ _ (c .before .before .before .before .before .before .before .loop .inv) (c .before .before .before .before .before .before .loop-test .taken) under (c .add-equal-edges .ensures .0) _ k (c .before .before .if1 .left)
-    (rw (c .before .before .before .before .before .narrow .ensures) at (c .add-equal-edges .ensures .1 (c .before .before .before .before .before .before .before .loop .inv .now-columns) (c .before .before .before .before .before .before .before .loop .inv .mapped) (omega (arith, c .before .before .before .before .before .before .before .loop .inv .long, c .before .before .before .before .before .narrow .ensures)) (omega (arith, c .before .before .before .before .before .before .before .loop .inv .long))))
+    let c2 = c .before .before in
+    let c3 = c2 .before in
+    let c4 = c3 .before in
+    let c5 = c4 .before in
+    let c6 = c5 .before in
+    let c7 = c6 .before in
+    let c10 = c7 .before .before .before in
+    let k = shared-read _ _ _ (c10 .pre .4) (c10 .pre .5) (c7 .loop .e) _ _ (rw (c5 .narrow .ensures) at (c4 .from-node-index .ensures)) (c3 .shares-with .ensures) in
+    let there = shared-under _ _ _ (c10 .pre .4) (c7 .loop .e) _ k (c2 .if1 .left) in
+    let under = c10 .pre .3 (c7 .loop .e) (c6 .loop-test .taken) in
+    equal-placed _ _ _ _ _ _ _ _ (c7 .loop .inv) (c6 .loop-test .taken) under (c .add-equal-edges .ensures .0) _ k (c2 .if1 .left)
+    (rw (c5 .narrow .ensures) at (c .add-equal-edges .ensures .1 (c7 .loop .inv .now-columns) (c7 .loop .inv .mapped) (omega (arith, c7 .loop .inv .long, c5 .narrow .ensures)) (omega (arith, c7 .loop .inv .long))))
 
 returns : tie.Need-returns Inv-loop μ-loop
 returns c =

@@ -23,9 +23,14 @@ only-edge-requires-2 c κs =
 
 returns-3 : tie.Need-returns-3
 returns-3 c =
+    let c1 = c .before in
+    let c2 = c1 .before in
+    let c3 = c2 .before in
+    let c4 = c3 .before in
+    let c5 = c4 .before in
     λ size into out i o.
-    c .only-edge2 .ensures size into (rw (c .before .before .before .wide16 .ensures .0) i)
-    ∙ across _ into out (sym (c .before .before .before .before .before .kind .ensures) ∙ c .before .before .before .before .if1 .left) (λ z. c .before .if2 .left (c .before .before .only-edge .ensures size out (rw (c .before .before .before .wide16 .ensures .0) o) ∙ z))
+    c .only-edge2 .ensures size into (rw (c3 .wide16 .ensures .0) i)
+    ∙ across _ into out (sym (c5 .kind .ensures) ∙ c4 .if1 .left) (λ z. c1 .if2 .left (c2 .only-edge .ensures size out (rw (c3 .wide16 .ensures .0) o) ∙ z))
 
 pub shares-with-spec : {M : Type 1} → statement M
 shares-with-spec =

@@ -25,7 +25,13 @@ add-node-row-requires c κs =
 
 returns-2 : tie.Need-returns-2
 returns-2 c =
-    no-listing _ _ _ _ (c .before .before .before .before .before .before .before .before .before .before .before .before .before .before .before .before .pre .3) _ _ (c .before .before .before .before .before .before .before .before .before .before .wide16 .ensures .0) (omega (arith, c .before .before .before .before .before .before .before .before .before .before .before .before .before .before .before .before .pre .1, c .before .before .before .before .before .before .before .before .before .before .before .before .before .before .before .before .pre .0 .sections .few-nodes)) _ _ (sym (c .before .before .before .before .before .before .before .before .before .before .before .before .is-constant .ensures) ∙ not-false (c .before .before .before .before .before .before .before .before .before .before .before .before .is-constant .result) (c .before .before .before .before .before .before .before .before .before .before .before .if1 .left)) _ _ _ _ _ _ (c .before .before .before .before .before .before .before .before .if2 .taken) (c .before .before .before .before .add-node-row .ensures)
+    let c4 = c .before .before .before .before in
+    let c8 = c4 .before .before .before .before in
+    let c10 = c8 .before .before in
+    let c11 = c10 .before in
+    let c12 = c11 .before in
+    let c16 = c12 .before .before .before .before in
+    no-listing _ _ _ _ (c16 .pre .3) _ _ (c10 .wide16 .ensures .0) (omega (arith, c16 .pre .1, c16 .pre .0 .sections .few-nodes)) _ _ (sym (c12 .is-constant .ensures) ∙ not-false (c12 .is-constant .result) (c11 .if1 .left)) _ _ _ _ _ _ (c8 .if2 .taken) (c4 .add-node-row .ensures)
 
 add-exclusive-rows-requires : tie.Need-add-exclusive-rows-requires
 add-exclusive-rows-requires c κs =
@@ -33,7 +39,13 @@ add-exclusive-rows-requires c κs =
 
 returns-3 : tie.Need-returns-3
 returns-3 c =
-    some-listing _ _ _ _ (c .before .before .before .before .before .before .before .before .before .before .before .before .before .before .before .before .pre .3) _ _ (c .before .before .before .before .before .before .before .before .before .before .wide16 .ensures .0) (omega (arith, c .before .before .before .before .before .before .before .before .before .before .before .before .before .before .before .before .pre .1, c .before .before .before .before .before .before .before .before .before .before .before .before .before .before .before .before .pre .0 .sections .few-nodes)) _ _ (sym (c .before .before .before .before .before .before .before .before .before .before .before .before .is-constant .ensures) ∙ not-false (c .before .before .before .before .before .before .before .before .before .before .before .before .is-constant .result) (c .before .before .before .before .before .before .before .before .before .before .before .if1 .left)) _ _ _ _ _ _ (c .before .before .before .before .before .before .before .before .if2 .left) (c .before .before .before .before .add-exclusive-rows .ensures)
+    let c4 = c .before .before .before .before in
+    let c8 = c4 .before .before .before .before in
+    let c10 = c8 .before .before in
+    let c11 = c10 .before in
+    let c12 = c11 .before in
+    let c16 = c12 .before .before .before .before in
+    some-listing _ _ _ _ (c16 .pre .3) _ _ (c10 .wide16 .ensures .0) (omega (arith, c16 .pre .1, c16 .pre .0 .sections .few-nodes)) _ _ (sym (c12 .is-constant .ensures) ∙ not-false (c12 .is-constant .result) (c11 .if1 .left)) _ _ _ _ _ _ (c8 .if2 .left) (c4 .add-exclusive-rows .ensures)
 
 pub add-constant-rows-spec : {M : Type 1} → statement M
 add-constant-rows-spec =

@@ -27,7 +27,9 @@ element-copy-out-wide16 c =
 
 loop-holds : tie.Need-loop-holds Inv-loop μ-loop
 loop-holds c =
-    (walk-first _ _ _ _ _ _ _ _ _ _ _ _ (c .before .before .before .before .before .before .pre .3) (c .before .before .wide16 .ensures .0) (omega (arith, c .before .before .before .before .before .before .pre .1, c .before .before .before .before .before .before .pre .0 .sections .few-nodes)) (c .wide162 .ensures .0), refl, refl)
+    let c2 = c .before .before in
+    let c6 = c2 .before .before .before .before in
+    (walk-first _ _ _ _ _ _ _ _ _ _ _ _ (c6 .pre .3) (c2 .wide16 .ensures .0) (omega (arith, c6 .pre .1, c6 .pre .0 .sections .few-nodes)) (c .wide162 .ensures .0), refl, refl)
 
 sub-listing : tie.Need-sub-listing Inv-loop μ-loop
 sub-listing c =
@@ -56,19 +58,28 @@ same-length-2 c =
 
 returns : tie.Need-returns Inv-loop μ-loop
 returns c =
-    walk-over _ _ _ _ _ _ _ _ _ _ _ _ _ (c .before .before .before .before .before .before .before .before .before .before .before .loop .inv .0) (c .before .before .before .before .before .before .before .before .before .before .loop-test .taken) _ _ _ (c .before .before .before .before .before .before .add-bounded-rows .ensures) (c .enum-told .given .1)
+    let c6 = c .before .before .before .before .before .before in
+    let c10 = c6 .before .before .before .before in
+    let c11 = c10 .before in
+    walk-over _ _ _ _ _ _ _ _ _ _ _ _ _ (c11 .loop .inv .0) (c10 .loop-test .taken) _ _ _ (c6 .add-bounded-rows .ensures) (c .enum-told .given .1)
 
 mul-wide16-2 : tie.Need-mul-wide16-2 Inv-loop μ-loop
 mul-wide16-2 c =
-    omega (arith, listing-under _ _ _ _ _ _ _ _ _ _ _ _ _ (c .before .before .before .before .before .before .before .before .before .before .before .before .loop .inv .0) (c .before .before .before .before .before .before .before .before .before .before .before .loop-test .taken))
+    let c11 = c .before .before .before .before .before .before .before .before .before .before .before in
+    let c12 = c11 .before in
+    omega (arith, listing-under _ _ _ _ _ _ _ _ _ _ _ _ _ (c12 .loop .inv .0) (c11 .loop-test .taken))
 
 element-copy-out-wide16-2 : tie.Need-element-copy-out-wide16-2 Inv-loop μ-loop
 element-copy-out-wide16-2 c =
-    listing-under _ _ _ _ _ _ _ _ _ _ _ _ _ (c .before .before .before .before .before .before .before .before .before .before .before .before .loop .inv .0) (c .before .before .before .before .before .before .before .before .before .before .before .loop-test .taken)
+    let c11 = c .before .before .before .before .before .before .before .before .before .before .before in
+    let c12 = c11 .before in
+    listing-under _ _ _ _ _ _ _ _ _ _ _ _ _ (c12 .loop .inv .0) (c11 .loop-test .taken)
 
 loop-less : tie.Need-loop-less Inv-loop μ-loop
 loop-less c =
-    listing-falls _ _ _ _ _ _ _ _ _ _ _ _ _ (c .before .before .before .before .before .before .before .before .before .before .before .before .before .before .loop .inv .0) (c .before .before .before .before .before .before .before .before .before .before .before .before .before .loop-test .taken) _ (c .wide163 .ensures .0)
+    let c13 = c .before .before .before .before .before .before .before .before .before .before .before .before .before in
+    let c14 = c13 .before in
+    listing-falls _ _ _ _ _ _ _ _ _ _ _ _ _ (c14 .loop .inv .0) (c13 .loop-test .taken) _ (c .wide163 .ensures .0)
 
 loop-again : tie.Need-loop-again Inv-loop μ-loop
 loop-again c = (

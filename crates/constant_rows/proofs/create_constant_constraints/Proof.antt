@@ -35,8 +35,12 @@ node-index-requires c κs =
 
 add-constant-rows-requires : tie.Need-add-constant-rows-requires Inv-loop μ-loop
 add-constant-rows-requires c κs =
-    let l = c .before .before .before .before .before .loop .inv in
-    (c .before .before .before .before .before .before .before .before .before .pre .0, omega (arith, c .before .before .before .node-index .ensures, c .before .before .before .before .loop-test .taken), c .before .before .before .before .before .before .before .before .before .pre .1, c .before .before .before .before .before .before .before .before .before .pre .2, omega (arith, l .2, c .before .before .before .before .before .before .before .before .before .pre .3), omega (arith, l .3, c .before .before .before .before .before .before .before .before .before .pre .4), adding-holding _ _ _ _ _ _ (l .1 (c .before .before .before .before .before .before .before .before .before .pre .5 .rows) (c .before .before .before .before .before .before .before .before .before .pre .5 .held)))
+    let c3 = c .before .before .before in
+    let c4 = c3 .before in
+    let c5 = c4 .before in
+    let c9 = c5 .before .before .before .before in
+    let l = c5 .loop .inv in
+    (c9 .pre .0, omega (arith, c3 .node-index .ensures, c4 .loop-test .taken), c9 .pre .1, c9 .pre .2, omega (arith, l .2, c9 .pre .3), omega (arith, l .3, c9 .pre .4), adding-holding _ _ _ _ _ _ (l .1 (c9 .pre .5 .rows) (c9 .pre .5 .held)))
 
 same-length : tie.Need-same-length Inv-loop μ-loop
 same-length c =
@@ -48,7 +52,12 @@ same-length-2 c =
 
 returns : tie.Need-returns Inv-loop μ-loop
 returns c =
-    λ rows h. node-over (constantRowsFrom (c .before .before .before .before .before .before .before .before .before .before .before .before .before .before .before .before .args .sentinel) (columnMap (networkOf (c .before .before .before .before .before .before .before .before .before .before .before .before .before .before .before .before .args .s .now) (c .before .before .before .before .before .before .before .before .before .before .before .before .before .before .before .before .args .c)))) (by-node _ _) _ _ _ _ _ _ _ _ _ _ _ (c .before .before .before .before .before .before .before .before .before .before .before .before .loop .inv .1 rows h) (c .before .before .before .before .before .before .before .before .before .before .before .loop-test .taken) _ (c .before .before .before .before .before .before .before .before .before .before .node-index .ensures) _ _ _ (c .before .before .before .before .before .before .add-constant-rows .ensures) (c .enum-told .given .1)
+    let c6 = c .before .before .before .before .before .before in
+    let c10 = c6 .before .before .before .before in
+    let c11 = c10 .before in
+    let c12 = c11 .before in
+    let c16 = c12 .before .before .before .before in
+    λ rows h. node-over (constantRowsFrom (c16 .args .sentinel) (columnMap (networkOf (c16 .args .s .now) (c16 .args .c)))) (by-node _ _) _ _ _ _ _ _ _ _ _ _ _ (c12 .loop .inv .1 rows h) (c11 .loop-test .taken) _ (c10 .node-index .ensures) _ _ _ (c6 .add-constant-rows .ensures) (c .enum-told .given .1)
 
 loop-again : tie.Need-loop-again Inv-loop μ-loop
 loop-again c = (
@@ -68,7 +77,9 @@ same-length-4 c =
 
 returns-2 : tie.Need-returns-2 Inv-loop μ-loop
 returns-2 c =
-    λ rows h. nodes-done (constantRowsFrom (c .before .before .before .before .before .args .sentinel) (columnMap (networkOf (c .before .before .before .before .before .args .s .now) (c .before .before .before .before .before .args .c)))) (by-node _ _) _ _ _ _ _ _ _ _ _ _ _ (c .before .loop .inv .1 rows h) (c .loop-test .left)
+    let c1 = c .before in
+    let c5 = c1 .before .before .before .before in
+    λ rows h. nodes-done (constantRowsFrom (c5 .args .sentinel) (columnMap (networkOf (c5 .args .s .now) (c5 .args .c)))) (by-node _ _) _ _ _ _ _ _ _ _ _ _ _ (c1 .loop .inv .1 rows h) (c .loop-test .left)
 
 pub create-constant-constraints-spec : {M : Type 1} → statement M
 create-constant-constraints-spec =

@@ -16,7 +16,12 @@ bad-edge-requires c κs =
 returns : tie.Need-returns
 unfolding checkEdge
 returns c =
-    (rw (← (c .before .before .before .before .before .before .before .before .before .node-field .ensures), c .before .before .before .before .before .before .before .f2 .given .1, ← (c .before .before .before .before .before .node-field2 .ensures), c .before .before .before .t2 .given .1, ← (c .before .bad-edge .ensures), c .if1 .taken), tt)
+    let c1 = c .before in
+    let c3 = c1 .before .before in
+    let c5 = c3 .before .before in
+    let c7 = c5 .before .before in
+    let c9 = c7 .before .before in
+    (rw (← (c9 .node-field .ensures), c7 .f2 .given .1, ← (c5 .node-field2 .ensures), c3 .t2 .given .1, ← (c1 .bad-edge .ensures), c .if1 .taken), tt)
 
 returns-2 : tie.Need-returns-2
 unfolding checkEdge
@@ -31,7 +36,12 @@ returns-3 c =
 returns-4 : tie.Need-returns-4
 unfolding checkEdge
 returns-4 c =
-    (rw (← (c .before .before .before .before .before .before .before .before .before .node-field .ensures), c .before .before .before .before .before .before .before .f2 .given .1, ← (c .before .before .before .before .before .node-field2 .ensures), c .before .before .before .t2 .given .1, ← (c .before .bad-edge .ensures), c .if1 .left), omega (arith, node-within _ _ _ _ _ (sym (c .before .before .before .before .before .node-field2 .ensures) ∙ c .before .before .before .t2 .given .1) .0))
+    let c1 = c .before in
+    let c3 = c1 .before .before in
+    let c5 = c3 .before .before in
+    let c7 = c5 .before .before in
+    let c9 = c7 .before .before in
+    (rw (← (c9 .node-field .ensures), c7 .f2 .given .1, ← (c5 .node-field2 .ensures), c3 .t2 .given .1, ← (c1 .bad-edge .ensures), c .if1 .left), omega (arith, node-within _ _ _ _ _ (sym (c5 .node-field2 .ensures) ∙ c3 .t2 .given .1) .0))
 
 pub check-edge-spec : {M : Type 1} → statement M
 check-edge-spec =

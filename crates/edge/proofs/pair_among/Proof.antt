@@ -23,9 +23,15 @@ loop-holds c =
 
 returns : tie.Need-returns Inv-loop μ-loop
 returns c =
-    let k = c .before .before .before .before .loop .at + 2 in
-    let h : le16 (c .before .before .before .before .before .before .args .s .now) k < 65536 = omega (arith, c .before .before .before .before .before .shared-slice-known .given k, c .before .before .before .before .before .shared-slice-known .given (k + 1)) in
-    sym (c .before .before .before .before .loop .inv .2 ∙ pair-here _ _ _ _ _ _ (c .before .before .before .loop-test .taken) h (c .before .before .before .before .before .before .pre .1) (sym (c .before .wide32 .ensures .0 ∙ c .before .before .u32-at .ensures) ∙ c .if1 .taken))
+    let c1 = c .before in
+    let c2 = c1 .before in
+    let c3 = c2 .before in
+    let c4 = c3 .before in
+    let c5 = c4 .before in
+    let c6 = c5 .before in
+    let k = c4 .loop .at + 2 in
+    let h : le16 (c6 .args .s .now) k < 65536 = omega (arith, c5 .shared-slice-known .given k, c5 .shared-slice-known .given (k + 1)) in
+    sym (c4 .loop .inv .2 ∙ pair-here _ _ _ _ _ _ (c3 .loop-test .taken) h (c6 .pre .1) (sym (c1 .wide32 .ensures .0 ∙ c2 .u32-at .ensures) ∙ c .if1 .taken))
 
 loop-again : tie.Need-loop-again Inv-loop μ-loop
 loop-again c =

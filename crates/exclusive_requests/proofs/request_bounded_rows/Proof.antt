@@ -43,15 +43,25 @@ request-bounded-row-requires-2 c κs =
 returns : tie.Need-returns
 unfolding rowTypeWord one64 ofBits
 returns c =
+    let c6 = c .before .before .before .before .before .before in
+    let c10 = c6 .before .before .before .before in
+    let c11 = c10 .before in
+    let c15 = c11 .before .before .before .before in
     λ asks h.
-    upper-full _ _ _ _ _ _ (set-column _ (c .before .before .before .before .before .before .before .before .before .before .before .before .before .before .before .args .c) _ _ _ _ (c .before .before .before .before .before .before .before .before .before .before .before .before .before .before .before .pre .2) (c .before .before .before .before .before .before .before .before .before .before .before .wide16 .ensures .0) (c .before .before .before .before .before .before .before .before .before .before .column-index .ensures)) refl refl _ asks _ _ _ (c .before .before .before .before .before .before .request-bounded-row .ensures binaryUpper refl asks h) (c .enum-told .given .1)
+    upper-full _ _ _ _ _ _ (set-column _ (c15 .args .c) _ _ _ _ (c15 .pre .2) (c11 .wide16 .ensures .0) (c10 .column-index .ensures)) refl refl _ asks _ _ _ (c6 .request-bounded-row .ensures binaryUpper refl asks h) (c .enum-told .given .1)
 
 returns-2 : tie.Need-returns-2
 unfolding rowTypeWord one64 ofBits
 returns-2 c =
+    let c4 = c .before .before .before .before in
+    let c9 = c4 .before .before .before .before .before in
+    let c15 = c9 .before .before .before .before .before .before in
+    let c19 = c15 .before .before .before .before in
+    let c20 = c19 .before in
+    let c24 = c20 .before .before .before .before in
     λ asks h.
-    let upper = c .before .before .before .before .before .before .before .before .before .before .before .before .before .before .before .request-bounded-row .ensures binaryUpper refl asks h .done _ (c .before .before .before .before .before .before .before .before .before .r .given .1) in
-    both-asked _ _ _ _ _ _ (set-column _ (c .before .before .before .before .before .before .before .before .before .before .before .before .before .before .before .before .before .before .before .before .before .before .before .before .args .c) _ _ _ _ (c .before .before .before .before .before .before .before .before .before .before .before .before .before .before .before .before .before .before .before .before .before .before .before .before .pre .2) (c .before .before .before .before .before .before .before .before .before .before .before .before .before .before .before .before .before .before .before .before .wide16 .ensures .0) (c .before .before .before .before .before .before .before .before .before .before .before .before .before .before .before .before .before .before .before .column-index .ensures)) refl refl _ asks _ _ _ (c .before .before .before .before .request-bounded-row2 .ensures binaryLower refl _ upper)
+    let upper = c15 .request-bounded-row .ensures binaryUpper refl asks h .done _ (c9 .r .given .1) in
+    both-asked _ _ _ _ _ _ (set-column _ (c24 .args .c) _ _ _ _ (c24 .pre .2) (c20 .wide16 .ensures .0) (c19 .column-index .ensures)) refl refl _ asks _ _ _ (c4 .request-bounded-row2 .ensures binaryLower refl _ upper)
 
 pub request-bounded-rows-spec : {M : Type 1} → statement M
 request-bounded-rows-spec =

@@ -43,22 +43,35 @@ same-length-2 c =
 
 returns : tie.Need-returns Inv-loop μ-loop
 returns c =
-    let w = c .before .before .before .before .before .before .before .before .before .before .before .loop .inv .0 in
-    walk-full _ _ _ _ _ _ _ _ w (c .before .before .before .before .before .before .before .before .before .before .loop-test .taken) _ _ _ (c .before .before .before .before .before .before .request-bounded-rows .ensures (w .asks) (w .rows)) (c .enum-told .given .1)
+    let c6 = c .before .before .before .before .before .before in
+    let c10 = c6 .before .before .before .before in
+    let c11 = c10 .before in
+    let w = c11 .loop .inv .0 in
+    walk-full _ _ _ _ _ _ _ _ w (c10 .loop-test .taken) _ _ _ (c6 .request-bounded-rows .ensures (w .asks) (w .rows)) (c .enum-told .given .1)
 
 element-copy-out-link-2 : tie.Need-element-copy-out-link-2 Inv-loop μ-loop
 element-copy-out-link-2 c =
-    let under = listing-under _ _ _ _ _ _ _ _ (c .before .before .before .before .before .before .before .before .before .before .before .before .before .loop .inv .0) (c .before .before .before .before .before .before .before .before .before .before .before .before .loop-test .taken) in
+    let c12 = c .before .before .before .before .before .before .before .before .before .before .before .before in
+    let c13 = c12 .before in
+    let under = listing-under _ _ _ _ _ _ _ _ (c13 .loop .inv .0) (c12 .loop-test .taken) in
     omega (arith, c .wide162 .ensures .0)
 
 loop-less : tie.Need-loop-less Inv-loop μ-loop
 loop-less c =
-    listing-falls _ _ _ _ _ _ _ _ (c .before .before .before .before .before .before .before .before .before .before .before .before .before .before .loop .inv .0) (c .before .before .before .before .before .before .before .before .before .before .before .before .before .loop-test .taken) _ (c .before .wide162 .ensures .0)
+    let c1 = c .before in
+    let c13 = c1 .before .before .before .before .before .before .before .before .before .before .before .before in
+    let c14 = c13 .before in
+    listing-falls _ _ _ _ _ _ _ _ (c14 .loop .inv .0) (c13 .loop-test .taken) _ (c1 .wide162 .ensures .0)
 
 loop-again : tie.Need-loop-again Inv-loop μ-loop
 loop-again c =
-    let w = c .before .before .before .before .before .before .before .before .before .before .before .before .before .before .loop .inv .0 in
-    (walk-next _ _ _ _ _ _ _ _ w (c .before .before .before .before .before .before .before .before .before .before .before .before .before .loop-test .taken) _ _ _ (c .before .before .before .before .before .before .before .before .before .request-bounded-rows .ensures (w .asks) (w .rows)) _ _ (c .before .before .before .r .given .1) (c .before .wide162 .ensures .0), c .before .before .before .before .before .before .before .before .before .request-bounded-rows .kept .1 .1 .1 .1 .1 .1 .1 .1 .1 .1 .1 .0 ∙ c .before .before .before .before .before .before .before .before .before .before .before .before .before .before .loop .inv .1, c .before .before .before .before .before .before .before .before .before .request-bounded-rows .kept .1 .1 .1 .1 .1 .1 .1 .1 .1 .1 .1 .1 .0 ∙ c .before .before .before .before .before .before .before .before .before .before .before .before .before .before .loop .inv .2)
+    let c1 = c .before in
+    let c3 = c1 .before .before in
+    let c9 = c3 .before .before .before .before .before .before in
+    let c13 = c9 .before .before .before .before in
+    let c14 = c13 .before in
+    let w = c14 .loop .inv .0 in
+    (walk-next _ _ _ _ _ _ _ _ w (c13 .loop-test .taken) _ _ _ (c9 .request-bounded-rows .ensures (w .asks) (w .rows)) _ _ (c3 .r .given .1) (c1 .wide162 .ensures .0), c9 .request-bounded-rows .kept .1 .1 .1 .1 .1 .1 .1 .1 .1 .1 .1 .0 ∙ c14 .loop .inv .1, c9 .request-bounded-rows .kept .1 .1 .1 .1 .1 .1 .1 .1 .1 .1 .1 .1 .0 ∙ c14 .loop .inv .2)
 
 same-length-3 : tie.Need-same-length-3 Inv-loop μ-loop
 same-length-3 c =

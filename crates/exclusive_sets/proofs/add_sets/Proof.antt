@@ -56,7 +56,13 @@ set-end-requires-2 c κs =
 
 loop-again-2 : tie.Need-loop-again-2 Inv-loop μ-loop
 loop-again-2 c =
-    rw (c .set-end2 .ensures, c .before .narrow16 .ensures) (adding-new _ _ _ _ _ _ _ _ _ (c .before .before .before .before .before .before .before .loop .inv) (c .before .before .before .before .before .before .loop-test .taken) (rw (c .before .before .before .before .set-number .ensures) at (c .before .before .before .if1 .left)) (c .before .before .if2 .left) (fits (c .before .before .before .before .before .before)))
+    let c1 = c .before in
+    let c2 = c1 .before in
+    let c3 = c2 .before in
+    let c4 = c3 .before in
+    let c6 = c4 .before .before in
+    let c7 = c6 .before in
+    rw (c .set-end2 .ensures, c1 .narrow16 .ensures) (adding-new _ _ _ _ _ _ _ _ _ (c7 .loop .inv) (c6 .loop-test .taken) (rw (c4 .set-number .ensures) at (c3 .if1 .left)) (c2 .if2 .left) (fits (c6)))
 
 returns-2 : tie.Need-returns-2 Inv-loop μ-loop
 returns-2 c =

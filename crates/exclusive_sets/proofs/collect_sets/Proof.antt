@@ -33,8 +33,14 @@ add-sets-requires c κs =
 
 returns : tie.Need-returns Inv-loop μ-loop
 returns c =
-    let p = c .before .before .before .before .before .before .before .before .before .before .before .args in
-    of-network (p .s .now) (p .c .nodes) (p .c .edges) (p .c .aggregates) _ _ _ (collecting-over _ _ _ _ _ _ _ (c .before .before .before .before .before .before .before .loop .inv) (c .before .before .before .before .before .before .loop-test .taken) (sym (c .before .before .before .before .before .is-exclusive .ensures) ∙ c .before .before .before .before .if1 .taken) _ _ (c .before .before .add-sets .ensures) (c .enum-told .given .1))
+    let c2 = c .before .before in
+    let c4 = c2 .before .before in
+    let c5 = c4 .before in
+    let c6 = c5 .before in
+    let c7 = c6 .before in
+    let c11 = c7 .before .before .before .before in
+    let p = c11 .args in
+    of-network (p .s .now) (p .c .nodes) (p .c .edges) (p .c .aggregates) _ _ _ (collecting-over _ _ _ _ _ _ _ (c7 .loop .inv) (c6 .loop-test .taken) (sym (c5 .is-exclusive .ensures) ∙ c4 .if1 .taken) _ _ (c2 .add-sets .ensures) (c .enum-told .given .1))
 
 aggregate-end-requires : tie.Need-aggregate-end-requires Inv-loop μ-loop
 aggregate-end-requires c κs =
@@ -42,7 +48,13 @@ aggregate-end-requires c κs =
 
 loop-again : tie.Need-loop-again Inv-loop μ-loop
 loop-again c =
-    rw (c .aggregate-end .ensures) (collecting-more _ _ _ _ _ _ _ (c .before .before .before .before .before .before .before .before .before .loop .inv) (c .before .before .before .before .before .before .before .before .loop-test .taken) (sym (c .before .before .before .before .before .before .before .is-exclusive .ensures) ∙ c .before .before .before .before .before .before .if1 .taken) _ _ (c .before .before .before .before .add-sets .ensures) _ (c .before .before .r .given .1))
+    let c2 = c .before .before in
+    let c4 = c2 .before .before in
+    let c6 = c4 .before .before in
+    let c7 = c6 .before in
+    let c8 = c7 .before in
+    let c9 = c8 .before in
+    rw (c .aggregate-end .ensures) (collecting-more _ _ _ _ _ _ _ (c9 .loop .inv) (c8 .loop-test .taken) (sym (c7 .is-exclusive .ensures) ∙ c6 .if1 .taken) _ _ (c4 .add-sets .ensures) _ (c2 .r .given .1))
 
 aggregate-end-requires-2 : tie.Need-aggregate-end-requires-2 Inv-loop μ-loop
 aggregate-end-requires-2 c κs =

@@ -39,11 +39,15 @@ element-write-first c =
 
 loop-again : tie.Need-loop-again Inv-loop μ-loop
 loop-again c =
-    let l = c .before .before .before .before .before .loop in
-    let p = c .before .before .before .before .before .before .before .before .args in
+    let c2 = c .before .before in
+    let c3 = c2 .before in
+    let c5 = c3 .before .before in
+    let c8 = c5 .before .before .before in
+    let l = c5 .loop in
+    let p = c8 .args in
     let e : l .i ≡ l .i - 1 + 1 = omega arith in (
       omega arith,
-      λ of h. rw (c .narrow16 .ensures) (members-more (p .s .now) (p .k) (p .at) of (l .first) (l .next) (l .i - 1) (c .before .before .wide16 .result) (omega arith) (c .before .before .wide16 .ensures .0 ∙ c .before .before .before .member .ensures) (small (c .before .before)) (omega (arith, c .before .before .before .before .before .before .before .before .pre .1 .most))
+      λ of h. rw (c .narrow16 .ensures) (members-more (p .s .now) (p .k) (p .at) of (l .first) (l .next) (l .i - 1) (c2 .wide16 .result) (omega arith) (c2 .wide16 .ensures .0 ∙ c3 .member .ensures) (small (c2)) (omega (arith, c8 .pre .1 .most))
           (subst (λ (i : ℕ). Listings (16 * p .k + i) (l .first) (l .next) (withMembers (p .s .now) (p .k) (p .at) of i)) e (l .inv .1 of h))),
     )
 

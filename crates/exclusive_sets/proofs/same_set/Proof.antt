@@ -27,13 +27,21 @@ loop-holds c =
 
 returns-2 : tie.Need-returns-2 Inv-loop μ-loop
 returns-2 c =
-    let p = c .before .before .before .before .before .before .before .before .before .before .before .args in
-    sym (c .before .before .before .before .before .before .loop .inv .1 ∙ same-not (p .s .now) (p .a) (p .b) (c .before .before .before .before .before .before .loop .i) (omega arith) (omega arith) (λ e. c .if2 .taken (c .before .before .before .before .member .ensures ∙ e ∙ sym (c .before .before .before .member2 .ensures))))
+    let c3 = c .before .before .before in
+    let c4 = c3 .before in
+    let c6 = c4 .before .before in
+    let c11 = c6 .before .before .before .before .before in
+    let p = c11 .args in
+    sym (c6 .loop .inv .1 ∙ same-not (p .s .now) (p .a) (p .b) (c6 .loop .i) (omega arith) (omega arith) (λ e. c .if2 .taken (c4 .member .ensures ∙ e ∙ sym (c3 .member2 .ensures))))
 
 loop-again : tie.Need-loop-again Inv-loop μ-loop
 loop-again c =
-    let p = c .before .before .before .before .before .before .before .before .before .before .before .args in
-    (search needs, c .before .before .before .before .before .before .loop .inv .1 ∙ same-more (p .s .now) (p .a) (p .b) (c .before .before .before .before .before .before .loop .i) (omega arith) (omega arith) (sym (c .before .before .before .before .member .ensures) ∙ c .if2 .left ∙ c .before .before .before .member2 .ensures))
+    let c3 = c .before .before .before in
+    let c4 = c3 .before in
+    let c6 = c4 .before .before in
+    let c11 = c6 .before .before .before .before .before in
+    let p = c11 .args in
+    (search needs, c6 .loop .inv .1 ∙ same-more (p .s .now) (p .a) (p .b) (c6 .loop .i) (omega arith) (omega arith) (sym (c4 .member .ensures) ∙ c .if2 .left ∙ c3 .member2 .ensures))
 
 returns-3 : tie.Need-returns-3 Inv-loop μ-loop
 returns-3 c =

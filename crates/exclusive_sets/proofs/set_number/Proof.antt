@@ -28,13 +28,23 @@ same-set-requires c κs =
 
 returns : tie.Need-returns Inv-loop μ-loop
 returns c =
-    let p = c .before .before .before .before .before .before .before .args in
-    sym (c .before .before .before .before .before .loop .inv .1 ∙ number-here (p .s .now) (p .set-at .now) (p .count) (omega arith) (setAt (p .s .now) (p .at)) (c .before .before .before .before .before .loop .k) (c .before .before .before .before .loop-test .taken) (rw (c .before .before .wide16 .ensures .0) at (sym (c .before .same-set .ensures) ∙ c .if1 .taken)))
+    let c1 = c .before in
+    let c2 = c1 .before in
+    let c4 = c2 .before .before in
+    let c5 = c4 .before in
+    let c7 = c5 .before .before in
+    let p = c7 .args in
+    sym (c5 .loop .inv .1 ∙ number-here (p .s .now) (p .set-at .now) (p .count) (omega arith) (setAt (p .s .now) (p .at)) (c5 .loop .k) (c4 .loop-test .taken) (rw (c2 .wide16 .ensures .0) at (sym (c1 .same-set .ensures) ∙ c .if1 .taken)))
 
 loop-again : tie.Need-loop-again Inv-loop μ-loop
 loop-again c =
-    let p = c .before .before .before .before .before .before .before .args in
-    (search needs, c .before .before .before .before .before .loop .inv .1 ∙ number-more (p .s .now) (p .set-at .now) (p .count) (omega arith) (setAt (p .s .now) (p .at)) (c .before .before .before .before .before .loop .k) (c .before .before .before .before .loop-test .taken) (rw (c .before .before .wide16 .ensures .0) at (sym (c .before .same-set .ensures) ∙ c .if1 .left)))
+    let c1 = c .before in
+    let c2 = c1 .before in
+    let c4 = c2 .before .before in
+    let c5 = c4 .before in
+    let c7 = c5 .before .before in
+    let p = c7 .args in
+    (search needs, c5 .loop .inv .1 ∙ number-more (p .s .now) (p .set-at .now) (p .count) (omega arith) (setAt (p .s .now) (p .at)) (c5 .loop .k) (c4 .loop-test .taken) (rw (c2 .wide16 .ensures .0) at (sym (c1 .same-set .ensures) ∙ c .if1 .left)))
 
 returns-2 : tie.Need-returns-2 Inv-loop μ-loop
 returns-2 c =

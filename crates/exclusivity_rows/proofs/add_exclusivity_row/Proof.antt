@@ -11,19 +11,33 @@ use Rattle.exclusivity_rows.proofs.add_exclusivity_row.Tie as tie
 
 exclusivity-row-requires : tie.Need-exclusivity-row-requires
 exclusivity-row-requires c κs =
-    let x = sym (c .before .before .before .before .before .before .before .before .is-exclusive .ensures) ∙ c .before .before .before .before .before .before .before .if1 .taken in
-    (c .before .before .before .before .before .before .before .before .before .before .before .before .pre .0, c .before .before .before .before .before .before .before .before .before .before .before .before .pre .1, c .before .before .before .before .before .before .before .before .before .before .before .before .pre .2, c .before .before .before .before .before .before .before .before .before .before .before .before .pre .3 x, lent-room _ _ _ (c .before .before .before .before .before .before .before .before .before .before .before .before .pre .6) (c .before .before .before .before .before .before .before .before .before .before .before .before .pre .5) .1)
+    let c7 = c .before .before .before .before .before .before .before in
+    let c8 = c7 .before in
+    let c12 = c8 .before .before .before .before in
+    let x = sym (c8 .is-exclusive .ensures) ∙ c7 .if1 .taken in
+    (c12 .pre .0, c12 .pre .1, c12 .pre .2, c12 .pre .3 x, lent-room _ _ _ (c12 .pre .6) (c12 .pre .5) .1)
 
 add-fixed-row-requires : tie.Need-add-fixed-row-requires
 add-fixed-row-requires c κs =
-    let few = held-few _ _ _ _ (c .before .before .before .before .before .before .before .before .before .before .before .before .before .before .before .before .before .before .pre .6 .held) in
-    (c .before .before .before .before .before .before .before .before .before .before .before .before .before .before .before .before .before .before .pre .4, lent-long (c .before .before .before .before .before .before .before .before .before .before .before .before .before .before .before .before .before .before .args .numbers .now) (c .before .before .before .before .before .exclusivity-row .last .1 .1 .1 .1 .1 .1 .0) (2048 + c .before .before .before .before .before .before .before .before .before .before .before .before .before .before .before .before .before .before .args .f .elements) (c .before .before .before .before .before .exclusivity-row .kept .1 .1 .1 .1 .1 .1 .0) (c .before .before .before .before .before .before .before .before .before .before .before .before .before .before .before .before .before .before .pre .5), c .before .before .before .before .before .exclusivity-row .ensures .few, few .0, few .1, c .before .before .before .before .before .exclusivity-row .ensures .rising)
+    let c5 = c .before .before .before .before .before in
+    let c18 = c5 .before .before .before .before .before .before .before .before .before .before .before .before .before in
+    let few = held-few _ _ _ _ (c18 .pre .6 .held) in
+    (c18 .pre .4, lent-long (c18 .args .numbers .now) (c5 .exclusivity-row .last .1 .1 .1 .1 .1 .1 .0) (2048 + c18 .args .f .elements) (c5 .exclusivity-row .kept .1 .1 .1 .1 .1 .1 .0) (c18 .pre .5), c5 .exclusivity-row .ensures .few, few .0, few .1, c5 .exclusivity-row .ensures .rising)
 
 returns : tie.Need-returns
 returns c =
-    let x = sym (c .before .before .before .before .before .before .before .before .before .before .before .before .before .before .before .before .before .before .before .is-exclusive .ensures) ∙ c .before .before .before .before .before .before .before .before .before .before .before .before .before .before .before .before .before .before .if1 .taken in
-    λ map m. exclusivity-row-added _ _ _ _ _ _ _ _ (c .before .before .before .before .before .before .before .before .before .before .exclusivity-row .ensures) x map m _ _ _ _ refl (lent-room _ _ _ (c .before .before .before .before .before .before .before .before .before .before .before .before .before .before .before .before .before .before .before .before .before .before .before .pre .6) (c .before .before .before .before .before .before .before .before .before .before .before .before .before .before .before .before .before .before .before .before .before .before .before .pre .5) .0) _ _ _ _ _
-    (c .before .before .before .before .before .before .before .before .before .before .before .before .before .before .before .before .active-bound .ensures ∙ ap double (c .before .before .before .before .before .before .before .before .before .before .before .before .before .before .before .before .before .min-active .ensures)) (c .before .before .before .before .before .before .before .before .before .before .before .before .before .before .active-bound2 .ensures ∙ ap double (c .before .before .before .before .before .before .before .before .before .before .before .before .before .before .before .max-active .ensures)) (c .before .before .before .before .add-fixed-row .ensures)
+    let c4 = c .before .before .before .before in
+    let c10 = c4 .before .before .before .before .before .before in
+    let c14 = c10 .before .before .before .before in
+    let c15 = c14 .before in
+    let c16 = c15 .before in
+    let c17 = c16 .before in
+    let c18 = c17 .before in
+    let c19 = c18 .before in
+    let c23 = c19 .before .before .before .before in
+    let x = sym (c19 .is-exclusive .ensures) ∙ c18 .if1 .taken in
+    λ map m. exclusivity-row-added _ _ _ _ _ _ _ _ (c10 .exclusivity-row .ensures) x map m _ _ _ _ refl (lent-room _ _ _ (c23 .pre .6) (c23 .pre .5) .0) _ _ _ _ _
+    (c16 .active-bound .ensures ∙ ap double (c17 .min-active .ensures)) (c14 .active-bound2 .ensures ∙ ap double (c15 .max-active .ensures)) (c4 .add-fixed-row .ensures)
 
 returns-2 : tie.Need-returns-2
 returns-2 c =

@@ -32,9 +32,12 @@ loop-holds c =
 
 add-exclusivity-row-requires : tie.Need-add-exclusivity-row-requires Inv-loop μ-loop
 add-exclusivity-row-requires c κs =
-    let p = c .before .before .before .before .before .before .before .before .before .before .pre in
-    let l = c .before .before .before .before .loop .inv in
-    (p .1, p .4, aggregate-starts _ _ _ _ _ _ (p .0) _ (c .before .before .before .loop-test .taken) _ (l .0 .stands), known-sets _ _ _ _ _ _ (p .0) _ (c .before .before .before .loop-test .taken) _ (l .0 .stands) _ _ (p .1) (p .2), omega (arith, l .1, p .5), omega (arith, l .2, p .6), adding-holding _ _ _ _ _ _ (l .0 .adding _ (map-is (c .before .before .before .before .before .before .before .before .before .before)) (p .7 .rows) (p .7 .held)))
+    let c3 = c .before .before .before in
+    let c4 = c3 .before in
+    let c10 = c4 .before .before .before .before .before .before in
+    let p = c10 .pre in
+    let l = c4 .loop .inv in
+    (p .1, p .4, aggregate-starts _ _ _ _ _ _ (p .0) _ (c3 .loop-test .taken) _ (l .0 .stands), known-sets _ _ _ _ _ _ (p .0) _ (c3 .loop-test .taken) _ (l .0 .stands) _ _ (p .1) (p .2), omega (arith, l .1, p .5), omega (arith, l .2, p .6), adding-holding _ _ _ _ _ _ (l .0 .adding _ (map-is (c10)) (p .7 .rows) (p .7 .held)))
 
 same-length : tie.Need-same-length Inv-loop μ-loop
 same-length c =
@@ -47,11 +50,18 @@ same-length-2 c =
 returns : tie.Need-returns Inv-loop μ-loop
 unfolding networkAt
 returns c =
-    aggregate-over _ _ _ _ _ _ _ _ _ _ _ _ (c .before .before .before .before .before .before .before .before .before .before .before .loop .inv .0) (c .before .before .before .before .before .before .before .before .before .before .loop-test .taken) _ _ _ (c .before .before .before .before .before .before .add-exclusivity-row .ensures) (c .enum-told .given .1) _ (map-is (c .before .before .before .before .before .before .before .before .before .before .before .before .before .before .before .before .before))
+    let c6 = c .before .before .before .before .before .before in
+    let c10 = c6 .before .before .before .before in
+    let c11 = c10 .before in
+    let c17 = c11 .before .before .before .before .before .before in
+    aggregate-over _ _ _ _ _ _ _ _ _ _ _ _ (c11 .loop .inv .0) (c10 .loop-test .taken) _ _ _ (c6 .add-exclusivity-row .ensures) (c .enum-told .given .1) _ (map-is (c17))
 
 aggregate-end-requires : tie.Need-aggregate-end-requires Inv-loop μ-loop
 aggregate-end-requires c κs =
-    aggregate-inside _ _ _ _ _ _ (c .before .before .before .before .before .before .before .before .before .before .before .before .before .before .before .before .before .before .pre .0) _ (c .before .before .before .before .before .before .before .before .before .before .before .loop-test .taken) _ (c .before .before .before .before .before .before .before .before .before .before .before .before .loop .inv .0 .stands)
+    let c11 = c .before .before .before .before .before .before .before .before .before .before .before in
+    let c12 = c11 .before in
+    let c18 = c12 .before .before .before .before .before .before in
+    aggregate-inside _ _ _ _ _ _ (c18 .pre .0) _ (c11 .loop-test .taken) _ (c12 .loop .inv .0 .stands)
 
 loop-again : tie.Need-loop-again Inv-loop μ-loop
 loop-again c = (

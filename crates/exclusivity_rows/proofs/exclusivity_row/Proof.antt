@@ -31,25 +31,44 @@ set-number-requires c κs =
 
 add-column-index : tie.Need-add-column-index Inv-loop μ-loop
 add-column-index c =
-    let k = next-known _ _ _ _ _ _ _ _ _ _ _ (c .before .before .loop .inv .0) (c .before .loop-test .taken) (c .before .before .before .before .before .before .pre .3) .1 in omega (arith, k, c .set-number .ensures, c .before .before .before .before .before .before .pre .0 .few, c .before .before .before .before .before .before .pre .1)
+    let c1 = c .before in
+    let c2 = c1 .before in
+    let c6 = c2 .before .before .before .before in
+    let k = next-known _ _ _ _ _ _ _ _ _ _ _ (c2 .loop .inv .0) (c1 .loop-test .taken) (c6 .pre .3) .1 in omega (arith, k, c .set-number .ensures, c6 .pre .0 .few, c6 .pre .1)
 
 column-index-requires : tie.Need-column-index-requires Inv-loop μ-loop
 column-index-requires c κs =
-    let k = next-known _ _ _ _ _ _ _ _ _ _ _ (c .before .before .loop .inv .0) (c .before .loop-test .taken) (c .before .before .before .before .before .before .pre .3) .1 in omega (arith, k, c .set-number .ensures, c .before .before .before .before .before .before .pre .0 .few, c .before .before .before .before .before .before .pre .1)
+    let c1 = c .before in
+    let c2 = c1 .before in
+    let c6 = c2 .before .before .before .before in
+    let k = next-known _ _ _ _ _ _ _ _ _ _ _ (c2 .loop .inv .0) (c1 .loop-test .taken) (c6 .pre .3) .1 in omega (arith, k, c .set-number .ensures, c6 .pre .0 .few, c6 .pre .1)
 
 add-element-requires : tie.Need-add-element-requires Inv-loop μ-loop
 add-element-requires c κs =
-    let k = next-known _ _ _ _ _ _ _ _ _ _ _ (c .before .before .before .before .before .loop .inv .0) (c .before .before .before .before .loop-test .taken) (c .before .before .before .before .before .before .before .before .before .pre .3) .1 in
-    (c .before .before .before .before .before .loop .inv .0 .few, omega (arith, c .before .before .before .before .before .loop .inv .1, c .before .before .before .before .before .before .before .before .before .pre .4), omega (arith, k, c .before .before .column-index .ensures, c .before .before .before .set-number .ensures, c .before .before .before .before .before .before .before .before .before .pre .0 .few, c .before .before .before .before .before .before .before .before .before .pre .1), c .before .before .before .before .before .loop .inv .0 .rising)
+    let c2 = c .before .before in
+    let c3 = c2 .before in
+    let c4 = c3 .before in
+    let c5 = c4 .before in
+    let c9 = c5 .before .before .before .before in
+    let k = next-known _ _ _ _ _ _ _ _ _ _ _ (c5 .loop .inv .0) (c4 .loop-test .taken) (c9 .pre .3) .1 in
+    (c5 .loop .inv .0 .few, omega (arith, c5 .loop .inv .1, c9 .pre .4), omega (arith, k, c2 .column-index .ensures, c3 .set-number .ensures, c9 .pre .0 .few, c9 .pre .1), c5 .loop .inv .0 .rising)
 
 set-end-requires : tie.Need-set-end-requires Inv-loop μ-loop
 set-end-requires c κs =
-    let k = next-known _ _ _ _ _ _ _ _ _ _ _ (c .before .before .before .before .before .before .before .before .loop .inv .0) (c .before .before .before .before .before .before .before .loop-test .taken) (c .before .before .before .before .before .before .before .before .before .before .before .before .pre .3) .0 in omega (arith, k)
+    let c7 = c .before .before .before .before .before .before .before in
+    let c8 = c7 .before in
+    let c12 = c8 .before .before .before .before in
+    let k = next-known _ _ _ _ _ _ _ _ _ _ _ (c8 .loop .inv .0) (c7 .loop-test .taken) (c12 .pre .3) .0 in omega (arith, k)
 
 loop-again : tie.Need-loop-again Inv-loop μ-loop
 unfolding one64 ofBits
 loop-again c =
-    (rw (c .set-end .ensures) (gathering-next _ _ _ _ _ _ _ _ _ _ _ (c .before .before .before .before .before .before .before .before .before .loop .inv .0) (c .before .before .before .before .before .before .before .before .loop-test .taken) _ _ _ _ _ _ (c .before .before .before .before .before .before .before .set-number .ensures) (c .before .before .before .before .before .before .column-index .ensures) refl (c .before .before .before .add-element .ensures)), c .before .before .before .add-element .kept .1 .0 ∙ c .before .before .before .before .before .before .before .before .before .loop .inv .1)
+    let c3 = c .before .before .before in
+    let c6 = c3 .before .before .before in
+    let c7 = c6 .before in
+    let c8 = c7 .before in
+    let c9 = c8 .before in
+    (rw (c .set-end .ensures) (gathering-next _ _ _ _ _ _ _ _ _ _ _ (c9 .loop .inv .0) (c8 .loop-test .taken) _ _ _ _ _ _ (c7 .set-number .ensures) (c6 .column-index .ensures) refl (c3 .add-element .ensures)), c3 .add-element .kept .1 .0 ∙ c9 .loop .inv .1)
 
 same-length : tie.Need-same-length Inv-loop μ-loop
 same-length c =

@@ -13,12 +13,22 @@ u32-at-requires c κs =
 returns : tie.Need-returns
 unfolding activeField
 returns c =
-    rw (← (c .before .before .before .before .before .is-within .ensures), c .before .before .before .before .if1 .taken, ← (c .before .before .before .u32-at .ensures), ← (c .before .before .wide32 .ensures .0), ← (c .before .active-fits .ensures), c .if2 .taken)
+    let c1 = c .before in
+    let c2 = c1 .before in
+    let c3 = c2 .before in
+    let c4 = c3 .before in
+    let c5 = c4 .before in
+    rw (← (c5 .is-within .ensures), c4 .if1 .taken, ← (c3 .u32-at .ensures), ← (c2 .wide32 .ensures .0), ← (c1 .active-fits .ensures), c .if2 .taken)
 
 returns-2 : tie.Need-returns-2
 unfolding activeField
 returns-2 c =
-    rw (← (c .before .before .before .before .before .is-within .ensures), c .before .before .before .before .if1 .taken, ← (c .before .before .before .u32-at .ensures), ← (c .before .before .wide32 .ensures .0), ← (c .before .active-fits .ensures), c .if2 .left)
+    let c1 = c .before in
+    let c2 = c1 .before in
+    let c3 = c2 .before in
+    let c4 = c3 .before in
+    let c5 = c4 .before in
+    rw (← (c5 .is-within .ensures), c4 .if1 .taken, ← (c3 .u32-at .ensures), ← (c2 .wide32 .ensures .0), ← (c1 .active-fits .ensures), c .if2 .left)
 
 returns-3 : tie.Need-returns-3
 unfolding activeField

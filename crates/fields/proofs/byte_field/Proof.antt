@@ -22,12 +22,18 @@ returns-2 c =
 returns-3 : tie.Need-returns-3
 unfolding byteField between
 returns-3 c =
-    rw (le-leb (c .before .before .before .before .before .before .args .at + 1) (length (c .before .before .before .before .before .before .args .s .now)) (omega arith), ← (c .before .before .wide8 .ensures .0), le-leb _ _ (c .before .if2 .left), lt-leb _ _ (c .if3 .taken))
+    let c1 = c .before in
+    let c2 = c1 .before in
+    let c6 = c2 .before .before .before .before in
+    rw (le-leb (c6 .args .at + 1) (length (c6 .args .s .now)) (omega arith), ← (c2 .wide8 .ensures .0), le-leb _ _ (c1 .if2 .left), lt-leb _ _ (c .if3 .taken))
 
 returns-4 : tie.Need-returns-4
 unfolding byteField between
 returns-4 c =
-    rw (le-leb (c .before .before .before .before .before .before .args .at + 1) (length (c .before .before .before .before .before .before .args .s .now)) (omega arith), ← (c .before .before .wide8 .ensures .0), le-leb _ _ (c .before .if2 .left), le-leb _ _ (c .if3 .left))
+    let c1 = c .before in
+    let c2 = c1 .before in
+    let c6 = c2 .before .before .before .before in
+    rw (le-leb (c6 .args .at + 1) (length (c6 .args .s .now)) (omega arith), ← (c2 .wide8 .ensures .0), le-leb _ _ (c1 .if2 .left), le-leb _ _ (c .if3 .left))
 
 pub byte-field-spec : {M : Type 1} → statement M
 byte-field-spec =

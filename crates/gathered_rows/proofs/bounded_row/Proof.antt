@@ -16,7 +16,9 @@ add-node-requires c κs =
 returns : tie.Need-returns
 unfolding gathered elementsOf
 returns c =
-    record { is = c .before .before .add-element .ensures .row ∙ ap (addElement _ _) (c .before .before .before .before .before .before .before .add-node .ensures .row); rising = c .before .before .add-element .ensures .rising; few = c .before .before .add-element .ensures .few }
+    let c2 = c .before .before in
+    let c7 = c2 .before .before .before .before .before in
+    record { is = c2 .add-element .ensures .row ∙ ap (addElement _ _) (c7 .add-node .ensures .row); rising = c2 .add-element .ensures .rising; few = c2 .add-element .ensures .few }
 
 pub bounded-row-spec : {M : Type 1} → statement M
 bounded-row-spec =

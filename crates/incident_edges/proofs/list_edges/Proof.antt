@@ -32,13 +32,21 @@ element-copy-out-next c =
 
 element-write-first : tie.Need-element-write-first Inv-loop μ-loop
 element-write-first c =
-    omega (arith, c .before .before .wide16 .ensures .0, c .before .before .before .u16-at .ensures, c .before .before .before .before .before .before .before .before .before .pre .0, c .before .before .before .before .before .before .before .before .before .pre .4 (c .before .before .before .before .before .loop .e - 1) (omega arith))
+    let c2 = c .before .before in
+    let c3 = c2 .before in
+    let c5 = c3 .before .before in
+    let c9 = c5 .before .before .before .before in
+    omega (arith, c2 .wide16 .ensures .0, c3 .u16-at .ensures, c9 .pre .0, c9 .pre .4 (c5 .loop .e - 1) (omega arith))
 
 loop-again : tie.Need-loop-again Inv-loop μ-loop
 loop-again c =
-    let at = c .before .before .wide16 .ensures .0 ∙ c .before .before .before .u16-at .ensures in
-    let under : c .before .before .wide16 .result < 256 = omega (arith, c .before .before .before .before .before .before .before .before .before .pre .0, c .before .before .before .before .before .before .before .before .before .pre .4 (c .before .before .before .before .before .loop .e - 1) (omega arith)) in
-    edge-listed _ _ _ _ _ _ _ _ _ _ (c .before .before .before .before .before .before .before .before .before .pre .3) (omega arith) (c .number-plus-one .ensures) at under (c .before .before .before .before .before .before .before .before .before .pre .1) (c .before .before .before .before .before .loop .inv)
+    let c2 = c .before .before in
+    let c3 = c2 .before in
+    let c5 = c3 .before .before in
+    let c9 = c5 .before .before .before .before in
+    let at = c2 .wide16 .ensures .0 ∙ c3 .u16-at .ensures in
+    let under : c2 .wide16 .result < 256 = omega (arith, c9 .pre .0, c9 .pre .4 (c5 .loop .e - 1) (omega arith)) in
+    edge-listed _ _ _ _ _ _ _ _ _ _ (c9 .pre .3) (omega arith) (c .number-plus-one .ensures) at under (c9 .pre .1) (c5 .loop .inv)
 
 returns : tie.Need-returns Inv-loop μ-loop
 returns c =

@@ -9,7 +9,9 @@ use Rattle.listing_fields.proofs.put_bounds.Tie as tie
 returns : tie.Need-returns
 unfolding boundsFields
 returns c =
-    record { put = put-then (c .before .before .before .before .before .before .put-double .ensures .put) (c .before .before .put-double2 .ensures .put); end = omega (arith, c .before .before .before .before .before .before .put-double .ensures .end, c .before .before .put-double2 .ensures .end) }
+    let c2 = c .before .before in
+    let c6 = c2 .before .before .before .before in
+    record { put = put-then (c6 .put-double .ensures .put) (c2 .put-double2 .ensures .put); end = omega (arith, c6 .put-double .ensures .end, c2 .put-double2 .ensures .end) }
 
 pub put-bounds-spec : {M : Type 1} → statement M
 put-bounds-spec =

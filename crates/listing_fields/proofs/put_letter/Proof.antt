@@ -9,7 +9,9 @@ use Rattle.listing_fields.proofs.put_letter.Tie as tie
 returns : tie.Need-returns
 unfolding letterField
 returns c =
-    record { put = put-then (c .before .before .before .before .before .before .put .ensures) (c .before .before .put2 .ensures); end = omega (arith, c .before .before .before .before .before .before .put .ensures .next, c .before .before .put2 .ensures .next) }
+    let c2 = c .before .before in
+    let c6 = c2 .before .before .before .before in
+    record { put = put-then (c6 .put .ensures) (c2 .put2 .ensures); end = omega (arith, c6 .put .ensures .next, c2 .put2 .ensures .next) }
 
 pub put-letter-spec : {M : Type 1} → statement M
 put-letter-spec =

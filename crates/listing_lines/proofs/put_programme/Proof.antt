@@ -9,9 +9,14 @@ use Rattle.listing_lines.proofs.put_programme.Tie as tie
 returns : tie.Need-returns
 unfolding programmeLine
 returns c =
+    let c2 = c .before .before in
+    let c6 = c2 .before .before .before .before in
+    let c10 = c6 .before .before .before .before in
+    let c14 = c10 .before .before .before .before in
+    let c18 = c14 .before .before .before .before in
     record {
-      put = put-then (c .before .before .before .before .before .before .before .before .before .before .before .before .before .before .before .before .before .before .put-head .ensures .put) (put-then (c .before .before .before .before .before .before .before .before .before .before .before .before .before .before .put-number .ensures .put) (put-then (c .before .before .before .before .before .before .before .before .before .before .put-number2 .ensures .put) (put-then (c .before .before .before .before .before .before .put-number3 .ensures .put) (c .before .before .put .ensures))));
-      end = omega (arith, c .before .before .before .before .before .before .before .before .before .before .before .before .before .before .before .before .before .before .put-head .ensures .end, c .before .before .before .before .before .before .before .before .before .before .before .before .before .before .put-number .ensures .end, c .before .before .before .before .before .before .before .before .before .before .put-number2 .ensures .end, c .before .before .before .before .before .before .put-number3 .ensures .end, c .before .before .put .ensures .next);
+      put = put-then (c18 .put-head .ensures .put) (put-then (c14 .put-number .ensures .put) (put-then (c10 .put-number2 .ensures .put) (put-then (c6 .put-number3 .ensures .put) (c2 .put .ensures))));
+      end = omega (arith, c18 .put-head .ensures .end, c14 .put-number .ensures .end, c10 .put-number2 .ensures .end, c6 .put-number3 .ensures .end, c2 .put .ensures .next);
     }
 
 pub put-programme-spec : {M : Type 1} → statement M

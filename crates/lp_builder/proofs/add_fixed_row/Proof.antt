@@ -21,9 +21,14 @@ slice-write-numbers-2 c =
 
 returns-3 : tie.Need-returns-3
 returns-3 c =
-    let start = c .before .before .before .before .before .before .before .before .before .before in
+    let c3 = c .before .before .before in
+    let c5 = c3 .before .before in
+    let c6 = c5 .before in
+    let c7 = c6 .before in
+    let c10 = c7 .before .before .before in
+    let start = c10 in
     λ rows held.
-    row-added rows _ _ _ _ _ _ _ held (start .pre .1) (omega (arith, c .before .before .before .before .before .before .before .run .given .0)) (start .pre .2) (start .pre .0) (omega (arith, c .before .before .before .before .before .before .if1 .left)) (omega (arith, c .before .before .before .before .before .if2 .left)) _ _ (c .before .before .before .put-columns .ensures) (c .start-word .ensures)
+    row-added rows _ _ _ _ _ _ _ held (start .pre .1) (omega (arith, c7 .run .given .0)) (start .pre .2) (start .pre .0) (omega (arith, c6 .if1 .left)) (omega (arith, c5 .if2 .left)) _ _ (c3 .put-columns .ensures) (c .start-word .ensures)
 
 pub add-fixed-row-spec : {M : Type 1} → statement M
 add-fixed-row-spec =

@@ -35,8 +35,12 @@ node-index-requires c κs =
 
 add-mass-row-requires : tie.Need-add-mass-row-requires Inv-loop μ-loop
 add-mass-row-requires c κs =
-    let l = c .before .before .before .before .before .loop .inv in
-    (c .before .before .before .before .before .before .before .before .before .pre .0, omega (arith, c .before .before .before .node-index .ensures, c .before .before .before .before .loop-test .taken), omega (arith, l .2, c .before .before .before .before .before .before .before .before .before .pre .1), omega (arith, l .3, c .before .before .before .before .before .before .before .before .before .pre .2), adding-holding _ _ _ _ _ _ (l .1 (c .before .before .before .before .before .before .before .before .before .pre .3 .rows) (c .before .before .before .before .before .before .before .before .before .pre .3 .held)))
+    let c3 = c .before .before .before in
+    let c4 = c3 .before in
+    let c5 = c4 .before in
+    let c9 = c5 .before .before .before .before in
+    let l = c5 .loop .inv in
+    (c9 .pre .0, omega (arith, c3 .node-index .ensures, c4 .loop-test .taken), omega (arith, l .2, c9 .pre .1), omega (arith, l .3, c9 .pre .2), adding-holding _ _ _ _ _ _ (l .1 (c9 .pre .3 .rows) (c9 .pre .3 .held)))
 
 same-length : tie.Need-same-length Inv-loop μ-loop
 same-length c =
@@ -48,7 +52,12 @@ same-length-2 c =
 
 returns : tie.Need-returns Inv-loop μ-loop
 returns c =
-    λ rows h. node-over (massRowsFrom (columnMap (networkOf (c .before .before .before .before .before .before .before .before .before .before .before .before .before .before .before .before .args .s .now) (c .before .before .before .before .before .before .before .before .before .before .before .before .before .before .before .before .args .c)))) (by-node _) _ _ _ _ _ _ _ _ _ _ _ (c .before .before .before .before .before .before .before .before .before .before .before .before .loop .inv .1 rows h) (c .before .before .before .before .before .before .before .before .before .before .before .loop-test .taken) _ (c .before .before .before .before .before .before .before .before .before .before .node-index .ensures) _ _ _ (c .before .before .before .before .before .before .add-mass-row .ensures) (c .enum-told .given .1)
+    let c6 = c .before .before .before .before .before .before in
+    let c10 = c6 .before .before .before .before in
+    let c11 = c10 .before in
+    let c12 = c11 .before in
+    let c16 = c12 .before .before .before .before in
+    λ rows h. node-over (massRowsFrom (columnMap (networkOf (c16 .args .s .now) (c16 .args .c)))) (by-node _) _ _ _ _ _ _ _ _ _ _ _ (c12 .loop .inv .1 rows h) (c11 .loop-test .taken) _ (c10 .node-index .ensures) _ _ _ (c6 .add-mass-row .ensures) (c .enum-told .given .1)
 
 loop-again : tie.Need-loop-again Inv-loop μ-loop
 loop-again c = (
@@ -68,7 +77,9 @@ same-length-4 c =
 
 returns-2 : tie.Need-returns-2 Inv-loop μ-loop
 returns-2 c =
-    λ rows h. nodes-done (massRowsFrom (columnMap (networkOf (c .before .before .before .before .before .args .s .now) (c .before .before .before .before .before .args .c)))) (by-node _) _ _ _ _ _ _ _ _ _ _ _ (c .before .loop .inv .1 rows h) (c .loop-test .left)
+    let c1 = c .before in
+    let c5 = c1 .before .before .before .before in
+    λ rows h. nodes-done (massRowsFrom (columnMap (networkOf (c5 .args .s .now) (c5 .args .c)))) (by-node _) _ _ _ _ _ _ _ _ _ _ _ (c1 .loop .inv .1 rows h) (c .loop-test .left)
 
 pub create-mass-balance-constraints-spec : {M : Type 1} → statement M
 create-mass-balance-constraints-spec =

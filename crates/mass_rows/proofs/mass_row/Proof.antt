@@ -21,15 +21,20 @@ add-columns-requires c κs =
 
 add-columns-requires-2 : tie.Need-add-columns-requires-2
 add-columns-requires-2 c κs =
-    (c .before .before .before .before .add-columns .ensures .few, omega (arith, c .before .before .before .before .add-columns .kept .1 .1 .1 .1 .1 .0, c .before .before .before .before .before .before .before .before .pre .0), c .before .before .before .before .add-columns .ensures .rising, c .before .before .before .before .before .before .before .before .pre .2)
+    let c4 = c .before .before .before .before in
+    let c8 = c4 .before .before .before .before in
+    (c4 .add-columns .ensures .few, omega (arith, c4 .add-columns .kept .1 .1 .1 .1 .1 .0, c8 .pre .0), c4 .add-columns .ensures .rising, c8 .pre .2)
 
 returns : tie.Need-returns
 unfolding one64 ofBits gathered elementsOf
 returns c =
+    let c2 = c .before .before in
+    let c7 = c2 .before .before .before .before .before in
+    let c11 = c7 .before .before .before .before in
     λ into out li lo. record {
-      is = c .before .before .add-columns2 .ensures .row out lo ∙ ap (addOn (columnsOf (c .before .before .before .before .before .before .before .before .before .before .before .args .edge-to-col .now) out) (neg one64)) (c .before .before .before .before .before .before .before .add-columns .ensures .row into li);
-      rising = c .before .before .add-columns2 .ensures .rising;
-      few = c .before .before .add-columns2 .ensures .few;
+      is = c2 .add-columns2 .ensures .row out lo ∙ ap (addOn (columnsOf (c11 .args .edge-to-col .now) out) (neg one64)) (c7 .add-columns .ensures .row into li);
+      rising = c2 .add-columns2 .ensures .rising;
+      few = c2 .add-columns2 .ensures .few;
     }
 
 pub mass-row-spec : {M : Type 1} → statement M

@@ -22,7 +22,10 @@ returns-2 c =
 returns-3 : tie.Need-returns-3
 unfolding parseNetwork _>>=_
 returns-3 c =
-    (rw (c .before .before .before .before .before .before .scan .ensures .0, c .before .before .before .before .r2 .given .1, c .before .before .check-network .ensures, c .enum-told .given .1), (rw (c .before .before .before .before .r2 .given .1) at (c .before .before .before .before .before .before .scan .ensures .1)))
+    let c2 = c .before .before in
+    let c4 = c2 .before .before in
+    let c6 = c4 .before .before in
+    (rw (c6 .scan .ensures .0, c4 .r2 .given .1, c2 .check-network .ensures, c .enum-told .given .1), (rw (c4 .r2 .given .1) at (c6 .scan .ensures .1)))
 
 pub load-spec : {M : Type 1} → statement M
 load-spec =

@@ -15,12 +15,20 @@ returns c =
 returns-2 : tie.Need-returns-2
 unfolding networkAt
 returns-2 c =
-    link-refused (networkOf (c .before .before .before .before .before .before .before .args .s .now) (c .before .before .before .before .before .before .before .args .c)) (λ q. c .before .before .before .before .if1 .left (sym (edges-of (c .before .before .before .before .before .before .before .args .s .now) (c .before .before .before .before .before .before .before .args .c)) ∙ q)) _ _ (sym (c .before .before .before .check-links .ensures) ∙ ap foundBy (c .before .r .given .1))
+    let c1 = c .before in
+    let c3 = c1 .before .before in
+    let c4 = c3 .before in
+    let c7 = c4 .before .before .before in
+    link-refused (networkOf (c7 .args .s .now) (c7 .args .c)) (λ q. c4 .if1 .left (sym (edges-of (c7 .args .s .now) (c7 .args .c)) ∙ q)) _ _ (sym (c3 .check-links .ensures) ∙ ap foundBy (c1 .r .given .1))
 
 returns-3 : tie.Need-returns-3
 unfolding networkAt
 returns-3 c =
-    links-pass (networkOf (c .before .before .before .before .before .before .before .args .s .now) (c .before .before .before .before .before .before .before .args .c)) (λ q. c .before .before .before .before .if1 .left (sym (edges-of (c .before .before .before .before .before .before .before .args .s .now) (c .before .before .before .before .before .before .before .args .c)) ∙ q)) (c .check-constants .result) (sym (c .before .before .before .check-links .ensures) ∙ ap foundBy (c .before .enum-told .given .1)) (sym (c .check-constants .ensures))
+    let c1 = c .before in
+    let c3 = c1 .before .before in
+    let c4 = c3 .before in
+    let c7 = c4 .before .before .before in
+    links-pass (networkOf (c7 .args .s .now) (c7 .args .c)) (λ q. c4 .if1 .left (sym (edges-of (c7 .args .s .now) (c7 .args .c)) ∙ q)) (c .check-constants .result) (sym (c3 .check-links .ensures) ∙ ap foundBy (c1 .enum-told .given .1)) (sym (c .check-constants .ensures))
 
 pub check-network-spec : {M : Type 1} → statement M
 check-network-spec =

@@ -42,13 +42,25 @@ is-unbounded-requires c κs =
 
 returns-2 : tie.Need-returns-2 Inv-loop μ-loop
 returns-2 c =
-    let bad = unbounded (networkOf (c .before .before .before .before .before .before .before .before .args .s .now) (c .before .before .before .before .before .before .before .before .args .c)) _ _ _ (c .before .before .before .before .before .before .before .before .pre .2 _ (c .before .before .before .before .if1 .taken)) (sym (c .before .before .before .is-crossed .ensures) ∙ c .before .before .if2 .left) (sym (c .before .is-unbounded .ensures) ∙ c .if3 .taken) in
-    sym (c .before .before .before .before .before .before .loop .inv .1 ∙ refused-here _ (c .before .before .before .before .before .before .before .before .args .s .now) _ _ _ (c .before .before .before .before .if1 .taken) bad)
+    let c1 = c .before in
+    let c2 = c1 .before in
+    let c3 = c2 .before in
+    let c4 = c3 .before in
+    let c6 = c4 .before .before in
+    let c8 = c6 .before .before in
+    let bad = unbounded (networkOf (c8 .args .s .now) (c8 .args .c)) _ _ _ (c8 .pre .2 _ (c4 .if1 .taken)) (sym (c3 .is-crossed .ensures) ∙ c2 .if2 .left) (sym (c1 .is-unbounded .ensures) ∙ c .if3 .taken) in
+    sym (c6 .loop .inv .1 ∙ refused-here _ (c8 .args .s .now) _ _ _ (c4 .if1 .taken) bad)
 
 loop-again : tie.Need-loop-again Inv-loop μ-loop
 loop-again c =
-    let good = bounded (networkOf (c .before .before .before .before .before .before .before .before .args .s .now) (c .before .before .before .before .before .before .before .before .args .c)) _ _ _ (c .before .before .before .before .before .before .before .before .pre .2 _ (c .before .before .before .before .if1 .taken)) (sym (c .before .before .before .is-crossed .ensures) ∙ c .before .before .if2 .left) (sym (c .before .is-unbounded .ensures) ∙ c .if3 .left) in
-    (search needs, c .before .before .before .before .before .before .loop .inv .1 ∙ refused-later _ (c .before .before .before .before .before .before .before .before .args .s .now) _ _ (c .before .before .before .before .if1 .taken) good)
+    let c1 = c .before in
+    let c2 = c1 .before in
+    let c3 = c2 .before in
+    let c4 = c3 .before in
+    let c6 = c4 .before .before in
+    let c8 = c6 .before .before in
+    let good = bounded (networkOf (c8 .args .s .now) (c8 .args .c)) _ _ _ (c8 .pre .2 _ (c4 .if1 .taken)) (sym (c3 .is-crossed .ensures) ∙ c2 .if2 .left) (sym (c1 .is-unbounded .ensures) ∙ c .if3 .left) in
+    (search needs, c6 .loop .inv .1 ∙ refused-later _ (c8 .args .s .now) _ _ (c4 .if1 .taken) good)
 
 returns-3 : tie.Need-returns-3 Inv-loop μ-loop
 returns-3 c =

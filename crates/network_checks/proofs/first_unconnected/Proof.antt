@@ -32,8 +32,12 @@ is-unconnected-requires c κs =
 
 returns : tie.Need-returns Inv-loop μ-loop
 returns c =
-    sym (c .before .before .before .before .loop .inv .1 ∙ refused-here _ (c .before .before .before .before .before .before .args .s .now) _ _ _ (c .before .before .if1 .taken)
-    (unconnected _ _ _ _ _ (c .before .before .before .before .before .before .pre .2 _ (c .before .before .if1 .taken)) (c .before .before .before .before .before .before .pre .3 _ (c .before .before .if1 .taken)) (sym (c .before .is-unconnected .ensures) ∙ c .if2 .taken)))
+    let c1 = c .before in
+    let c2 = c1 .before in
+    let c4 = c2 .before .before in
+    let c6 = c4 .before .before in
+    sym (c4 .loop .inv .1 ∙ refused-here _ (c6 .args .s .now) _ _ _ (c2 .if1 .taken)
+    (unconnected _ _ _ _ _ (c6 .pre .2 _ (c2 .if1 .taken)) (c6 .pre .3 _ (c2 .if1 .taken)) (sym (c1 .is-unconnected .ensures) ∙ c .if2 .taken)))
 
 loop-again : tie.Need-loop-again Inv-loop μ-loop
 loop-again c = (

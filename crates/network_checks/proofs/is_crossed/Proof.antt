@@ -15,11 +15,15 @@ is-constant-requires c κs =
 
 max-requires : tie.Need-max-requires
 max-requires c κs =
-    (omega (arith, c .before .before .narrow16 .ensures, c .before .before .before .before .pre .1 .within), subst (λ (k : ℕ). isFlow (le64 (c .before .before .before .before .args .s .now) (20 * k + 12)) ≡ true) (sym (c .before .before .narrow16 .ensures)) (c .before .before .before .before .pre .1 .max))
+    let c2 = c .before .before in
+    let c4 = c2 .before .before in
+    (omega (arith, c2 .narrow16 .ensures, c4 .pre .1 .within), subst (λ (k : ℕ). isFlow (le64 (c4 .args .s .now) (20 * k + 12)) ≡ true) (sym (c2 .narrow16 .ensures)) (c4 .pre .1 .max))
 
 min-requires : tie.Need-min-requires
 min-requires c κs =
-    (omega (arith, c .before .before .before .narrow16 .ensures, c .before .before .before .before .before .pre .1 .within), subst (λ (k : ℕ). isFlow (le64 (c .before .before .before .before .before .args .s .now) (20 * k + 4)) ≡ true) (sym (c .before .before .before .narrow16 .ensures)) (c .before .before .before .before .before .pre .1 .min))
+    let c3 = c .before .before .before in
+    let c5 = c3 .before .before in
+    (omega (arith, c3 .narrow16 .ensures, c5 .pre .1 .within), subst (λ (k : ℕ). isFlow (le64 (c5 .args .s .now) (20 * k + 4)) ≡ true) (sym (c3 .narrow16 .ensures)) (c5 .pre .1 .min))
 
 returns : tie.Need-returns
 returns c =

@@ -16,7 +16,9 @@ is-constant-requires c κs =
 
 max-requires : tie.Need-max-requires
 max-requires c κs =
-    (omega (arith, c .before .before .before .before .narrow16 .ensures, c .before .before .before .before .before .before .pre .1 .within), subst (λ (k : ℕ). isFlow (le64 (c .before .before .before .before .before .before .args .s .now) (20 * k + 12)) ≡ true) (sym (c .before .before .before .before .narrow16 .ensures)) (c .before .before .before .before .before .before .pre .1 .max))
+    let c4 = c .before .before .before .before in
+    let c6 = c4 .before .before in
+    (omega (arith, c4 .narrow16 .ensures, c6 .pre .1 .within), subst (λ (k : ℕ). isFlow (le64 (c6 .args .s .now) (20 * k + 12)) ≡ true) (sym (c4 .narrow16 .ensures)) (c6 .pre .1 .max))
 
 float-from-bits-if3 : tie.Need-float-from-bits-if3
 unfolding nanBits
@@ -26,11 +28,18 @@ float-from-bits-if3 c =
 returns : tie.Need-returns
 unfolding ofBits
 returns c =
-    rw (c .before .before .if2 .taken, ← (c .before .before .before .before .before .before .narrow16 .ensures), sym (c .before .before .before .before .before .is-constant .ensures) ∙ c .before .before .before .before .if1 .taken, ← (c .before .max .ensures), c .if3 .taken)
+    let c1 = c .before in
+    let c2 = c1 .before in
+    let c4 = c2 .before .before in
+    let c5 = c4 .before in
+    let c6 = c5 .before in
+    rw (c2 .if2 .taken, ← (c6 .narrow16 .ensures), sym (c5 .is-constant .ensures) ∙ c4 .if1 .taken, ← (c1 .max .ensures), c .if3 .taken)
 
 min-requires : tie.Need-min-requires
 min-requires c κs =
-    (omega (arith, c .before .before .before .before .before .before .narrow16 .ensures, c .before .before .before .before .before .before .before .before .pre .1 .within), subst (λ (k : ℕ). isFlow (le64 (c .before .before .before .before .before .before .before .before .args .s .now) (20 * k + 4)) ≡ true) (sym (c .before .before .before .before .before .before .narrow16 .ensures)) (c .before .before .before .before .before .before .before .before .pre .1 .min))
+    let c6 = c .before .before .before .before .before .before in
+    let c8 = c6 .before .before in
+    (omega (arith, c6 .narrow16 .ensures, c8 .pre .1 .within), subst (λ (k : ℕ). isFlow (le64 (c8 .args .s .now) (20 * k + 4)) ≡ true) (sym (c6 .narrow16 .ensures)) (c8 .pre .1 .min))
 
 float-from-bits-result : tie.Need-float-from-bits-result
 unfolding nanBits
@@ -40,7 +49,13 @@ float-from-bits-result c =
 returns-2 : tie.Need-returns-2
 unfolding ofBits
 returns-2 c =
-    rw (c .before .before .before .if2 .taken, ← (c .before .before .before .before .before .before .before .narrow16 .ensures), sym (c .before .before .before .before .before .before .is-constant .ensures) ∙ c .before .before .before .before .before .if1 .taken, ← (c .before .before .max .ensures), c .before .if3 .left, ← (c .min .ensures))
+    let c1 = c .before in
+    let c2 = c1 .before in
+    let c3 = c2 .before in
+    let c5 = c3 .before .before in
+    let c6 = c5 .before in
+    let c7 = c6 .before in
+    rw (c3 .if2 .taken, ← (c7 .narrow16 .ensures), sym (c6 .is-constant .ensures) ∙ c5 .if1 .taken, ← (c2 .max .ensures), c1 .if3 .left, ← (c .min .ensures))
 
 returns-3 : tie.Need-returns-3
 returns-3 c =

@@ -9,15 +9,29 @@ use Rattle.network_checks.proofs.is_unconnected.Tie as tie
 
 returns : tie.Need-returns
 returns c =
-    rw (sym (c .before .before .before .before .before .kind .ensures ∙ ap (λ (k : ℕ). byte (c .before .before .before .before .before .before .before .before .args .s .now) (20 * k + 2)) (c .before .before .before .before .before .before .narrow16 .ensures)), eq-eqb _ _ (c .before .before .before .before .if1 .taken), c .before .before .if2 .taken, c .if3 .taken)
+    let c2 = c .before .before in
+    let c4 = c2 .before .before in
+    let c5 = c4 .before in
+    let c6 = c5 .before in
+    let c8 = c6 .before .before in
+    rw (sym (c5 .kind .ensures ∙ ap (λ (k : ℕ). byte (c8 .args .s .now) (20 * k + 2)) (c6 .narrow16 .ensures)), eq-eqb _ _ (c4 .if1 .taken), c2 .if2 .taken, c .if3 .taken)
 
 returns-2 : tie.Need-returns-2
 returns-2 c =
-    rw (sym (c .before .before .before .before .before .kind .ensures ∙ ap (λ (k : ℕ). byte (c .before .before .before .before .before .before .before .before .args .s .now) (20 * k + 2)) (c .before .before .before .before .before .before .narrow16 .ensures)), eq-eqb _ _ (c .before .before .before .before .if1 .taken), c .before .before .if2 .taken, c .if3 .left)
+    let c2 = c .before .before in
+    let c4 = c2 .before .before in
+    let c5 = c4 .before in
+    let c6 = c5 .before in
+    let c8 = c6 .before .before in
+    rw (sym (c5 .kind .ensures ∙ ap (λ (k : ℕ). byte (c8 .args .s .now) (20 * k + 2)) (c6 .narrow16 .ensures)), eq-eqb _ _ (c4 .if1 .taken), c2 .if2 .taken, c .if3 .left)
 
 returns-3 : tie.Need-returns-3
 returns-3 c =
-    rw (sym (c .before .before .before .kind .ensures ∙ ap (λ (k : ℕ). byte (c .before .before .before .before .before .before .args .s .now) (20 * k + 2)) (c .before .before .before .before .narrow16 .ensures)), eq-eqb _ _ (c .before .before .if1 .taken), c .if2 .left)
+    let c2 = c .before .before in
+    let c3 = c2 .before in
+    let c4 = c3 .before in
+    let c6 = c4 .before .before in
+    rw (sym (c3 .kind .ensures ∙ ap (λ (k : ℕ). byte (c6 .args .s .now) (20 * k + 2)) (c4 .narrow16 .ensures)), eq-eqb _ _ (c2 .if1 .taken), c .if2 .left)
 
 returns-4 : tie.Need-returns-4
 returns-4 c =

@@ -42,21 +42,39 @@ from-node-index-requires c κs =
 
 element-write-into : tie.Need-element-write-into Inv-loop μ-loop
 element-write-into c =
-    let q = end-read (c .before .before .before .before .before .before .before .before .args .s .now) (c .before .before .before .before .before .before .before .before .args .n) _ _ target _ _ (c .before .before .before .before .narrow16 .ensures) (c .before .wide16 .ensures .0) (c .before .before .before .to-node-index .ensures) in
-    omega (arith, q, c .before .before .before .before .before .before .before .before .pre .2 (c .before .before .before .before .before .before .loop .j) (c .before .before .before .before .before .loop-test .taken) .to)
+    let c1 = c .before in
+    let c3 = c1 .before .before in
+    let c4 = c3 .before in
+    let c5 = c4 .before in
+    let c6 = c5 .before in
+    let c8 = c6 .before .before in
+    let q = end-read (c8 .args .s .now) (c8 .args .n) _ _ target _ _ (c4 .narrow16 .ensures) (c1 .wide16 .ensures .0) (c3 .to-node-index .ensures) in
+    omega (arith, q, c8 .pre .2 (c6 .loop .j) (c5 .loop-test .taken) .to)
 
 element-write-out : tie.Need-element-write-out Inv-loop μ-loop
 element-write-out c =
-    let q = end-read (c .before .before .before .before .before .before .before .before .args .s .now) (c .before .before .before .before .before .before .before .before .args .n) _ _ source _ _ (c .before .before .before .before .narrow16 .ensures) (c .wide162 .ensures .0) (c .before .before .from-node-index .ensures) in
-    omega (arith, q, c .before .before .before .before .before .before .before .before .pre .2 (c .before .before .before .before .before .before .loop .j) (c .before .before .before .before .before .loop-test .taken) .from)
+    let c2 = c .before .before in
+    let c4 = c2 .before .before in
+    let c5 = c4 .before in
+    let c6 = c5 .before in
+    let c8 = c6 .before .before in
+    let q = end-read (c8 .args .s .now) (c8 .args .n) _ _ source _ _ (c4 .narrow16 .ensures) (c .wide162 .ensures .0) (c2 .from-node-index .ensures) in
+    omega (arith, q, c8 .pre .2 (c6 .loop .j) (c5 .loop-test .taken) .from)
 
 loop-again : tie.Need-loop-again Inv-loop μ-loop
 loop-again c =
-    let t = end-read (c .before .before .before .before .before .before .before .before .args .s .now) (c .before .before .before .before .before .before .before .before .args .n) _ _ target _ _ (c .before .before .before .before .narrow16 .ensures) (c .before .wide16 .ensures .0) (c .before .before .before .to-node-index .ensures) in
-    let f = end-read (c .before .before .before .before .before .before .before .before .args .s .now) (c .before .before .before .before .before .before .before .before .args .n) _ _ source _ _ (c .before .before .before .before .narrow16 .ensures) (c .wide162 .ensures .0) (c .before .before .from-node-index .ensures) in (
+    let c1 = c .before in
+    let c2 = c1 .before in
+    let c3 = c2 .before in
+    let c4 = c3 .before in
+    let c5 = c4 .before in
+    let c6 = c5 .before in
+    let c8 = c6 .before .before in
+    let t = end-read (c8 .args .s .now) (c8 .args .n) _ _ target _ _ (c4 .narrow16 .ensures) (c1 .wide16 .ensures .0) (c3 .to-node-index .ensures) in
+    let f = end-read (c8 .args .s .now) (c8 .args .n) _ _ source _ _ (c4 .narrow16 .ensures) (c .wide162 .ensures .0) (c2 .from-node-index .ensures) in (
       search needs,
-      c .before .before .before .before .before .before .loop .inv .1 ∙ mark-edge (c .before .before .before .before .before .before .before .before .args .s .now) (c .before .before .before .before .before .before .before .before .args .n) _ _ target (c .before .before .before .before .before .before .loop .into) _ (c .before .before .before .before .before .loop-test .taken) t,
-      c .before .before .before .before .before .before .loop .inv .2 ∙ mark-edge (c .before .before .before .before .before .before .before .before .args .s .now) (c .before .before .before .before .before .before .before .before .args .n) _ _ source (c .before .before .before .before .before .before .loop .out) _ (c .before .before .before .before .before .loop-test .taken) f,
+      c6 .loop .inv .1 ∙ mark-edge (c8 .args .s .now) (c8 .args .n) _ _ target (c6 .loop .into) _ (c5 .loop-test .taken) t,
+      c6 .loop .inv .2 ∙ mark-edge (c8 .args .s .now) (c8 .args .n) _ _ source (c6 .loop .out) _ (c5 .loop-test .taken) f,
     )
 
 returns : tie.Need-returns Inv-loop μ-loop

@@ -32,7 +32,10 @@ is-exclusive-requires c κs =
 
 mark-sets-requires : tie.Need-mark-sets-requires Inv-loop μ-loop
 mark-sets-requires c κs =
-    subst (AggregatePassed (c .before .before .before .before .before .before .args .s .now) 256) (sym (c .before .before .before .before .loop .inv .1)) (c .before .before .before .before .before .before .pre .1 _ (c .before .before .before .loop-test .taken))
+    let c3 = c .before .before .before in
+    let c4 = c3 .before in
+    let c6 = c4 .before .before in
+    subst (AggregatePassed (c6 .args .s .now) 256) (sym (c4 .loop .inv .1)) (c6 .pre .1 _ (c3 .loop-test .taken))
 
 loop-again : tie.Need-loop-again Inv-loop μ-loop
 loop-again c = (

@@ -38,7 +38,11 @@ element-write-marks c =
 
 loop-again : tie.Need-loop-again Inv-loop μ-loop
 loop-again c =
-    (search needs, c .before .before .before .loop .inv .1 ∙ mark-member (c .before .before .before .before .before .before .args .s .now) (c .before .before .before .before .before .before .args .at) _ _ (c .before .before .before .loop .marks) _ (c .before .before .loop-test .taken) (c .wide16 .ensures .0 ∙ c .before .member .ensures))
+    let c1 = c .before in
+    let c2 = c1 .before in
+    let c3 = c2 .before in
+    let c6 = c3 .before .before .before in
+    (search needs, c3 .loop .inv .1 ∙ mark-member (c6 .args .s .now) (c6 .args .at) _ _ (c3 .loop .marks) _ (c2 .loop-test .taken) (c .wide16 .ensures .0 ∙ c1 .member .ensures))
 
 returns : tie.Need-returns Inv-loop μ-loop
 unfolding markAll

@@ -38,7 +38,11 @@ returns-5 c =
 returns-6 : tie.Need-returns-6
 unfolding checkRanked
 returns-6 c =
-    (rw (ne-eqb _ _ (c .before .before .before .before .if1 .left), ne-eqb _ _ (c .before .before .before .if3 .left), eq-eqb _ _ (c .before .before .if5 .taken), lt-ltb _ _ (c .before .if6 .left)) (c .check-aggregate .ensures .0), c .check-aggregate .ensures .1)
+    let c1 = c .before in
+    let c2 = c1 .before in
+    let c3 = c2 .before in
+    let c4 = c3 .before in
+    (rw (ne-eqb _ _ (c4 .if1 .left), ne-eqb _ _ (c3 .if3 .left), eq-eqb _ _ (c2 .if5 .taken), lt-ltb _ _ (c1 .if6 .left)) (c .check-aggregate .ensures .0), c .check-aggregate .ensures .1)
 
 returns-7 : tie.Need-returns-7
 unfolding checkRanked

@@ -34,18 +34,29 @@ returns-3 c =
 
 returns-4 : tie.Need-returns-4
 returns-4 c =
-    let e = sym (c .before .before .before .before .before .check-ranked .ensures .0) ∙ c .before .before .before .r2 .given .1 in
+    let c1 = c .before in
+    let c3 = c1 .before .before in
+    let c5 = c3 .before .before in
+    let c6 = c5 .before in
+    let c7 = c6 .before in
+    let e = sym (c5 .check-ranked .ensures .0) ∙ c3 .r2 .given .1 in
     let h = ranked-edge _ _ _ _ _ _ _ _ e (c .if4 .taken) in (
-      sym (in-order _ _ _ _ _ _ _ _ _ (omega arith) (c .before .before .before .before .before .before .before .mark-rank .ensures) (c .before .before .before .before .before .before .if2 .left) e ∙ rw (ne-eqb _ _ (c .before .if3 .left), eq-eqb _ _ (c .if4 .taken))),
-      (omega arith, h .0, h .1, (rw (c .before .before .before .r2 .given .1) at (c .before .before .before .before .before .check-ranked .ensures .1))),
+      sym (in-order _ _ _ _ _ _ _ _ _ (omega arith) (c7 .mark-rank .ensures) (c6 .if2 .left) e ∙ rw (ne-eqb _ _ (c1 .if3 .left), eq-eqb _ _ (c .if4 .taken))),
+      (omega arith, h .0, h .1, (rw (c3 .r2 .given .1) at (c5 .check-ranked .ensures .1))),
     )
 
 returns-5 : tie.Need-returns-5
 returns-5 c =
-    let e = sym (c .before .before .before .before .before .before .check-ranked .ensures .0) ∙ c .before .before .before .before .r2 .given .1 in
+    let c1 = c .before in
+    let c2 = c1 .before in
+    let c4 = c2 .before .before in
+    let c6 = c4 .before .before in
+    let c7 = c6 .before in
+    let c8 = c7 .before in
+    let e = sym (c6 .check-ranked .ensures .0) ∙ c4 .r2 .given .1 in
     let h = ranked-aggregate _ _ _ _ _ _ _ _ e (c .if5 .taken) in (
-      sym (in-order _ _ _ _ _ _ _ _ _ (omega arith) (c .before .before .before .before .before .before .before .before .mark-rank .ensures) (c .before .before .before .before .before .before .before .if2 .left) e ∙ rw (ne-eqb _ _ (c .before .before .if3 .left), ne-eqb _ _ (c .before .if4 .left), eq-eqb _ _ (c .if5 .taken))),
-      (omega arith, h .0, h .1, (rw (c .before .before .before .before .r2 .given .1) at (c .before .before .before .before .before .before .check-ranked .ensures .1))),
+      sym (in-order _ _ _ _ _ _ _ _ _ (omega arith) (c8 .mark-rank .ensures) (c7 .if2 .left) e ∙ rw (ne-eqb _ _ (c2 .if3 .left), ne-eqb _ _ (c1 .if4 .left), eq-eqb _ _ (c .if5 .taken))),
+      (omega arith, h .0, h .1, (rw (c4 .r2 .given .1) at (c6 .check-ranked .ensures .1))),
     )
 
 returns-6 : tie.Need-returns-6
@@ -54,10 +65,16 @@ returns-6 c =
 
 returns-7 : tie.Need-returns-7
 returns-7 c =
-    let e = sym (c .before .before .before .before .before .before .check-ranked .ensures .0) ∙ c .before .before .before .before .r2 .given .1 in
-    let h = ranked-last _ _ _ _ _ _ _ _ e (c .before .before .if3 .left) (c .before .if4 .left) (c .if5 .left) in (
-      sym (in-order _ _ _ _ _ _ _ _ _ (omega arith) (c .before .before .before .before .before .before .before .before .mark-rank .ensures) (c .before .before .before .before .before .before .before .if2 .left) e ∙ rw (ne-eqb _ _ (c .before .before .if3 .left), ne-eqb _ _ (c .before .if4 .left), ne-eqb _ _ (c .if5 .left))),
-      (omega (arith, h .0), h .1, h .2, (rw (c .before .before .before .before .r2 .given .1) at (c .before .before .before .before .before .before .check-ranked .ensures .1))),
+    let c1 = c .before in
+    let c2 = c1 .before in
+    let c4 = c2 .before .before in
+    let c6 = c4 .before .before in
+    let c7 = c6 .before in
+    let c8 = c7 .before in
+    let e = sym (c6 .check-ranked .ensures .0) ∙ c4 .r2 .given .1 in
+    let h = ranked-last _ _ _ _ _ _ _ _ e (c2 .if3 .left) (c1 .if4 .left) (c .if5 .left) in (
+      sym (in-order _ _ _ _ _ _ _ _ _ (omega arith) (c8 .mark-rank .ensures) (c7 .if2 .left) e ∙ rw (ne-eqb _ _ (c2 .if3 .left), ne-eqb _ _ (c1 .if4 .left), ne-eqb _ _ (c .if5 .left))),
+      (omega (arith, h .0), h .1, h .2, (rw (c4 .r2 .given .1) at (c6 .check-ranked .ensures .1))),
     )
 
 pub check-record-spec : {M : Type 1} → statement M

@@ -38,12 +38,20 @@ returns-6 c =
 returns-7 : tie.Need-returns-7
 unfolding markRank
 returns-7 c =
-    rw (ne-eqb _ _ (c .before .before .before .before .before .before .before .before .if1 .left), ne-eqb _ _ (c .before .before .before .before .before .before .if3 .left), ne-eqb _ _ (c .before .before .before .before .if5 .left), c .before .before .if7 .taken, c .if8 .taken)
+    let c2 = c .before .before in
+    let c4 = c2 .before .before in
+    let c6 = c4 .before .before in
+    let c8 = c6 .before .before in
+    rw (ne-eqb _ _ (c8 .if1 .left), ne-eqb _ _ (c6 .if3 .left), ne-eqb _ _ (c4 .if5 .left), c2 .if7 .taken, c .if8 .taken)
 
 returns-8 : tie.Need-returns-8
 unfolding markRank
 returns-8 c =
-    rw (ne-eqb _ _ (c .before .before .before .before .before .before .before .before .if1 .left), ne-eqb _ _ (c .before .before .before .before .before .before .if3 .left), ne-eqb _ _ (c .before .before .before .before .if5 .left), c .before .before .if7 .taken, ne-eqb _ _ (c .if8 .left))
+    let c2 = c .before .before in
+    let c4 = c2 .before .before in
+    let c6 = c4 .before .before in
+    let c8 = c6 .before .before in
+    rw (ne-eqb _ _ (c8 .if1 .left), ne-eqb _ _ (c6 .if3 .left), ne-eqb _ _ (c4 .if5 .left), c2 .if7 .taken, ne-eqb _ _ (c .if8 .left))
 
 returns-9 : tie.Need-returns-9
 unfolding markRank

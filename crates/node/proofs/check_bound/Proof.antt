@@ -15,7 +15,10 @@ u64-at-requires c κs =
 
 add-t8 : tie.Need-add-t8
 add-t8 c =
-    omega (arith, leb-true (c .before .before .before .before .before .before .args .at + 8) (length (c .before .before .before .before .before .before .args .s .now)) (sym (c .before .before .before .before .is-within .ensures) ∙ c .before .before .before .if1 .taken))
+    let c3 = c .before .before .before in
+    let c4 = c3 .before in
+    let c6 = c4 .before .before in
+    omega (arith, leb-true (c6 .args .at + 8) (length (c6 .args .s .now)) (sym (c4 .is-within .ensures) ∙ c3 .if1 .taken))
 
 returns : tie.Need-returns
 unfolding checkBound

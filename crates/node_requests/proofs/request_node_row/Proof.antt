@@ -18,16 +18,21 @@ add-node-requires c κs =
 
 add-node-row-requires : tie.Need-add-node-row-requires
 add-node-row-requires c κs =
-    let h = c .before .before .before .before .before .before .before .before .before .before .before .before .before .pre .4 in
-    let ys = c .before .before .before .before .before .add-node .last .1 .1 .1 .1 .1 .1 .1 .1 .1 .1 .0 in
-    (search needs, search needs, c .before .before .before .before .before .add-node .ensures .few, c .before .before .before .before .before .add-node .ensures .rising, record { asks = h .asks; held = rows-lent _ (h .asks) _ _ ys _ (c .before .before .before .before .before .before .before .before .before .before .before .before .before .pre .3) (h .held) }, c .before .before .before .before .before .before .before .before .before .before .before .before .before .pre .5)
+    let c5 = c .before .before .before .before .before in
+    let c13 = c5 .before .before .before .before .before .before .before .before in
+    let h = c13 .pre .4 in
+    let ys = c5 .add-node .last .1 .1 .1 .1 .1 .1 .1 .1 .1 .1 .0 in
+    (search needs, search needs, c5 .add-node .ensures .few, c5 .add-node .ensures .rising, record { asks = h .asks; held = rows-lent _ (h .asks) _ _ ys _ (c13 .pre .3) (h .held) }, c13 .pre .5)
 
 returns : tie.Need-returns
 unfolding one64 ofBits rowTypeWord
 returns c =
-    let ys = c .before .before .before .before .before .before .before .before .before .before .add-node .last .1 .1 .1 .1 .1 .1 .1 .1 .1 .1 .0 in
-    let long = c .before .before .before .before .before .before .before .before .before .before .before .before .before .before .before .before .before .before .pre .3 in
-    λ asks h. request-lent _ asks _ _ ys _ long h _ _ _ _ _ _ _ _ _ (node-gathered _ _ _ _ _ _ _ _ _ refl (c .before .before .before .before .before .before .before .before .before .before .add-node .ensures) .is) (c .before .before .before .before .add-node-row .ensures continuous refl asks (rows-lent _ asks _ _ ys _ long h))
+    let c4 = c .before .before .before .before in
+    let c10 = c4 .before .before .before .before .before .before in
+    let c18 = c10 .before .before .before .before .before .before .before .before in
+    let ys = c10 .add-node .last .1 .1 .1 .1 .1 .1 .1 .1 .1 .1 .0 in
+    let long = c18 .pre .3 in
+    λ asks h. request-lent _ asks _ _ ys _ long h _ _ _ _ _ _ _ _ _ (node-gathered _ _ _ _ _ _ _ _ _ refl (c10 .add-node .ensures) .is) (c4 .add-node-row .ensures continuous refl asks (rows-lent _ asks _ _ ys _ long h))
 
 pub request-node-row-spec : {M : Type 1} → statement M
 request-node-row-spec =

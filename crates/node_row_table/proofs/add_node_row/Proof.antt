@@ -17,11 +17,16 @@ returns c =
 
 returns-2 : tie.Need-returns-2
 returns-2 c =
-    let room = c .before .before .before .before .before .before .before .before .before .before .before .before .before .before .before .before .before .before .pre .5 in
-    let long = c .before .before .before .before .before .before .before .before .before .before .before .before .before .before .before .before .before .before .pre .0 in
-    let kept = c .before .before .before .before .before .before .before .before .before .before .before .before .add-variable-row .kept .0 in
+    let c2 = c .before .before in
+    let c3 = c2 .before in
+    let c6 = c3 .before .before .before in
+    let c12 = c6 .before .before .before .before .before .before in
+    let c18 = c12 .before .before .before .before .before .before in
+    let room = c18 .pre .5 in
+    let long = c18 .pre .0 in
+    let kept = c12 .add-variable-row .kept .0 in
     λ t et asks h.
-    row-placed _ asks _ _ _ _ _ _ _ h (c .before .before .before .before .before .before .before .before .before .before .before .before .add-variable-row .ensures (joined asks .rows) (h .held)) _ _ (c .before .before .before .before .before .before .r .given .1) _ _ _ (c .before .before .before .row-word .ensures) et (omega arith) (c .before .before .put-node-row .ensures)
+    row-placed _ asks _ _ _ _ _ _ _ h (c12 .add-variable-row .ensures (joined asks .rows) (h .held)) _ _ (c6 .r .given .1) _ _ _ (c3 .row-word .ensures) et (omega arith) (c2 .put-node-row .ensures)
 
 pub add-node-row-spec : {M : Type 1} → statement M
 add-node-row-spec =

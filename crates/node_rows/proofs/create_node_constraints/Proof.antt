@@ -43,11 +43,18 @@ same-length-2 c =
 
 returns : tie.Need-returns Inv-loop μ-loop
 returns c =
-    order-full _ _ _ _ _ _ _ (c .before .before .before .before .before .before .before .before .before .before .before .before .before .before .before .before .pre .0) _ _ _ (c .before .before .before .before .before .before .before .before .before .before .node-index .result .0 + 1) _ (c .before .before .before .before .before .before .request-rows .ensures) (c .enum-told .given .1)
+    let c6 = c .before .before .before .before .before .before in
+    let c10 = c6 .before .before .before .before in
+    let c16 = c10 .before .before .before .before .before .before in
+    order-full _ _ _ _ _ _ _ (c16 .pre .0) _ _ _ (c10 .node-index .result .0 + 1) _ (c6 .request-rows .ensures) (c .enum-told .given .1)
 
 loop-again : tie.Need-loop-again Inv-loop μ-loop
 loop-again c =
-    (rw (c .before .before .before .before .before .before .before .before .before .before .before .node-index .ensures) at (c .before .before .before .before .before .before .before .request-rows .ensures .done _ (c .before .r .given .1)), c .before .before .before .before .before .before .before .request-rows .kept .1 .1 .1 .1 .1 .1 .1 .1 .1 .1 .1 .1 .0 ∙ c .before .before .before .before .before .before .before .before .before .before .before .before .before .loop .inv .1, c .before .before .before .before .before .before .before .request-rows .kept .1 .1 .1 .1 .1 .1 .1 .1 .1 .1 .1 .1 .1 .0 ∙ c .before .before .before .before .before .before .before .before .before .before .before .before .before .loop .inv .2)
+    let c1 = c .before in
+    let c7 = c1 .before .before .before .before .before .before in
+    let c11 = c7 .before .before .before .before in
+    let c13 = c11 .before .before in
+    (rw (c11 .node-index .ensures) at (c7 .request-rows .ensures .done _ (c1 .r .given .1)), c7 .request-rows .kept .1 .1 .1 .1 .1 .1 .1 .1 .1 .1 .1 .1 .0 ∙ c13 .loop .inv .1, c7 .request-rows .kept .1 .1 .1 .1 .1 .1 .1 .1 .1 .1 .1 .1 .1 .0 ∙ c13 .loop .inv .2)
 
 same-length-3 : tie.Need-same-length-3 Inv-loop μ-loop
 same-length-3 c =

@@ -11,11 +11,16 @@ write-nodes-requires c κs =
 
 write-edges-requires : tie.Need-write-edges-requires
 write-edges-requires c κs =
-    (c .before .before .before .before .before .before .before .pre .0 .nodes, c .before .before .before .before .before .before .before .pre .0 .edges, c .before .before .before .before .before .before .before .pre .1, omega (arith, c .before .before .before .write-nodes .kept .1 .1 .0, c .before .before .before .before .before .before .before .pre .2), c .before .before .before .before .before .before .before .pre .4)
+    let c3 = c .before .before .before in
+    let c7 = c3 .before .before .before .before in
+    (c7 .pre .0 .nodes, c7 .pre .0 .edges, c7 .pre .1, omega (arith, c3 .write-nodes .kept .1 .1 .0, c7 .pre .2), c7 .pre .4)
 
 write-counts-requires : tie.Need-write-counts-requires
 write-counts-requires c κs =
-    (omega (arith, c .before .before .before .write-edges .kept .1 .1 .1 .1 .0, c .before .before .before .before .before .before .before .write-nodes .kept .1 .1 .0, c .before .before .before .before .before .before .before .before .before .before .before .pre .2), c .before .before .before .before .before .before .before .before .before .before .before .pre .0, c .before .before .before .before .before .before .before .before .before .before .before .pre .3)
+    let c3 = c .before .before .before in
+    let c7 = c3 .before .before .before .before in
+    let c11 = c7 .before .before .before .before in
+    (omega (arith, c3 .write-edges .kept .1 .1 .1 .1 .0, c7 .write-nodes .kept .1 .1 .0, c11 .pre .2), c11 .pre .0, c11 .pre .3)
 
 same-length : tie.Need-same-length
 same-length c =

@@ -33,16 +33,26 @@ returns c =
 returns-2 : tie.Need-returns-2 Inv-loop μ-loop
 unfolding ne
 returns-2 c =
-    let start = c .before .before .before .before .before .before .before .before .before .before .before .before in
-    let l = c .before .before .before .before .before .before .before .before .loop in
-    sym (l .inv .1 ∙ factors-differ _ _ _ _ _ _ _ (start .pre) (c .before .before .before .before .before .before .before .loop-test .taken) (sym (c .before .before .before .before .before .wide-column .ensures .0) ∙ c .before .before .before .if1 .left) (not-true _ (c .if2 .taken)))
+    let c3 = c .before .before .before in
+    let c5 = c3 .before .before in
+    let c7 = c5 .before .before in
+    let c8 = c7 .before in
+    let c12 = c8 .before .before .before .before in
+    let start = c12 in
+    let l = c8 .loop in
+    sym (l .inv .1 ∙ factors-differ _ _ _ _ _ _ _ (start .pre) (c7 .loop-test .taken) (sym (c5 .wide-column .ensures .0) ∙ c3 .if1 .left) (not-true _ (c .if2 .taken)))
 
 loop-again : tie.Need-loop-again Inv-loop μ-loop
 unfolding ne
 loop-again c =
-    let start = c .before .before .before .before .before .before .before .before .before .before .before .before in
-    let l = c .before .before .before .before .before .before .before .before .loop in
-    (search needs, l .inv .1 ∙ same-next _ _ _ _ _ _ _ (start .pre) (c .before .before .before .before .before .before .before .loop-test .taken) (sym (c .before .before .before .before .before .wide-column .ensures .0) ∙ c .before .before .before .if1 .left) (not-false _ (c .if2 .left)))
+    let c3 = c .before .before .before in
+    let c5 = c3 .before .before in
+    let c7 = c5 .before .before in
+    let c8 = c7 .before in
+    let c12 = c8 .before .before .before .before in
+    let start = c12 in
+    let l = c8 .loop in
+    (search needs, l .inv .1 ∙ same-next _ _ _ _ _ _ _ (start .pre) (c7 .loop-test .taken) (sym (c5 .wide-column .ensures .0) ∙ c3 .if1 .left) (not-false _ (c .if2 .left)))
 
 returns-3 : tie.Need-returns-3 Inv-loop μ-loop
 returns-3 c =

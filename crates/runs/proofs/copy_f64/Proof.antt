@@ -20,7 +20,10 @@ loop-holds c =
 
 loop-again : tie.Need-loop-again Inv-loop μ-loop
 loop-again c =
-    more _ _ _ _ _ _ _ nan (c .before .loop-test .taken) (part-at (c .before .before .before .args .s .now) (c .before .before .before .args .at) (c .before .before .before .args .n) (c .before .before .loop .i) nan (c .before .loop-test .taken)) (c .before .before .loop .inv)
+    let c1 = c .before in
+    let c2 = c1 .before in
+    let c3 = c2 .before in
+    more _ _ _ _ _ _ _ nan (c1 .loop-test .taken) (part-at (c3 .args .s .now) (c3 .args .at) (c3 .args .n) (c2 .loop .i) nan (c1 .loop-test .taken)) (c2 .loop .inv)
 
 same-length : tie.Need-same-length Inv-loop μ-loop
 same-length c =

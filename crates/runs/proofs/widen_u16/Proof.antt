@@ -20,7 +20,10 @@ loop-holds c =
 
 loop-again : tie.Need-loop-again Inv-loop μ-loop
 loop-again c =
-    more _ _ _ _ _ _ _ 0 (c .before .before .loop-test .taken) (part-at (c .before .before .before .before .before .before .args .s .now) (c .before .before .before .before .before .before .args .at) (c .before .before .before .before .before .before .args .n) (c .before .before .before .loop .i) 0 (c .before .before .loop-test .taken) ∙ sym (c .wide .ensures .0)) (c .before .before .before .loop .inv)
+    let c2 = c .before .before in
+    let c3 = c2 .before in
+    let c6 = c3 .before .before .before in
+    more _ _ _ _ _ _ _ 0 (c2 .loop-test .taken) (part-at (c6 .args .s .now) (c6 .args .at) (c6 .args .n) (c3 .loop .i) 0 (c2 .loop-test .taken) ∙ sym (c .wide .ensures .0)) (c3 .loop .inv)
 
 same-length : tie.Need-same-length Inv-loop μ-loop
 same-length c =

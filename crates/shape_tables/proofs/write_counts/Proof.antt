@@ -54,7 +54,17 @@ same-length c =
 returns : tie.Need-returns
 unfolding counts
 returns c =
-    rw (c .before .before .before .before .before .before .before .before .before .before .before .sentinel-word .ensures, c .before .before .before .before .before .before .before .before .before .before .narrow .ensures, c .before .before .before .before .before .before .before .before .before .narrow2 .ensures, c .before .before .before .before .before .before .before .before .narrow3 .ensures, c .before .before .before .before .before .before .before .narrow4 .ensures, c .before .before .before .before .before .before .narrow5 .ensures, c .before .before .before .before .narrow6 .ensures, c .before .before .before .narrow7 .ensures, c .before .before .narrow8 .ensures, c .before .narrow9 .ensures, c .narrow10 .ensures)
+    let c1 = c .before in
+    let c2 = c1 .before in
+    let c3 = c2 .before in
+    let c4 = c3 .before in
+    let c6 = c4 .before .before in
+    let c7 = c6 .before in
+    let c8 = c7 .before in
+    let c9 = c8 .before in
+    let c10 = c9 .before in
+    let c11 = c10 .before in
+    rw (c11 .sentinel-word .ensures, c10 .narrow .ensures, c9 .narrow2 .ensures, c8 .narrow3 .ensures, c7 .narrow4 .ensures, c6 .narrow5 .ensures, c4 .narrow6 .ensures, c3 .narrow7 .ensures, c2 .narrow8 .ensures, c1 .narrow9 .ensures, c .narrow10 .ensures)
 
 pub write-counts-spec : {M : Type 1} → statement M
 write-counts-spec =

@@ -45,8 +45,14 @@ slice-write-words-3 c =
 
 loop-again : tie.Need-loop-again Inv-loop μ-loop
 loop-again c =
-    let e = c .before .before .before .narrow .ensures in
-    edges-more _ _ _ _ _ _ _ _ _ _ (c .before .before .before .before .loop-test .taken) (c .before .before .from-node-index .ensures ∙ ap (λ (k : ℕ). edgeAt (c .before .before .before .before .before .before .before .before .args .s .now) (20 * c .before .before .before .before .before .before .before .before .args .nodes + 6 * k) .from) e) (c .before .to-node-index .ensures ∙ ap (λ (k : ℕ). edgeAt (c .before .before .before .before .before .before .before .before .args .s .now) (20 * c .before .before .before .before .before .before .before .before .args .nodes + 6 * k) .to) e) refl (c .before .before .before .before .before .loop .inv)
+    let c1 = c .before in
+    let c2 = c1 .before in
+    let c3 = c2 .before in
+    let c4 = c3 .before in
+    let c5 = c4 .before in
+    let c8 = c5 .before .before .before in
+    let e = c3 .narrow .ensures in
+    edges-more _ _ _ _ _ _ _ _ _ _ (c4 .loop-test .taken) (c2 .from-node-index .ensures ∙ ap (λ (k : ℕ). edgeAt (c8 .args .s .now) (20 * c8 .args .nodes + 6 * k) .from) e) (c1 .to-node-index .ensures ∙ ap (λ (k : ℕ). edgeAt (c8 .args .s .now) (20 * c8 .args .nodes + 6 * k) .to) e) refl (c5 .loop .inv)
 
 same-length : tie.Need-same-length Inv-loop μ-loop
 same-length c =

@@ -34,21 +34,39 @@ is-constant-requires c κs =
 
 slice-write-words-2 : tie.Need-slice-write-words-2 Inv-loop μ-loop
 slice-write-words-2 c =
-    simp length-set (omega (arith, c .before .before .before .before .before .before .loop .inv .long, c .before .before .before .before .before .before .before .before .before .pre .0, c .before .before .before .before .before .before .before .before .before .pre .2))
+    let c6 = c .before .before .before .before .before .before in
+    let c9 = c6 .before .before .before in
+    simp length-set (omega (arith, c6 .loop .inv .long, c9 .pre .0, c9 .pre .2))
 
 loop-again : tie.Need-loop-again Inv-loop μ-loop
 loop-again c =
-    let e = c .before .before .before .before .narrow .ensures in
-    nodes-more _ _ _ _ _ _ _ (c .before .before .before .before .before .loop-test .taken) (c .before .before .word .ensures ∙ c .before .before .before .kind .ensures ∙ ap (λ (k : ℕ). nodeAt (c .before .before .before .before .before .before .before .before .before .args .s .now) (20 * k) .kind) e) (flag-yes _ (sym (c .before .is-constant .ensures ∙ ap (λ (k : ℕ). nodeAt (c .before .before .before .before .before .before .before .before .before .args .s .now) (20 * k) .constant) e) ∙ c .if1 .taken)) (c .before .before .before .before .before .before .loop .inv)
+    let c1 = c .before in
+    let c2 = c1 .before in
+    let c3 = c2 .before in
+    let c4 = c3 .before in
+    let c5 = c4 .before in
+    let c6 = c5 .before in
+    let c9 = c6 .before .before .before in
+    let e = c4 .narrow .ensures in
+    nodes-more _ _ _ _ _ _ _ (c5 .loop-test .taken) (c2 .word .ensures ∙ c3 .kind .ensures ∙ ap (λ (k : ℕ). nodeAt (c9 .args .s .now) (20 * k) .kind) e) (flag-yes _ (sym (c1 .is-constant .ensures ∙ ap (λ (k : ℕ). nodeAt (c9 .args .s .now) (20 * k) .constant) e) ∙ c .if1 .taken)) (c6 .loop .inv)
 
 slice-write-words-3 : tie.Need-slice-write-words-3 Inv-loop μ-loop
 slice-write-words-3 c =
-    simp length-set (omega (arith, c .before .before .before .before .before .before .loop .inv .long, c .before .before .before .before .before .before .before .before .before .pre .0, c .before .before .before .before .before .before .before .before .before .pre .2))
+    let c6 = c .before .before .before .before .before .before in
+    let c9 = c6 .before .before .before in
+    simp length-set (omega (arith, c6 .loop .inv .long, c9 .pre .0, c9 .pre .2))
 
 loop-again-2 : tie.Need-loop-again-2 Inv-loop μ-loop
 loop-again-2 c =
-    let e = c .before .before .before .before .narrow .ensures in
-    nodes-more _ _ _ _ _ _ _ (c .before .before .before .before .before .loop-test .taken) (c .before .before .word .ensures ∙ c .before .before .before .kind .ensures ∙ ap (λ (k : ℕ). nodeAt (c .before .before .before .before .before .before .before .before .before .args .s .now) (20 * k) .kind) e) (flag-no _ (sym (c .before .is-constant .ensures ∙ ap (λ (k : ℕ). nodeAt (c .before .before .before .before .before .before .before .before .before .args .s .now) (20 * k) .constant) e) ∙ c .if1 .left)) (c .before .before .before .before .before .before .loop .inv)
+    let c1 = c .before in
+    let c2 = c1 .before in
+    let c3 = c2 .before in
+    let c4 = c3 .before in
+    let c5 = c4 .before in
+    let c6 = c5 .before in
+    let c9 = c6 .before .before .before in
+    let e = c4 .narrow .ensures in
+    nodes-more _ _ _ _ _ _ _ (c5 .loop-test .taken) (c2 .word .ensures ∙ c3 .kind .ensures ∙ ap (λ (k : ℕ). nodeAt (c9 .args .s .now) (20 * k) .kind) e) (flag-no _ (sym (c1 .is-constant .ensures ∙ ap (λ (k : ℕ). nodeAt (c9 .args .s .now) (20 * k) .constant) e) ∙ c .if1 .left)) (c6 .loop .inv)
 
 same-length : tie.Need-same-length Inv-loop μ-loop
 same-length c =

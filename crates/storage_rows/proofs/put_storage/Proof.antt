@@ -33,8 +33,13 @@ same-length c =
 
 returns : tie.Need-returns
 returns c =
-    let a = c .before .before .before .before .before .before .args in
-    entry-written (a .words .now) (a .at) _ _ _ _ _ _ (periodOf (a .period)) (c .before .before .before .before .period-word .ensures) (c .before .before .before .date-word .ensures) (c .before .before .date-word2 .ensures) (c .before .date-word3 .ensures) (c .date-word4 .ensures)
+    let c1 = c .before in
+    let c2 = c1 .before in
+    let c3 = c2 .before in
+    let c4 = c3 .before in
+    let c6 = c4 .before .before in
+    let a = c6 .args in
+    entry-written (a .words .now) (a .at) _ _ _ _ _ _ (periodOf (a .period)) (c4 .period-word .ensures) (c3 .date-word .ensures) (c2 .date-word2 .ensures) (c1 .date-word3 .ensures) (c .date-word4 .ensures)
 
 pub put-storage-spec : {M : Type 1} → statement M
 put-storage-spec =

@@ -44,10 +44,17 @@ add-node-requires c κs =
 
 loop-again : tie.Need-loop-again Inv-loop μ-loop
 loop-again c =
-    let t = c .before .before .before .before .before .before .before .before .before .before .before .before in
-    let l = c .before .before .before .before .before .before .before .before .loop in
-    let lt : l .k < byte (t .args .s .now) (t .args .at + 7) = omega (arith, c .before .before .before .before .before .before .before .before .before .part-count .ensures .0, c .before .before .before .before .before .before .before .loop-test .taken) in
-    (parts-more _ (t .args .c) _ _ _ _ _ (l .inv .0) _ _ _ _ _ lt (c .before .before .before .before .before .before .part-node .ensures) (c .before .before .before .before .before .part-factor .ensures) (c .before .before .add-node .ensures), c .before .before .add-node .kept .1 .1 .1 .1 .1 .1 .1 .1 .1 .1 .0 ∙ l .inv .1)
+    let c2 = c .before .before in
+    let c5 = c2 .before .before .before in
+    let c6 = c5 .before in
+    let c7 = c6 .before in
+    let c8 = c7 .before in
+    let c9 = c8 .before in
+    let c12 = c9 .before .before .before in
+    let t = c12 in
+    let l = c8 .loop in
+    let lt : l .k < byte (t .args .s .now) (t .args .at + 7) = omega (arith, c9 .part-count .ensures .0, c7 .loop-test .taken) in
+    (parts-more _ (t .args .c) _ _ _ _ _ (l .inv .0) _ _ _ _ _ lt (c6 .part-node .ensures) (c5 .part-factor .ensures) (c2 .add-node .ensures), c2 .add-node .kept .1 .1 .1 .1 .1 .1 .1 .1 .1 .1 .0 ∙ l .inv .1)
 
 same-length : tie.Need-same-length Inv-loop μ-loop
 same-length c =

@@ -53,7 +53,10 @@ well-shaped-requires c κs =
 
 returns-2 : tie.Need-returns-2
 returns-2 c =
-    misshapen (room (c .before .before)) (sym (c .before .well-shaped .ensures (store (c .before .before .before .before .before .before .before .before .before .before .before .before .before)) refl refl refl) ∙ not-true (c .before .well-shaped .result) (c .if2 .taken))
+    let c1 = c .before in
+    let c2 = c1 .before in
+    let c13 = c2 .before .before .before .before .before .before .before .before .before .before .before in
+    misshapen (room (c2)) (sym (c1 .well-shaped .ensures (store (c13)) refl refl refl) ∙ not-true (c1 .well-shaped .result) (c .if2 .taken))
 
 row-count-requires : tie.Need-row-count-requires
 row-count-requires c κs =
@@ -85,7 +88,12 @@ shared-slice-read-wide-start-2 c =
 
 returns-4 : tie.Need-returns-4
 returns-4 c =
-    rw (c .before .before .wide-start .ensures .0, c .wide-start2 .ensures .0) (row-part (room (c .before .before .before .before .before .before .before .before)) (shape-fits (c .before .before .before .before .before .before)) (omega (arith, c .before .before .before .before .before .row-count .ensures, c .before .before .before .before .if3 .left)))
+    let c2 = c .before .before in
+    let c4 = c2 .before .before in
+    let c5 = c4 .before in
+    let c6 = c5 .before in
+    let c8 = c6 .before .before in
+    rw (c2 .wide-start .ensures .0, c .wide-start2 .ensures .0) (row-part (room (c8)) (shape-fits (c6)) (omega (arith, c5 .row-count .ensures, c4 .if3 .left)))
 
 pub row-answer-spec : {M : Type 1} → statement M
 row-answer-spec =

@@ -78,10 +78,18 @@ storages-fit-requires c κs =
 returns-3 : tie.Need-returns-3
 unfolding wellShaped
 returns-3 c =
+    let c1 = c .before in
+    let c2 = c1 .before in
+    let c3 = c2 .before in
+    let c4 = c3 .before in
+    let c5 = c4 .before in
+    let c6 = c5 .before in
+    let c7 = c6 .before in
+    let c8 = c7 .before in
     λ s ec er es.
-    let at-starts = (c .before .before .before .before .before .before .before) in
-    let at-columns = (c .before .before .before .before .before) in
-    rw (counts-and-sentinel (c .before .before .before .before .before .before .before .before) s es, sym (at-starts .starts-rise .ensures s er es) ∙ not-false (at-starts .starts-rise .result) (c .before .before .before .before .before .before .if2 .left), at-columns .columns-rise .ensures s ec er es, c .before .before .before .before .nodes-fit .ensures s es, c .before .before .before .edges-fit .ensures s es, c .before .before .node-rows-fit .ensures s ec er es, c .before .aggregates-fit .ensures s es, c .storages-fit .ensures s es)
+    let at-starts = (c7) in
+    let at-columns = (c5) in
+    rw (counts-and-sentinel (c8) s es, sym (at-starts .starts-rise .ensures s er es) ∙ not-false (at-starts .starts-rise .result) (c6 .if2 .left), at-columns .columns-rise .ensures s ec er es, c4 .nodes-fit .ensures s es, c3 .edges-fit .ensures s es, c2 .node-rows-fit .ensures s ec er es, c1 .aggregates-fit .ensures s es, c .storages-fit .ensures s es)
 
 pub well-shaped-spec : {M : Type 1} → statement M
 well-shaped-spec =

@@ -56,18 +56,28 @@ returns-5 c =
 
 row-holds-requires : tie.Need-row-holds-requires
 row-holds-requires c κs =
-    omega (arith, start-under (c .before .before .before .before .before .before .before .before .before .before .before .before .before .before .before .before .before .before .before .before .before .pre .0 .starts) (c .before .before .before .before .before .wide .result + 1) (omega arith))
+    let c5 = c .before .before .before .before .before in
+    let c21 = c5 .before .before .before .before .before .before .before .before .before .before .before .before .before .before .before .before in
+    omega (arith, start-under (c21 .pre .0 .starts) (c5 .wide .result + 1) (omega arith))
 
 returns-6 : tie.Need-returns-6
 unfolding nodeRowFits columnsOfRow
 returns-6 c =
+    let c2 = c .before .before in
+    let c4 = c2 .before .before in
+    let c6 = c4 .before .before in
+    let c7 = c6 .before in
+    let c9 = c7 .before .before in
+    let c10 = c9 .before in
+    let c11 = c10 .before in
+    let c13 = c11 .before .before in
     λ s ec er es.
-    let i1 = c .before .before .before .before .before .before .before .before .before .before .before .before .before .if1 in
-    let i2 = c .before .before .before .before .before .before .before .before .before .before .before .if2 in
-    let i3 = c .before .before .before .before .before .before .before .before .before .before .if3 in
-    let i4 = c .before .before .before .before .before .before .before .before .before .if4 in
-    let i5 = c .before .before .before .before .before .before .before .if5 in
-    rw (ec, er, es, lt-ltb _ _ (i1 .left), lt-ltb _ _ (i2 .left), le-leb _ _ (i3 .left), ne-eqb _ _ (i4 .left), lt-ltb _ _ (i5 .left), c .row-holds .ensures, c .before .before .before .before .wide-start .ensures .0, c .before .before .wide-start2 .ensures .0, c .before .before .before .before .before .before .wide .ensures .0)
+    let i1 = c13 .if1 in
+    let i2 = c11 .if2 in
+    let i3 = c10 .if3 in
+    let i4 = c9 .if4 in
+    let i5 = c7 .if5 in
+    rw (ec, er, es, lt-ltb _ _ (i1 .left), lt-ltb _ _ (i2 .left), le-leb _ _ (i3 .left), ne-eqb _ _ (i4 .left), lt-ltb _ _ (i5 .left), c .row-holds .ensures, c4 .wide-start .ensures .0, c2 .wide-start2 .ensures .0, c6 .wide .ensures .0)
 
 pub node-row-fits-spec : {M : Type 1} → statement M
 node-row-fits-spec =

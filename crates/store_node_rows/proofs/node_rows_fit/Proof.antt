@@ -27,7 +27,11 @@ loop-again c =
 returns : tie.Need-returns Inv-loop μ-loop
 unfolding nodeRowFits columnsOfRow
 returns c =
-    λ s ec er es. rw (ec, er, es, ← (c .before .before .before .before .wide .ensures .0)) (tested-fail (c .before .before .before .loop .inv) (c .before .before .loop-test .taken) (sym (c .before .node-row-fits .ensures (ofRuns _ _ _) refl refl refl) ∙ c .if1 .left))
+    let c1 = c .before in
+    let c2 = c1 .before in
+    let c3 = c2 .before in
+    let c4 = c3 .before in
+    λ s ec er es. rw (ec, er, es, ← (c4 .wide .ensures .0)) (tested-fail (c3 .loop .inv) (c2 .loop-test .taken) (sym (c1 .node-row-fits .ensures (ofRuns _ _ _) refl refl refl) ∙ c .if1 .left))
 
 returns-2 : tie.Need-returns-2 Inv-loop μ-loop
 unfolding nodeRowFits columnsOfRow

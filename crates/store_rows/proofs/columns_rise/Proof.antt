@@ -17,7 +17,12 @@ start-falls-requires c κs =
 returns : tie.Need-returns
 unfolding rowColumnsRise columnsOfRow
 returns c =
-    λ s ec er es. rw (ec, er, es, c .before .before .before .columns-under .ensures, c .before .before .falls .ensures, c .start-falls .ensures, c .before .before .before .before .before .before .wide .ensures .0, c .before .row-count .ensures) (sym (rising _ _ (c .before .before .before .before .before .before .before .before .before .before .before .pre .starts) (search needs)))
+    let c1 = c .before in
+    let c2 = c1 .before in
+    let c3 = c2 .before in
+    let c6 = c3 .before .before .before in
+    let c11 = c6 .before .before .before .before .before in
+    λ s ec er es. rw (ec, er, es, c3 .columns-under .ensures, c2 .falls .ensures, c .start-falls .ensures, c6 .wide .ensures .0, c1 .row-count .ensures) (sym (rising _ _ (c11 .pre .starts) (search needs)))
 
 pub columns-rise-spec : {M : Type 1} → statement M
 columns-rise-spec =

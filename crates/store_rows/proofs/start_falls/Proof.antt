@@ -24,7 +24,11 @@ start-fall-requires c κs =
 loop-again : tie.Need-loop-again Inv-loop μ-loop
 unfolding rowFall
 loop-again c =
-    (search needs, summed-more (c .before .before .before .before .before .before .loop .inv .1) _ (c .start-fall .ensures .0 ∙ rw (c .before .before .before .wide-start .ensures .0, c .before .wide-start2 .ensures .0)) (c .start-fall .ensures .1) (c .before .before .before .before .before .loop-test .taken))
+    let c1 = c .before in
+    let c3 = c1 .before .before in
+    let c5 = c3 .before .before in
+    let c6 = c5 .before in
+    (search needs, summed-more (c6 .loop .inv .1) _ (c .start-fall .ensures .0 ∙ rw (c3 .wide-start .ensures .0, c1 .wide-start2 .ensures .0)) (c .start-fall .ensures .1) (c5 .loop-test .taken))
 
 returns : tie.Need-returns Inv-loop μ-loop
 returns c =

@@ -22,7 +22,11 @@ loop-again c =
 
 returns : tie.Need-returns Inv-loop μ-loop
 returns c =
-    λ s er es. rw (starts-same s (ofRuns [] _ _) er es 0, er, es, ← (c .before .before .before .before .before .before .before .row-count .ensures), c .before .before .wide-start .ensures .0, c .wide .ensures .0) (risen-all (c .before .before .before .before .before .loop .inv) (c .before .before .before .before .loop-test .left))
+    let c2 = c .before .before in
+    let c4 = c2 .before .before in
+    let c5 = c4 .before in
+    let c7 = c5 .before .before in
+    λ s er es. rw (starts-same s (ofRuns [] _ _) er es 0, er, es, ← (c7 .row-count .ensures), c2 .wide-start .ensures .0, c .wide .ensures .0) (risen-all (c5 .loop .inv) (c4 .loop-test .left))
 
 pub starts-rise-spec : {M : Type 1} → statement M
 starts-rise-spec =

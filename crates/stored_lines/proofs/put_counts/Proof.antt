@@ -5,7 +5,13 @@ use Rattle.stored_lines.proofs.put_counts.Tie as tie
 
 returns : tie.Need-returns
 returns c =
-    (λ s e. rw (e, ← (c .before .before .before .before .before .before .before .before .word .ensures .0), ← (c .before .before .before .before .before .before .before .word2 .ensures .0), ← (c .before .before .before .before .before .before .word3 .ensures .0), ← (c .before .before .before .before .before .word4 .ensures .0), ← (c .before .before .before .before .word5 .ensures .0)) (c .before .before .put-programme .ensures .put), c .before .before .put-programme .ensures .end)
+    let c2 = c .before .before in
+    let c4 = c2 .before .before in
+    let c5 = c4 .before in
+    let c6 = c5 .before in
+    let c7 = c6 .before in
+    let c8 = c7 .before in
+    (λ s e. rw (e, ← (c8 .word .ensures .0), ← (c7 .word2 .ensures .0), ← (c6 .word3 .ensures .0), ← (c5 .word4 .ensures .0), ← (c4 .word5 .ensures .0)) (c2 .put-programme .ensures .put), c2 .put-programme .ensures .end)
 
 pub put-counts-spec : {M : Type 1} → statement M
 put-counts-spec =

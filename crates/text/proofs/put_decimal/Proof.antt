@@ -16,11 +16,14 @@ put-all-requires c κs =
 
 returns : tie.Need-returns
 returns c =
+    let c2 = c .before .before in
+    let c5 = c2 .before .before .before in
+    let c8 = c5 .before .before .before in
     record {
-      places = c .before .before .before .before .before .decimal .result;
-      few = few 10 1 (c .before .before .before .before .before .before .before .before .args .n) (c .before .before .before .before .before .decimal .result) 20 (lit< tt) (omega arith) (lit≤ tt) (c .before .before .before .before .before .decimal .ensures .1 .0);
-      fewest = c .before .before .before .before .before .decimal .ensures .1 .0;
-      put = put-as (c .before .before .before .before .before .decimal .ensures .1 .1) (c .before .before .put-all .ensures);
+      places = c5 .decimal .result;
+      few = few 10 1 (c8 .args .n) (c5 .decimal .result) 20 (lit< tt) (omega arith) (lit≤ tt) (c5 .decimal .ensures .1 .0);
+      fewest = c5 .decimal .ensures .1 .0;
+      put = put-as (c5 .decimal .ensures .1 .1) (c2 .put-all .ensures);
     }
 
 pub put-decimal-spec : {M : Type 1} → statement M

@@ -17,16 +17,27 @@ returns c =
 returns-2 : tie.Need-returns-2
 unfolding zero64 ofBits
 returns-2 c =
-    let s = c .before .before .before .before .before .before .before .before .before .before .before .before .before .before .before .before .before .args .sentinel in
+    let c1 = c .before in
+    let c7 = c1 .before .before .before .before .before .before in
+    let c8 = c7 .before in
+    let c11 = c8 .before .before .before in
+    let c12 = c11 .before in
+    let c17 = c12 .before .before .before .before .before in
+    let s = c17 .args .sentinel in
     λ rows held.
-    row-new s rows _ _ _ _ _ held (c .before .before .before .before .before .before .before .before .before .before .before .before .position .ensures (map (freshRow s) rows) held) _ _ _ _ _ (c .before .before .before .before .before .before .before .before .before .before .before .if1 .left) refl (c .before .before .before .before .before .before .before .before .high .ensures) (c .before .before .before .before .before .before .before .add-fixed-row .ensures (map (freshRow s) rows) held) _ (c .before .r .given .1)
+    row-new s rows _ _ _ _ _ held (c12 .position .ensures (map (freshRow s) rows) held) _ _ _ _ _ (c11 .if1 .left) refl (c8 .high .ensures) (c7 .add-fixed-row .ensures (map (freshRow s) rows) held) _ (c1 .r .given .1)
 
 returns-3 : tie.Need-returns-3
 unfolding zero64 ofBits
 returns-3 c =
-    let s = c .before .before .before .before .before .before .before .before .before .before .before .before .before .before .before .before .args .sentinel in
+    let c6 = c .before .before .before .before .before .before in
+    let c7 = c6 .before in
+    let c10 = c7 .before .before .before in
+    let c11 = c10 .before in
+    let c16 = c11 .before .before .before .before .before in
+    let s = c16 .args .sentinel in
     λ rows held.
-    row-full s rows _ _ _ _ _ held (c .before .before .before .before .before .before .before .before .before .before .before .position .ensures (map (freshRow s) rows) held) _ _ _ _ _ (c .before .before .before .before .before .before .before .before .before .before .if1 .left) refl (c .before .before .before .before .before .before .before .high .ensures) (c .before .before .before .before .before .before .add-fixed-row .ensures (map (freshRow s) rows) held) (c .enum-told .given .1)
+    row-full s rows _ _ _ _ _ held (c11 .position .ensures (map (freshRow s) rows) held) _ _ _ _ _ (c10 .if1 .left) refl (c7 .high .ensures) (c6 .add-fixed-row .ensures (map (freshRow s) rows) held) (c .enum-told .given .1)
 
 pub add-variable-row-spec : {M : Type 1} → statement M
 add-variable-row-spec =

@@ -35,7 +35,13 @@ add-check-factor c =
 returns-2 : tie.Need-returns-2 Inv-loop μ-loop
 unfolding checkPart
 returns-2 c =
-    (sym (c .before .before .before .before .before .before .before .before .loop .inv .1 ∙ each-refused _ _ _ _ _ _ (c .before .before .before .before .before .before .before .loop-test .taken) (rw (← (c .before .before .before .before .before .before .node-field .ensures), c .before .before .before .before .enum-told .given .1, ← (c .before .before .before .check-factor .ensures), c .before .r .given .1))), tt)
+    let c1 = c .before in
+    let c3 = c1 .before .before in
+    let c4 = c3 .before in
+    let c6 = c4 .before .before in
+    let c7 = c6 .before in
+    let c8 = c7 .before in
+    (sym (c8 .loop .inv .1 ∙ each-refused _ _ _ _ _ _ (c7 .loop-test .taken) (rw (← (c6 .node-field .ensures), c4 .enum-told .given .1, ← (c3 .check-factor .ensures), c1 .r .given .1))), tt)
 
 add-here : tie.Need-add-here Inv-loop μ-loop
 add-here c =

@@ -24,12 +24,24 @@ returns-2 c =
 returns-3 : tie.Need-returns-3
 unfolding checkVirtualStorage
 returns-3 c =
-    (rw (← (c .before .before .before .before .before .before .before .before .before .before .byte-field .ensures), c .before .before .before .before .before .before .before .before .k2 .given .1, ← (c .before .before .before .before .before .before .check-dates .ensures), c .before .before .before .before .enum-told .given .1, ← (c .before .before .before .byte-field2 .ensures), c .before .c .given .1), tt)
+    let c1 = c .before in
+    let c3 = c1 .before .before in
+    let c4 = c3 .before in
+    let c6 = c4 .before .before in
+    let c8 = c6 .before .before in
+    let c10 = c8 .before .before in
+    (rw (← (c10 .byte-field .ensures), c8 .k2 .given .1, ← (c6 .check-dates .ensures), c4 .enum-told .given .1, ← (c3 .byte-field2 .ensures), c1 .c .given .1), tt)
 
 returns-4 : tie.Need-returns-4
 unfolding checkVirtualStorage
 returns-4 c =
-    (rw (← (c .before .before .before .before .before .before .before .before .before .before .before .byte-field .ensures), c .before .before .before .before .before .before .before .before .before .k2 .given .1, ← (c .before .before .before .before .before .before .before .check-dates .ensures), c .before .before .before .before .before .enum-told .given .1, ← (c .before .before .before .before .byte-field2 .ensures), c .before .before .c2 .given .1) (c .check-parts .ensures .0), c .check-parts .ensures .1)
+    let c2 = c .before .before in
+    let c4 = c2 .before .before in
+    let c5 = c4 .before in
+    let c7 = c5 .before .before in
+    let c9 = c7 .before .before in
+    let c11 = c9 .before .before in
+    (rw (← (c11 .byte-field .ensures), c9 .k2 .given .1, ← (c7 .check-dates .ensures), c5 .enum-told .given .1, ← (c4 .byte-field2 .ensures), c2 .c2 .given .1) (c .check-parts .ensures .0), c .check-parts .ensures .1)
 
 pub check-virtual-storage-spec : {M : Type 1} → statement M
 check-virtual-storage-spec =
