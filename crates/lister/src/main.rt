@@ -30,18 +30,22 @@ fn list(file: &[u8]) {
         &mut numbers,
     );
     match answer {
-        Answer::Refused(number, place) => listing::list_refusal(number, place),
-        Answer::Accepted => listing::list_programme(
-            &col_lower,
-            &col_upper,
-            &col_obj_coef,
-            &row_lower,
-            &row_upper,
-            &elements,
-            &columns,
-            &row_starts,
-            &shape,
-        ),
+        Answer::Refused(number, place) => {
+            listing::list_refusal(number, place);
+        }
+        Answer::Accepted => {
+            listing::list_programme(
+                &col_lower,
+                &col_upper,
+                &col_obj_coef,
+                &row_lower,
+                &row_upper,
+                &elements,
+                &columns,
+                &row_starts,
+                &shape,
+            );
+        }
     }
 }
 

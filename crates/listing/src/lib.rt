@@ -1,6 +1,7 @@
 // A stored programme written on standard output, one item a line; the line of a refusal; the line of a step.
-// What stands in each line is proved, in `listing_lines` and `stored_lines`; `write_refusal` and `write_step` say what they hand to `io`.
-// That the lines go out, in turn and once each, is not stated: output is outside the logic, and no contract of `io` says which bytes are written.
+// What stands in each line is proved, in `listing_lines` and `stored_lines`; the functions here answer how many bytes they hand to standard output.
+// That the bytes go out is not stated: output is outside the logic, and no contract of `io` says which bytes are written.
+use row_listing::Listed;
 use row_listing::least;
 use row_listing::list_rows;
 use row_listing::spare;
@@ -9,10 +10,22 @@ use store_shape::SET_COUNT;
 use stored_lines::put_counts;
 use stored_lines::put_stored_column;
 use stored_lines::word;
-ghost use Prim.Native.Nat.{_+_, _<_, _≤_};
-ghost use lib.ListN.{length};
+ghost use mathlib.Core.Path.{_≡_};
+ghost use Prim.Native.Nat.{_+_, _<_, _≤_, _^_, min};
+ghost use lib.ListN.{length, getD};
+ghost use Rattle.pywr.specs.Store.{Store};
 ghost use Rattle.listing_fields.specs.Fields.{PutWithin};
 ghost use Rattle.listing_lines.specs.Lines.{refusalLine, stepLine};
+ghost use Rattle.listing.specs.Listing.{columnsText, listedColumns, programmeText};
+
+// How many columns are listed of a store whose runs have these lengths.
+fn listed_columns(shape: &[u16], lower: usize, upper: usize, cost: usize) -> usize
+    ensures { λ r. ⌜ (r ≡ min (min (getD (now (shape .entry)) 3 0 + getD (now (shape .entry)) 4 0) lower) (min upper cost))
+        × (r ≤ lower) × (r ≤ upper) × (r ≤ cost) × (r < 131072) ⌝ }
+{
+    let columns = word(shape, EDGE_COLUMN_COUNT) + word(shape, SET_COUNT);
+    least(least(columns, lower), least(upper, cost))
+}
 
 fn list_columns(
     out: &mut [u8],
@@ -21,24 +34,23 @@ fn list_columns(
     col_upper: &[f64],
     col_obj_coef: &[f64],
     shape: &[u16],
-) -> usize
+) -> Listed
     requires { ⌜ (128 ≤ length (now out)) × (from ≤ length (now out)) ⌝ }
-    ensures { λ r. ⌜ r ≤ length (now (out .entry)) ⌝ }
+    ensures { λ r. ⌜ ((s : Store) → s .colLower ≡ now («col_lower» .entry) → s .colUpper ≡ now («col_upper» .entry)
+        → s .colObjCoef ≡ now («col_obj_coef» .entry) → s .shape ≡ now (shape .entry) → r .bytes ≡ length (columnsText s (listedColumns s)))
+        × (r .at ≤ length (now (out .entry))) × (r .bytes < 2 ^ 24) ⌝ }
 {
-    let a = least(
-        word(shape, EDGE_COLUMN_COUNT) + word(shape, SET_COUNT),
-        col_lower.len(),
-    );
-    let b = least(a, col_upper.len());
-    let end = least(b, col_obj_coef.len());
+    let end = listed_columns(shape, col_lower.len(), col_upper.len(), col_obj_coef.len());
     let mut at = from;
+    let mut bytes: usize = 0;
     let mut i: usize = 0;
     while i < end {
         let start = spare(out, at);
         at = put_stored_column(out, start, col_lower, col_upper, col_obj_coef, shape, i);
+        bytes += at - start;
         i += 1;
     }
-    at
+    Listed { at, bytes }
 }
 
 fn list(
@@ -52,14 +64,25 @@ fn list(
     columns: &[u16],
     row_starts: &[u32],
     shape: &[u16],
-)
+) -> usize
     requires { ⌜ 128 ≤ length (now out) ⌝ }
+    ensures { λ r. ⌜ r ≡ length (programmeText (record {
+      colLower = now («col_lower» .entry);
+      colUpper = now («col_upper» .entry);
+      colObjCoef = now («col_obj_coef» .entry);
+      rowLower = now («row_lower» .entry);
+      rowUpper = now («row_upper» .entry);
+      elements = now (elements .entry);
+      columns = now (columns .entry);
+      rowStarts = now («row_starts» .entry);
+      shape = now (shape .entry);
+    })) ⌝ }
 {
-    let a = put_counts(out, 0, shape);
-    let b = list_columns(out, a, col_lower, col_upper, col_obj_coef, shape);
-    let end = list_rows(
+    let counts = put_counts(out, 0, shape);
+    let listed = list_columns(out, counts, col_lower, col_upper, col_obj_coef, shape);
+    let rows = list_rows(
         out,
-        b,
+        listed.at,
         row_lower,
         row_upper,
         elements,
@@ -67,7 +90,7 @@ fn list(
         row_starts,
         shape,
     );
-    io::write_all(1, &out[0..end]);
+    counts + listed.bytes + rows
 }
 
 // Writes the programme of a store: its P line, its C lines, and each R line with its E lines; of a misshapen store, what its runs hold.
@@ -81,7 +104,19 @@ pub fn list_programme(
     columns: &[u16],
     row_starts: &[u32],
     shape: &[u16],
-) {
+) -> usize
+    ensures { λ r. ⌜ r ≡ length (programmeText (record {
+      colLower = now («col_lower» .entry);
+      colUpper = now («col_upper» .entry);
+      colObjCoef = now («col_obj_coef» .entry);
+      rowLower = now («row_lower» .entry);
+      rowUpper = now («row_upper» .entry);
+      elements = now (elements .entry);
+      columns = now (columns .entry);
+      rowStarts = now («row_starts» .entry);
+      shape = now (shape .entry);
+    })) ⌝ }
+{
     let mut out = io::large_buffer();
     list(
         &mut out,
@@ -94,7 +129,7 @@ pub fn list_programme(
         columns,
         row_starts,
         shape,
-    );
+    )
 }
 
 // Writes the line that stands at the front of the buffer when it returns, and answers its length.
@@ -117,13 +152,17 @@ fn write_step(out: &mut [u8], k: usize) -> usize
 }
 
 // Writes the N line of a refusal.
-pub fn list_refusal(number: u8, place: usize) {
+pub fn list_refusal(number: u8, place: usize) -> usize
+    ensures { λ r. ⌜ r ≡ length (refusalLine number place) ⌝ }
+{
     let mut out = io::buffer();
-    write_refusal(&mut out, number as usize, place);
+    write_refusal(&mut out, number as usize, place)
 }
 
 // Writes the S line of step k, which stands in front of its listing or refusal.
-pub fn list_step(k: usize) {
+pub fn list_step(k: usize) -> usize
+    ensures { λ r. ⌜ r ≡ length (stepLine k) ⌝ }
+{
     let mut out = io::buffer();
-    write_step(&mut out, k);
+    write_step(&mut out, k)
 }

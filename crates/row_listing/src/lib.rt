@@ -1,17 +1,27 @@
 // The rows of a store put into a lent buffer line by line, which is written on standard output where it is full.
-// What stands in each line is proved, in `listing_lines` and `stored_lines`. That the lines go out, in turn and once each, is not stated:
-// output is outside the logic, and no contract of `io` says which bytes are written.
+// What stands in each line is proved, in `listing_lines` and `stored_lines`, and how many bytes the lines have together, here.
+// That the bytes go out is not stated: output is outside the logic, and no contract of `io` says which bytes are written.
 use store_rows::wide_start;
 use store_shape::FIXED_COUNT;
 use store_shape::VARYING_COUNT;
 use store_shape::wide;
 use stored_lines::put_stored_row;
 use stored_lines::word;
-ghost use Prim.Native.Nat.{_+_, _<_, _≤_};
-ghost use lib.ListN.{length};
+ghost use mathlib.Core.Path.{_≡_};
+ghost use Prim.Native.Nat.{_+_, _-_, _*_, _<_, _≤_, _^_, min};
+ghost use lib.ListN.{length, getD};
+ghost use lib.Seq.{slice};
+ghost use Rattle.pywr.specs.Store.{Store, elementsOf};
+ghost use Rattle.row_listing.specs.Rows.{lineAt, elementsText, rowLines, rowsText, listedRows};
+
+// Where the next line goes, and how many bytes were put.
+pub struct Listed {
+    pub at: usize,
+    pub bytes: usize,
+}
 
 pub fn least(a: usize, b: usize) -> usize
-    ensures { λ r. ⌜ (r ≤ a) × (r ≤ b) ⌝ }
+    ensures { λ r. ⌜ (r ≡ min a b) × (r ≤ a) × (r ≤ b) ⌝ }
 {
     if a < b { a } else { b }
 }
@@ -19,7 +29,7 @@ pub fn least(a: usize, b: usize) -> usize
 // Room for a line: writes out what there is where fewer than 128 bytes are left. Answers where the line goes.
 pub fn spare(out: &[u8], at: usize) -> usize
     requires { ⌜ (128 ≤ length (now out)) × (at ≤ length (now out)) ⌝ }
-    ensures { λ r. ⌜ r + 128 ≤ length (now (out .entry)) ⌝ }
+    ensures { λ r. ⌜ (r ≡ lineAt (length (now (out .entry))) at) × (r + 128 ≤ length (now (out .entry))) ⌝ }
 {
     if out.len() - at < 128 {
         io::write_all(1, &out[0..at]);
@@ -35,18 +45,29 @@ fn list_elements(
     elements: &[f64],
     first: usize,
     end: usize,
-) -> usize
-    requires { ⌜ (128 ≤ length (now out)) × (from ≤ length (now out)) × (end ≤ length (now columns)) × (end ≤ length (now elements)) ⌝ }
-    ensures { λ r. ⌜ r ≤ length (now (out .entry)) ⌝ }
+) -> Listed
+    requires { ⌜ (128 ≤ length (now out)) × (from ≤ length (now out)) × (end ≤ length (now columns)) × (end ≤ length (now elements)) × (first ≤ end) × (end < 2 ^ 32) ⌝ }
+    ensures { λ r. ⌜ (r .bytes ≡ length (elementsText (elementsOf (slice first end (now (columns .entry))) (slice first end (now (elements .entry))))))
+        × (r .at ≤ length (now (out .entry))) × (r .bytes ≤ 128 * (end - first)) ⌝ }
 {
     let mut at = from;
+    let mut bytes: usize = 0;
     let mut i = first;
     while i < end {
         let start = spare(out, at);
         at = listing_lines::put_element(out, start, wide(columns[i]), elements[i]);
+        bytes += at - start;
         i += 1;
     }
-    at
+    Listed { at, bytes }
+}
+
+// Where a row starts among the first `most` elements.
+fn start_within(row_starts: &[u32], row: usize, most: usize) -> usize
+    requires { ⌜ row < length (now «row_starts») ⌝ }
+    ensures { λ r. ⌜ (r ≡ min (getD (now («row_starts» .entry)) row 0) most) × (r ≤ most) × (r < 2 ^ 32) ⌝ }
+{
+    least(wide_start(row_starts[row]), most)
 }
 
 // A row and its elements, as far as the runs hold them.
@@ -60,17 +81,36 @@ fn list_row(
     row_starts: &[u32],
     shape: &[u16],
     row: usize,
-) -> usize
+) -> Listed
     requires { ⌜ (at + 128 ≤ length (now out)) × (row < length (now «row_lower»)) × (row < length (now «row_upper»)) × (row + 1 < length (now «row_starts»)) ⌝ }
-    ensures { λ r. ⌜ r ≤ length (now (out .entry)) ⌝ }
+    ensures { λ r. ⌜ ((s : Store) → s .rowLower ≡ now («row_lower» .entry) → s .rowUpper ≡ now («row_upper» .entry) → s .elements ≡ now (elements .entry)
+        → s .columns ≡ now (columns .entry) → s .rowStarts ≡ now («row_starts» .entry) → s .shape ≡ now (shape .entry) → r .bytes ≡ length (rowLines s row))
+        × (r .at ≤ length (now (out .entry))) × (r .bytes ≤ 2 ^ 39) ⌝ }
 {
     let known = least(columns.len(), elements.len());
-    let last = least(wide_start(row_starts[row + 1]), known);
-    let first = least(wide_start(row_starts[row]), last);
+    let last = start_within(row_starts, row + 1, known);
+    let first = start_within(row_starts, row, last);
     let a = put_stored_row(out, at, row_lower, row_upper, shape, row, last - first);
-    list_elements(out, a, columns, elements, first, last)
+    let listed = list_elements(out, a, columns, elements, first, last);
+    Listed {
+        at: listed.at,
+        bytes: a - at + listed.bytes,
+    }
 }
 
+// How many rows are listed of a store whose runs have these lengths.
+fn listed_rows(shape: &[u16], starts: usize, lower: usize, upper: usize) -> usize
+    ensures { λ r. ⌜ (r ≡ min (min (getD (now (shape .entry)) 5 0 + getD (now (shape .entry)) 6 0) (starts - 1)) (min lower upper))
+        × (r ≤ lower) × (r ≤ upper) × (r ≤ starts - 1) × (r < 131072) ⌝ }
+{
+    if starts == 0 {
+        return 0;
+    }
+    let rows = word(shape, VARYING_COUNT) + word(shape, FIXED_COUNT);
+    least(least(rows, starts - 1), least(lower, upper))
+}
+
+// Puts the rows, each with its elements behind it, behind the first `from` bytes, and writes out what is left. Answers how many bytes the rows have.
 pub fn list_rows(
     out: &mut [u8],
     from: usize,
@@ -82,19 +122,17 @@ pub fn list_rows(
     shape: &[u16],
 ) -> usize
     requires { ⌜ (128 ≤ length (now out)) × (from ≤ length (now out)) ⌝ }
-    ensures { λ r. ⌜ r ≤ length (now (out .entry)) ⌝ }
+    ensures { λ r. ⌜ ((s : Store) → s .rowLower ≡ now («row_lower» .entry) → s .rowUpper ≡ now («row_upper» .entry) → s .elements ≡ now (elements .entry)
+        → s .columns ≡ now (columns .entry) → s .rowStarts ≡ now («row_starts» .entry) → s .shape ≡ now (shape .entry) → r ≡ length (rowsText s (listedRows s)))
+        × (r < 2 ^ 57) ⌝ }
 {
-    let a = least(
-        word(shape, VARYING_COUNT) + word(shape, FIXED_COUNT),
-        row_lower.len(),
-    );
-    let b = least(a, row_upper.len());
-    let end = least(b + 1, row_starts.len());
+    let end = listed_rows(shape, row_starts.len(), row_lower.len(), row_upper.len());
     let mut at = from;
+    let mut bytes: usize = 0;
     let mut i: usize = 0;
-    while i + 1 < end {
+    while i < end {
         let start = spare(out, at);
-        at = list_row(
+        let listed = list_row(
             out,
             start,
             row_lower,
@@ -105,7 +143,10 @@ pub fn list_rows(
             shape,
             i,
         );
+        at = listed.at;
+        bytes += listed.bytes;
         i += 1;
     }
-    at
+    io::write_all(1, &out[0..at]);
+    bytes
 }

@@ -21,7 +21,9 @@ fn print_number(n: usize) {
 
 fn print_answer(answer: Answer) {
     match answer {
-        Answer::Refused(number, place) => listing::list_refusal(number, place),
+        Answer::Refused(number, place) => {
+            listing::list_refusal(number, place);
+        }
         Answer::Accepted => {
             io::write_all(1, b"A\n");
         }

@@ -98,18 +98,22 @@ fn run_step(
         &mut work,
     );
     match answer {
-        Answer::Refused(n, place) => listing::list_refusal(n, place),
-        Answer::Accepted => listing::list_programme(
-            col_lower,
-            col_upper,
-            col_obj_coef,
-            row_lower,
-            row_upper,
-            elements,
-            columns,
-            row_starts,
-            shape,
-        ),
+        Answer::Refused(n, place) => {
+            listing::list_refusal(n, place);
+        }
+        Answer::Accepted => {
+            listing::list_programme(
+                col_lower,
+                col_upper,
+                col_obj_coef,
+                row_lower,
+                row_upper,
+                elements,
+                columns,
+                row_starts,
+                shape,
+            );
+        }
     }
 }
 
@@ -221,7 +225,9 @@ fn run(network: usize, end: usize, sentinel: Sentinel)
         &mut numbers,
     );
     match answer {
-        Answer::Refused(number, place) => listing::list_refusal(number, place),
+        Answer::Refused(number, place) => {
+            listing::list_refusal(number, place);
+        }
         Answer::Accepted => run_steps(
             network + 1,
             end,

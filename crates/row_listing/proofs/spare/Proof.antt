@@ -1,0 +1,27 @@
+-- `row_listing::spare` meets its contract. Assumes nothing.
+use native.Mathlib.Omega.{arith}
+use borrow.Author.Needs.{needs}
+use borrow.Author.Tests.{lt-ltb, le-ltb}
+use Rattle.row_listing.specs.Rows.{lineAt}
+use Rattle.row_listing.proofs.spare.Statement.{statement}
+use Rattle.row_listing.proofs.spare.Tie as tie
+
+returns : tie.Need-returns
+unfolding lineAt
+returns c = (simp (lt-ltb _ _ (c .before .before .if1 .taken)), omega arith)
+
+returns-2 : tie.Need-returns-2
+unfolding lineAt
+returns-2 c = (simp (le-ltb _ _ (c .if1 .left)), omega arith)
+
+pub spare-spec : {M : Type 1} → statement M
+spare-spec =
+    tie.close
+    (tie.spec
+    (λ c. search needs)
+    (λ c. search needs)
+    (λ c. search needs)
+    (λ c. search needs)
+    (λ c κs. search needs)
+    returns
+    returns-2)
