@@ -1,86 +1,42 @@
 #!/usr/bin/env python3
-# Writes the files that crates/build_cases builds, each behind its length (stdin), and the answers that it must give (stdout).
-# They are the worked example, each refusal from 1 to 11 at its smallest, and both sides of each ceiling.
-import math
+# Writes the hand-made cases of crates/cases: its commands (stdin) and the lines that it must write (stdout).
+# What stands behind them, a sample that the reference's program `cases` writes, is kept.
 import pathlib
 import struct
 
-from make import INPUT, LINK, OUTPUT, aggregate, edge, node, virtual_storage
+from build_cases import CASES
+from commands import build, commands, counted, expected, title
+from step_cases import steps
 
-PAIR = node(INPUT) + node(OUTPUT) + edge(0, 1)
-
-
-def edges(count):  # 16 inputs and 33 outputs, with the first `count` of their 528 pairs as edges
-    pairs = [(i, 16 + o) for i in range(16) for o in range(33)]
-    return node(INPUT) * 16 + node(OUTPUT) * 33 + b"".join(edge(*p) for p in pairs[:count])
+MARK = "# reference"
 
 
-def sets(count):  # a pair, and behind it `count` nodes that are each an exclusive set, 16 to an aggregate
-    nodes = range(2, 2 + count)
-    groups = [[[n] for n in nodes[i : i + 16]] for i in range(0, count, 16)]
-    return node(INPUT) + node(OUTPUT) + node(OUTPUT, (0.0, 1.0)) * count + edge(0, 1) + b"".join(aggregate(g, (0, 16)) for g in groups)
+def builds():
+    for case in CASES:
+        if isinstance(case, str):
+            title(case)
+        elif case[1].startswith("P"):
+            build(case[0])
+            counted(case[1])
+        else:
+            build(case[0], answer=case[1])
 
 
-def rows(others):  # 31 sets that list a node 16 times, 32 rows each; 2 exclusivity rows, 2 varying rows; a row for each other node
-    groups = [[[n] * 16 for n in g] for g in (range(2, 18), range(18, 33))]
-    nodes = node(INPUT) + node(OUTPUT) + node(OUTPUT, (1.0, 2.0)) * 31 + node(OUTPUT, (0.0, 1.0)) * others
-    return nodes + edge(0, 1) + b"".join(aggregate(g, (0, 16)) for g in groups)
+def sample_of(data):  # from the title that starts with the mark
+    at = 0
+    while at < len(data):
+        length = struct.unpack("<H", data[at + 3 : at + 5])[0] if data[at : at + 1] in (b"T", b"B", b"S") else 0
+        if data[at : at + 1] == b"T" and data[at + 5 :].startswith(MARK.encode()):
+            break
+        at += 5 + length
+    return data[at:]
 
 
-def elements(last):  # an input with an edge to each of 13 outputs, listed once to 16 times by 16 exclusive sets: 3,850 elements
-    outputs = list(range(1, 14))
-    nodes = node(INPUT, (1.0, 2.0)) + node(OUTPUT) * 13
-    again = [[o] for o in outputs] + [[o, o] for o in outputs[:5]]  # 18 plain aggregates of the outputs, 13 elements each; and one of `last` outputs
-    plain = [aggregate([outputs + more]) for more in again] + [aggregate([outputs[:last]])]
-    return nodes + b"".join(edge(0, o) for o in outputs) + aggregate([[0] * k for k in range(1, 17)], (0, 16)) + b"".join(plain)
-
-
-def many(outputs):  # README's small example of 11
-    nodes = node(INPUT, (1.0, 2.0)) + node(OUTPUT) * outputs
-    return nodes + b"".join(edge(0, 1 + i) for i in range(outputs)) + aggregate([[0] * k for k in range(1, 17)], (0, 16))
-
-
-CASES = [
-    (node(INPUT) + node(OUTPUT, (0.0, 48.5)) + edge(0, 1), "P 1 2 1 2"),
-    (PAIR, "P 1 1 1 1"),
-    # refusals
-    (b"N", "N 1 0"),
-    (PAIR + b"N", "N 1 46"),
-    (b"XX", "N 2 0"),
-    (PAIR + node(INPUT), "N 2 46"),
-    (b"ND\4", "N 3 0"),
-    (b"ED\0\0", "N 4 0"),
-    (node(INPUT) + edge(0, 0), "N 5 20"),
-    (node(INPUT) + virtual_storage([(0, 1.0)]) * 32 + b"VS", "N 6 596"),
-    (b"", "N 7 0"),
-    (node(INPUT) + node(LINK) + edge(0, 1), "N 8 1"),
-    (node(INPUT, (2.0, 1.0)) + node(OUTPUT) + edge(0, 1), "N 9 0"),
-    (node(INPUT, (-math.inf, -math.inf)) + node(OUTPUT) + edge(0, 1) + aggregate([[0]], (0, 0)), "N 10 0"),
-    (many(14), "N 11 0"),
-    # ceilings, met and passed
-    (node(INPUT) + node(OUTPUT) * 255 + edge(0, 1), "P 1 2 2 1"),
-    (node(INPUT) + node(OUTPUT) * 256 + edge(0, 1), "N 6 5120"),
-    (edges(512), "P 512 49 49 1024"),
-    (edges(513), "N 6 4052"),
-    (PAIR + aggregate([[0]]) * 64, "P 1 1 1 1"),
-    (PAIR + aggregate([[0]]) * 65, "N 6 1006"),
-    (PAIR + virtual_storage([(0, 1.0)]) * 32, "P 1 2 2 2"),
-    (PAIR + virtual_storage([(0, 1.0)]) * 33, "N 6 622"),
-    (PAIR + aggregate([[0]] * 16), "P 1 2 2 2"),
-    (PAIR + aggregate([[0]] * 17), "N 3 46"),
-    (PAIR + aggregate([[0] * 16]), "P 1 2 2 2"),
-    (PAIR + aggregate([[0] * 17]), "N 3 46"),
-    (PAIR + virtual_storage([(0, 1.0)] * 64), "P 1 2 2 2"),
-    (PAIR + virtual_storage([(0, 1.0)] * 65), "N 3 46"),
-    (sets(128), "P 129 138 2 257"),
-    (sets(129), "N 11 0"),
-    (rows(28), "P 32 1024 2 1024"),
-    (rows(29), "N 11 0"),
-    (many(13), "P 29 287 14 3850"),
-    (elements(12), "P 29 306 33 4096"),
-    (elements(13), "N 11 0"),
-]
-
-folder = pathlib.Path(__file__).resolve().parent.parent / "crates" / "build_cases"
-(folder / "stdin").write_bytes(b"".join(struct.pack("<H", len(data)) + data for data, _ in CASES))
-(folder / "stdout").write_text("".join(answer + "\n" for _, answer in CASES))
+builds()
+steps()
+folder = pathlib.Path(__file__).resolve().parent.parent / "crates" / "cases"
+stdin, stdout = folder / "stdin", folder / "stdout"
+lines = stdout.read_text().splitlines(keepends=True)
+kept = next((k for k, line in enumerate(lines) if line.startswith(MARK)), len(lines))
+stdin.write_bytes(b"".join(commands) + sample_of(stdin.read_bytes()))
+stdout.write_text("".join(line + "\n" for line in expected) + "".join(lines[kept:]))

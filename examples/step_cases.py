@@ -1,62 +1,13 @@
-#!/usr/bin/env python3
-# Writes the commands that crates/step_cases runs (stdin) and the lines that it must write (stdout). Each number expected is document 01's.
-#   step_cases.py                      writes both files
-#   step_cases.py --reference STEPS    runs the cases with the reference's program `steps`, but those that misuse a store, and compares
+# Steps for crates/cases: document 01's cases, each refusal from 12 to 17 but 15, each limit, short runs, misshapen stores, lists of steps.
+# Each number expected is document 01's. Used by cases.py.
 import math
-import pathlib
 import struct
-import subprocess
-import sys
-import tempfile
 
+from commands import build, change, clear, listed, step, title
 from make import INPUT, LINK, OUTPUT, STORAGE, aggregate, edge, node, virtual_storage
-from steps import DAYS_IN, LARGEST, aggregate_step, date, node_step, programme_text, storage_step
+from steps import DAYS_IN, LARGEST, aggregate_step, date, node_step, storage_step
 
 INF, NAN = math.inf, math.nan
-commands, expected = [], []  # what goes to stdin and to stdout
-lists = []  # for the reference: finite, network, steps with their answer and, where it is listed, the programme's lines
-misused = False  # a word of the store was changed
-
-
-def command(letter, first=0, second=0, data=b""):
-    commands.append(letter + struct.pack("<HH", first, second) + data)
-
-
-def title(text):
-    command(b"T", 0, len(text.encode()), text.encode())
-    expected.append(text)
-
-
-def build(network, finite=False):
-    global misused
-    misused = False
-    command(b"B", finite, len(network), network)
-    expected.append("A")
-    lists.append((finite, network, []))
-
-
-def step(data, answer="A", short=10):
-    command(b"S", short, len(data), data)
-    expected.append(answer)
-    if short < 10:
-        expected.append("work 704")  # 16 leaves the work run as it was
-    elif not misused:
-        lists[-1][2].append([data, answer, None])
-
-
-def listed(*programme):
-    command(b"L")
-    lines = programme_text(*programme)
-    expected.extend(lines)
-    if not misused and lists[-1][2] and lists[-1][2][-1][1] == "A":
-        lists[-1][2][-1][2] = lines
-
-
-def change(run, at, old, new):
-    global misused
-    misused = True
-    command({"shape": b"H", "column": b"C", "start": b"R"}[run], at, new)
-    expected.append("%s %d %d %d" % (run, at, old, new))
 
 
 def after(x):  # the next double away from zero
@@ -473,36 +424,9 @@ def misshapen():
     small_listed(1.0, 5.0, 0.0, 9.0, 2.0)
 
 
-def doubles(line):  # the fields of a line, doubles as numbers, so that zeros of either sign are equal
-    return [struct.unpack(">d", bytes.fromhex(word))[0] if len(word) == 16 else word for word in line.split()]
-
-
-def compare(program):
-    steps = programmes = 0
-    with tempfile.TemporaryDirectory() as folder:
-        for finite, network, files in lists:
-            paths = [pathlib.Path(folder) / name for name in ["network"] + ["step-%d" % k for k in range(len(files))]]
-            for path, data in zip(paths, [network] + [data for data, _, _ in files]):
-                path.write_bytes(data)
-            words = [program] + ["--finite"] * finite + [str(path) for path in paths]
-            text = subprocess.run(words, capture_output=True, check=True, text=True).stdout
-            answers = [part.strip().split("\n")[1:] for part in ("\n" + text).split("\nS ")[1:]]
-            assert len(answers) == len(files)
-            for (_, answer, lines), got in zip(files, answers):
-                assert (got == [answer]) if answer != "A" else got[0].startswith("P "), (answer, got)
-                assert lines is None or [doubles(x) for x in lines] == [doubles(x) for x in got], (lines, got)
-                steps += 1
-                programmes += lines is not None
-    print("%d lists, %d steps, %d programmes: as the reference has them" % (len(lists), steps, programmes))
-
-
-misshapen()  # first, since behind each table of SMALL it counts on the zeros of a store that has held nothing else
-for part in (short_runs, marks, values, crossed, intervals, constant, volumes, costs, periods, exclusive, step_lists):
-    part()
-assert len(commands) <= 4000
-if "--reference" in sys.argv:
-    compare(sys.argv[-1])
-else:
-    folder = pathlib.Path(__file__).resolve().parent.parent / "crates" / "step_cases"
-    (folder / "stdin").write_bytes(b"".join(commands))
-    (folder / "stdout").write_text("".join(line + "\n" for line in expected))
+def steps():
+    title("# steps: each refusal, each limit, short runs, misshapen stores")
+    clear()
+    misshapen()  # first, since behind each table of SMALL it counts on the zeros of a store that has held nothing else
+    for part in (short_runs, marks, values, crossed, intervals, constant, volumes, costs, periods, exclusive, step_lists):
+        part()

@@ -8,8 +8,12 @@ use crate::{Reference, Refusal, Sentinel};
 pub struct Answers([u64; 16]);
 
 impl Answers {
-    fn count(&mut self, answer: Result<(), Refusal>) {
+    pub fn count(&mut self, answer: Result<(), Refusal>) {
         self.0[answer.map_or_else(|r| r.number as usize, |()| 0)] += 1;
+    }
+
+    pub fn add(&mut self, others: &Self) {
+        self.0.iter_mut().zip(others.0).for_each(|(count, other)| *count += other);
     }
 
     /// How often `number` came, 0 for accepted.

@@ -1,6 +1,8 @@
 //! The reference: document 01's files read independently of the port, and the Rust's programme for them.
 pub mod case_file;
+pub mod case_list;
 pub mod ceilings;
+pub mod commands;
 pub mod comparison;
 pub mod fields;
 pub mod generate;
@@ -17,6 +19,8 @@ pub mod programme;
 pub mod random;
 pub mod reference;
 pub mod refusal;
+pub mod replay;
+pub mod sample;
 pub mod sentinel;
 pub mod solver;
 pub mod step_file;

@@ -5,140 +5,149 @@
 use libc::STDERR_FILENO;
 use pywr::Answer;
 use pywr::Sentinel;
+ghost use mathlib.Core.Path.{_≡_};
 ghost use Prim.Native.Nat.{_<_, _≤_};
 ghost use lib.ListN.{length};
-
-// Whether two words are the same.
-fn same(a: &[u8], b: &[u8]) -> bool {
-    if a.len() != b.len() {
-        return false;
-    }
-    let mut i: usize = 0;
-    while i < a.len() {
-        if a[i] != b[i] {
-            return false;
-        }
-        i += 1;
-    }
-    true
-}
 
 // Whether the first argument asks for the finite sentinel.
 fn asks_finite() -> bool {
     let mut word = io::buffer();
     let n = os::arg(1, &mut word);
-    same(&word[..n], b"--finite")
+    check::same(&word[..n], b"--finite")
 }
 
-// Reads an open file into the buffer and stores how much it read. Answers whether it could be read.
-// A network file that can be accepted has at most 63,488 bytes and a step file 10,700: a longer one is refused by what the buffer holds of it.
-fn read_open(fd: i32, name: &[u8], buffer: &mut [u8], n: &mut usize) -> bool
-    ensures { λ _. ⌜ now (n .exit) ≤ length (now (buffer .exit)) ⌝ }
+// Whether a file could be read, and how many bytes of the buffer it takes.
+struct FileRead {
+    done: bool,
+    bytes: usize,
+}
+
+// Says on standard error what could not be opened or read.
+fn fail(name: &[u8]) -> FileRead
+    ensures { λ r. ⌜ r .bytes ≡ 0 ⌝ }
 {
-    *n = 0;
+    os::fail(name);
+    FileRead {
+        done: false,
+        bytes: 0,
+    }
+}
+
+// Reads an open file into the buffer.
+// A network file that can be accepted has at most 63,488 bytes and a step file 10,700: a longer one is refused by what the buffer holds of it.
+fn read_open(fd: i32, name: &[u8], buffer: &mut [u8]) -> FileRead
+    ensures { λ r. ⌜ r .bytes ≤ length (now (buffer .exit)) ⌝ }
+{
     let got = libc::read(fd, buffer);
     if got < 0 {
-        os::fail(name);
-        return false;
+        return fail(name);
     }
     let start = io::count(got, buffer);
     let more = io::read_full(fd, &mut buffer[start..]);
-    *n = start + more;
-    true
+    FileRead {
+        done: true,
+        bytes: start + more,
+    }
 }
 
-// Reads the file that argument k names.
-fn read_argument(k: usize, buffer: &mut [u8], n: &mut usize) -> bool
-    ensures { λ _. ⌜ now (n .exit) ≤ length (now (buffer .exit)) ⌝ }
+fn read_named(name: &[u8], buffer: &mut [u8]) -> FileRead
+    ensures { λ r. ⌜ r .bytes ≤ length (now (buffer .exit)) ⌝ }
 {
-    *n = 0;
-    let mut name = io::buffer();
-    let length = os::arg(k, &mut name);
-    if os::errno() != 0 {
-        os::fail(b"argument");
-        return false;
-    }
-    let fd = os::open_read(&name[..length]);
+    let fd = os::open_read(name);
     if fd < 0 {
-        os::fail(&name[..length]);
-        return false;
+        return fail(name);
     }
-    let read = read_open(fd, &name[..length], buffer, n);
+    let read = read_open(fd, name, buffer);
     libc::close(fd);
     read
 }
 
+// Reads the file that argument k names.
+fn read_argument(k: usize, buffer: &mut [u8]) -> FileRead
+    ensures { λ r. ⌜ r .bytes ≤ length (now (buffer .exit)) ⌝ }
+{
+    let mut name = io::buffer();
+    let length = os::arg(k, &mut name);
+    if os::errno() != 0 {
+        return fail(b"argument");
+    }
+    read_named(&name[..length], buffer)
+}
+
+// The runs of a store: a step takes it and hands it back.
+struct Store {
+    col_lower: [f64; 640],
+    col_upper: [f64; 640],
+    col_obj_coef: [f64; 640],
+    row_lower: [f64; 1024],
+    row_upper: [f64; 1024],
+    elements: [f64; 4096],
+    columns: [u16; 4096],
+    row_starts: [u32; 1025],
+    shape: [u16; 19723],
+}
+
+fn list(store: Store) {
+    let col_lower = store.col_lower;
+    let col_upper = store.col_upper;
+    let col_obj_coef = store.col_obj_coef;
+    let row_lower = store.row_lower;
+    let row_upper = store.row_upper;
+    let elements = store.elements;
+    let columns = store.columns;
+    let row_starts = store.row_starts;
+    let shape = store.shape;
+    listing::list_programme(
+        &col_lower,
+        &col_upper,
+        &col_obj_coef,
+        &row_lower,
+        &row_upper,
+        &elements,
+        &columns,
+        &row_starts,
+        &shape,
+    );
+}
+
+// Whether a file was accepted; a refusal is written.
+fn is_accepted(answer: Answer) -> bool {
+    match answer {
+        Answer::Refused(number, place) => {
+            listing::list_refusal(number, place);
+            false
+        }
+        Answer::Accepted => true,
+    }
+}
+
 // Runs a step file and writes its number and what it answers.
-fn run_step(
-    number: usize,
-    file: &[u8],
-    col_lower: &[f64],
-    col_upper: &[f64],
-    col_obj_coef: &mut [f64],
-    row_lower: &mut [f64],
-    row_upper: &mut [f64],
-    elements: &mut [f64],
-    columns: &[u16],
-    row_starts: &[u32],
-    shape: &[u16],
-) {
+fn run_step(number: usize, file: &[u8], store: Store) -> Store {
     listing::list_step(number);
+    let col_lower = store.col_lower;
+    let col_upper = store.col_upper;
+    let mut col_obj_coef = store.col_obj_coef;
+    let mut row_lower = store.row_lower;
+    let mut row_upper = store.row_upper;
+    let mut elements = store.elements;
+    let columns = store.columns;
+    let row_starts = store.row_starts;
+    let shape = store.shape;
     let mut work = [0.0f64; 704];
     let answer = built_solver::step(
         file,
-        col_lower,
-        col_upper,
-        col_obj_coef,
-        row_lower,
-        row_upper,
-        elements,
-        columns,
-        row_starts,
-        shape,
+        &col_lower,
+        &col_upper,
+        &mut col_obj_coef,
+        &mut row_lower,
+        &mut row_upper,
+        &mut elements,
+        &columns,
+        &row_starts,
+        &shape,
         &mut work,
     );
-    match answer {
-        Answer::Refused(n, place) => {
-            listing::list_refusal(n, place);
-        }
-        Answer::Accepted => {
-            listing::list_programme(
-                col_lower,
-                col_upper,
-                col_obj_coef,
-                row_lower,
-                row_upper,
-                elements,
-                columns,
-                row_starts,
-                shape,
-            );
-        }
-    }
-}
-
-// Runs the step file that an argument names; answers whether it could be read.
-fn run_argument(
-    argument: usize,
-    number: usize,
-    buffer: &mut [u8],
-    col_lower: &[f64],
-    col_upper: &[f64],
-    col_obj_coef: &mut [f64],
-    row_lower: &mut [f64],
-    row_upper: &mut [f64],
-    elements: &mut [f64],
-    columns: &[u16],
-    row_starts: &[u32],
-    shape: &[u16],
-) -> bool {
-    let mut n: usize = 0;
-    if !read_argument(argument, buffer, &mut n) {
-        return false;
-    }
-    run_step(
-        number,
-        &buffer[0..n],
+    let after = Store {
         col_lower,
         col_upper,
         col_obj_coef,
@@ -148,51 +157,36 @@ fn run_argument(
         columns,
         row_starts,
         shape,
-    );
-    true
+    };
+    if is_accepted(answer) {
+        list(after);
+    }
+    after
 }
 
-// Runs the step files that the arguments from `first` up to `end` name.
-fn run_steps(
-    first: usize,
-    end: usize,
-    buffer: &mut [u8],
-    col_lower: &[f64],
-    col_upper: &[f64],
-    col_obj_coef: &mut [f64],
-    row_lower: &mut [f64],
-    row_upper: &mut [f64],
-    elements: &mut [f64],
-    columns: &[u16],
-    row_starts: &[u32],
-    shape: &[u16],
-) {
+// Runs the step files that the arguments from `first` up to `end` name, up to one that cannot be read.
+fn run_steps(first: usize, end: usize, buffer: &mut [u8], built: Store) {
+    let mut store = built;
     let mut k: usize = first;
     while k < end {
-        if !run_argument(
-            k,
-            k - first,
-            buffer,
-            col_lower,
-            col_upper,
-            col_obj_coef,
-            row_lower,
-            row_upper,
-            elements,
-            columns,
-            row_starts,
-            shape,
-        ) {
+        let file = read_argument(k, buffer);
+        if !file.done {
             return;
         }
+        let n = file.bytes;
+        store = run_step(k - first, &buffer[0..n], store);
         k += 1;
     }
 }
 
-// Builds the network that argument `network` names, and runs the steps that the arguments behind it, up to `end`, name.
-fn run(network: usize, end: usize, sentinel: Sentinel)
-    requires { ⌜ network < end ⌝ }
-{
+// A store, and whether the build that wrote it was accepted.
+struct Built {
+    accepted: bool,
+    store: Store,
+}
+
+// Builds the network of a file, and writes the refusal if it is refused.
+fn build(file: &[u8], sentinel: Sentinel) -> Built {
     let mut col_lower = [0.0f64; 640];
     let mut col_upper = [0.0f64; 640];
     let mut col_obj_coef = [0.0f64; 640];
@@ -204,13 +198,8 @@ fn run(network: usize, end: usize, sentinel: Sentinel)
     let mut shape = [0u16; 19723];
     let mut words = [0u16; 24844];
     let mut numbers = [0.0f64; 6784];
-    let mut buffer = io::large_buffer();
-    let mut n: usize = 0;
-    if !read_argument(network, &mut buffer, &mut n) {
-        return;
-    }
     let answer = builder::build(
-        &buffer[0..n],
+        file,
         sentinel,
         &mut col_lower,
         &mut col_upper,
@@ -224,24 +213,37 @@ fn run(network: usize, end: usize, sentinel: Sentinel)
         &mut words,
         &mut numbers,
     );
-    match answer {
-        Answer::Refused(number, place) => {
-            listing::list_refusal(number, place);
-        }
-        Answer::Accepted => run_steps(
-            network + 1,
-            end,
-            &mut buffer,
-            &col_lower,
-            &col_upper,
-            &mut col_obj_coef,
-            &mut row_lower,
-            &mut row_upper,
-            &mut elements,
-            &columns,
-            &row_starts,
-            &shape,
-        ),
+    let store = Store {
+        col_lower,
+        col_upper,
+        col_obj_coef,
+        row_lower,
+        row_upper,
+        elements,
+        columns,
+        row_starts,
+        shape,
+    };
+    Built {
+        accepted: is_accepted(answer),
+        store,
+    }
+}
+
+// Builds the network that argument `network` names, and runs the steps that the arguments behind it, up to `end`, name.
+fn run(network: usize, end: usize, sentinel: Sentinel)
+    requires { ⌜ network < end ⌝ }
+{
+    let mut buffer = io::large_buffer();
+    let file = read_argument(network, &mut buffer);
+    if !file.done {
+        return;
+    }
+    let n = file.bytes;
+    let built = build(&buffer[0..n], sentinel);
+    if built.accepted {
+        let store = built.store;
+        run_steps(network + 1, end, &mut buffer, store);
     }
 }
 
@@ -256,9 +258,10 @@ fn main() {
         );
         return;
     }
-    if finite {
-        run(network, end, Sentinel::Largest);
+    let sentinel = if finite {
+        Sentinel::Largest
     } else {
-        run(network, end, Sentinel::Infinity);
-    }
+        Sentinel::Infinity
+    };
+    run(network, end, sentinel);
 }

@@ -1,4 +1,5 @@
 //! One file of the source, and the cutting of items out of it. The source is formatted by rustfmt: an item ends at the first line `}` of its depth.
+use crate::parts::Parts;
 use std::path::Path;
 
 pub struct Text {
@@ -32,14 +33,19 @@ impl Text {
         lines.join("\n") + "\n"
     }
 
+    pub fn parts(&self, parts: &Parts) -> String {
+        let items = parts.items.iter().map(|header| self.item(header));
+        items.chain(parts.methods.iter().map(|(header, names)| self.methods(header, names))).collect()
+    }
+
     /// The item whose first line is `header`, with its comments and attributes.
-    pub fn item(&self, header: &str) -> String {
+    fn item(&self, header: &str) -> String {
         let at = self.find(|line| line == header, header);
         self.cut(at, "")
     }
 
     /// Of the impl block whose first line is `header`, the methods named.
-    pub fn methods(&self, header: &str, names: &[&str]) -> String {
+    fn methods(&self, header: &str, names: &[&str]) -> String {
         let start = self.find(|line| line == header, header);
         let end = self.end(start, "");
         let mut text = format!("{header}\n");

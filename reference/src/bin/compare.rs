@@ -55,11 +55,21 @@ fn main() {
     };
     println!("networks {}, compared {}; {}", tally.builds.total(), tally.builds_compared, tally.builds.text());
     println!("steps {}, compared {}; {}", tally.steps.total(), tally.steps_compared, tally.steps.text());
+    let compared = port.as_deref().is_none_or(|port| all_compared(port, &tally));
     if let Some(report) = port.and_then(|port| port.report()) {
         println!("{report}");
     }
     println!("differences {failures}");
-    std::process::exit((failures > 0) as i32);
+    if !compared {
+        println!("not everything that was run was compared, or nothing was run");
+    }
+    std::process::exit((failures > 0 || !compared) as i32);
+}
+
+/// With a port, a run that compares nothing has found nothing out.
+fn all_compared(port: &dyn Port, tally: &Tally) -> bool {
+    let steps = if port.has_steps() { tally.steps.total() } else { 0 };
+    tally.builds_compared > 0 && tally.builds_compared == tally.builds.total() && tally.steps_compared == steps
 }
 
 #[cfg(feature = "library")]

@@ -1,4 +1,4 @@
--- `run_steps` is safe and ends: a step keeps the lengths of the runs. Assumes nothing.
+-- `run_steps` is safe and ends: reading a file keeps the buffer's length. Assumes nothing.
 use mathlib.Core.Path.{_≡_}
 use Prim.Native.Nat.{_-_, _≤_}
 use lib.ListN.{length}
@@ -7,17 +7,11 @@ use Rattle.stepper.proofs.run_steps.Statement.{statement}
 use Rattle.stepper.proofs.run_steps.Tie as tie
 
 abbrev Inv-loop : tie.InvT-loop
-Inv-loop first end buffer₀ col-lower col-upper col-obj-coef₀ row-lower₀ row-upper₀ elements₀ columns row-starts shape k₀ buffer col-obj-coef row-lower row-upper elements k =
-    (first ≤ k)
-    × (length buffer ≡ length buffer₀)
-    × (length col-obj-coef ≡ length col-obj-coef₀)
-    × (length row-lower ≡ length row-lower₀)
-    × (length row-upper ≡ length row-upper₀)
-    × (length elements ≡ length elements₀)
+Inv-loop first end buffer₀ store₀ k₀ buffer store k =
+    (first ≤ k) × (length buffer ≡ length buffer₀)
 
 abbrev μ-loop : tie.MeasureT-loop
-μ-loop first end buffer₀ col-lower col-upper col-obj-coef₀ row-lower₀ row-upper₀ elements₀ columns row-starts shape k₀ buffer col-obj-coef row-lower row-upper elements k =
-    end - k
+μ-loop first end buffer₀ store₀ k₀ buffer store k = end - k
 
 pub run-steps-spec : {M : Type 1} → statement M
 run-steps-spec =
@@ -26,7 +20,6 @@ run-steps-spec =
     Inv-loop
     μ-loop
     (λ c. search needs)
-    (λ c. search needs)
     (λ c κs. search needs)
     (λ c. search needs)
     (λ c. search needs)
@@ -34,10 +27,7 @@ run-steps-spec =
     (λ c. search needs)
     (λ c. search needs)
     (λ c. search needs)
-    (λ c. search needs)
-    (λ c. search needs)
-    (λ c. search needs)
-    (λ c. search needs)
+    (λ c κs. search needs)
     (λ c. search needs)
     (λ c. search needs)
     (λ c. search needs)

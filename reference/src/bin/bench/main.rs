@@ -1,8 +1,11 @@
-//! bench [ROUNDS]: the port's and the Rust's time for each build and each step, both with decoding: medians of interleaved rounds, and the least.
+//! bench [ROUNDS]: the port's and the Rust's time for each build and each step, both with decoding: medians of interleaved rounds, and the least;
+//! and the memory that each needs.
 //! bench --generated SEED COUNT: the ratio over the generator's networks.
 mod generated;
+mod memory;
 mod networks;
 
+use memory::{heap, stack};
 use networks::Named;
 use pywr::{BUILD_NUMBERS, BUILD_WORDS, STEP_WORK, Store};
 use pywr_reference::solver::{InOrder, Solver};
@@ -95,10 +98,13 @@ fn rust_update(
 
 /// Calls in a batch, so that it takes about a third of a millisecond.
 fn batch(mut call: impl FnMut()) -> usize {
-    call();
-    let start = Instant::now();
-    call();
-    ((300_000 / start.elapsed().as_nanos().max(1)) as usize).clamp(1, 3000)
+    let mut nanoseconds = || {
+        let start = Instant::now();
+        call();
+        start.elapsed().as_nanos().max(1)
+    };
+    let least = (0..10).map(|_| nanoseconds()).min().unwrap();
+    ((300_000 / least) as usize).clamp(1, 3000)
 }
 
 fn require_equal_answers(case: &Named, port: &mut Port) {
@@ -151,6 +157,34 @@ fn run(case: &Named, rounds: usize) {
             p.least() / i.least(),
         );
     }
+    tell_memory(case, &mut port);
+}
+
+/// The port's runs are the caller's, and it has no heap. The Rust's heap is that of its solver, and of the network that a step reads too.
+fn tell_memory(case: &Named, port: &mut Port) {
+    let s = &port.store;
+    let doubles = [&s.col_lower, &s.col_upper, &s.col_obj_coef, &s.row_lower, &s.row_upper, &s.elements];
+    let store = doubles.map(|run| size_of_val(&run[..])).iter().sum::<usize>()
+        + [&s.columns, &s.shape].map(|run| size_of_val(&run[..])).iter().sum::<usize>()
+        + size_of_val(&s.row_starts[..]);
+    let work = [size_of_val(&port.words[..]) + size_of_val(&port.numbers[..]), size_of_val(&port.work[..])];
+    let [build, step] = [stack(|| port.build(&case.network)), stack(|| port.step(&case.step))];
+    println!("  bytes  port  store {store}; build: work {}, stack {build}; step: work {}, stack {step}", work[0], work[1]);
+
+    let network = case.file.network();
+    let mut solver = rust_create(&network);
+    let [build, create] = [heap(|| rust_build(&case.network)), heap(|| rust_create(&network))];
+    let with_network = heap(|| {
+        let file = NetworkFile::read(&case.network).unwrap();
+        let network = file.network();
+        let solver = rust_create(&network);
+        (file, network, solver)
+    });
+    let step = heap(|| rust_step(&case.file, &network, &mut solver, &case.step));
+    print!("         Rust  solver {}, with the network {}; ", build.held, with_network.held);
+    let stacks = [stack(|| drop(rust_build(&case.network))), stack(|| rust_step(&case.file, &network, &mut solver, &case.step))];
+    print!("build: heap {} (builder.rs alone {}), stack {}; ", build.peak, create.peak, stacks[0]);
+    println!("step: heap {}, stack {}", step.peak, stacks[1]);
 }
 
 fn main() {

@@ -2,8 +2,8 @@
 use Prim.Native.Nat.{_-_, _≤_}
 use lib.ListN.{length}
 use borrow.Author.Needs.{needs}
-use Rattle.step_cases.proofs.count_marked.Statement.{statement}
-use Rattle.step_cases.proofs.count_marked.Tie as tie
+use Rattle.cases.proofs.count_marked.Statement.{statement}
+use Rattle.cases.proofs.count_marked.Tie as tie
 
 abbrev Inv-loop : tie.InvT-loop
 Inv-loop run count₀ i₀ count i = count ≤ i

@@ -1,0 +1,166 @@
+//! What is cut out of each file of the source: items by their first line, and of an impl block the methods named.
+pub struct Parts {
+    pub items: &'static [&'static str],
+    pub methods: &'static [(&'static str, &'static [&'static str])],
+}
+
+/// Index types and accessors.
+pub const NETWORK: Parts = Parts {
+    items: &[
+        "pub struct NodeIndex(usize);",
+        "impl Deref for NodeIndex {",
+        "impl Display for NodeIndex {",
+        "pub struct EdgeIndex(usize);",
+        "impl Deref for EdgeIndex {",
+        "impl Display for EdgeIndex {",
+        "pub struct AggregatedNodeIndex(usize);",
+        "impl Deref for AggregatedNodeIndex {",
+        "impl Display for AggregatedNodeIndex {",
+        "pub struct VirtualStorageIndex(usize);",
+        "impl Deref for VirtualStorageIndex {",
+        "impl Display for VirtualStorageIndex {",
+    ],
+    methods: &[(
+        "impl Network {",
+        &[
+            "nodes",
+            "edges",
+            "aggregated_nodes",
+            "virtual_storage_nodes",
+            "get_node",
+            "get_aggregated_node",
+            "get_virtual_storage_node",
+        ],
+    )],
+};
+
+/// Kinds, bounds and costs.
+pub const NODE: Parts = Parts {
+    items: &[
+        "pub enum NodeError {",
+        "pub enum Node {",
+        "pub enum NodeType {",
+        "impl Display for NodeType {",
+        "pub struct FlowBounds {",
+        "pub struct VolumeBounds {",
+        "pub enum NodeBounds {",
+        "pub enum CostAggFunc {",
+        "pub struct UnresolvedNode {",
+        "impl UnresolvedNode {",
+        "pub struct NodeMeta<T> {",
+        "impl<T> NodeMeta<T> {",
+        "impl<T> NodeMeta<T>",
+        "pub struct FlowConstraints {",
+        "impl FlowConstraints {",
+        "pub struct StorageConstraints {",
+        "impl StorageConstraints {",
+        "pub struct NodeCost {",
+        "impl NodeCost {",
+        "pub struct InputNode {",
+        "impl InputNode {",
+        "pub struct OutputNode {",
+        "impl OutputNode {",
+        "pub struct LinkNode {",
+        "impl LinkNode {",
+        "pub enum StorageInitialVolume {",
+        "pub struct StorageNode {",
+    ],
+    methods: &[
+        (
+            "impl Node {",
+            &[
+                "name",
+                "sub_name",
+                "full_name",
+                "index",
+                "node_type",
+                "get_incoming_edges",
+                "get_outgoing_edges",
+                "get_const_bounds",
+                "get_bounds",
+                "get_outgoing_cost",
+                "get_incoming_cost",
+            ],
+        ),
+        ("impl StorageNode {", &["get_cost", "get_min_volume", "get_max_volume"]),
+    ],
+};
+
+/// Sets, exclusivity and flow bounds; factors, which no network file has, since builder.rs asks for them.
+pub const AGGREGATED_NODE: Parts = Parts {
+    items: &[
+        "pub enum Factors {",
+        "pub struct Exclusivity {",
+        "impl Exclusivity {",
+        "pub enum Relationship {",
+        "pub enum AggregatedNodeError {",
+        "pub struct AggregatedNode {",
+        "pub struct NodeFactor<'a> {",
+        "impl<'a> NodeFactor<'a> {",
+        "pub struct NodeFactorPair<'a> {",
+        "impl<'a> NodeFactorPair<'a> {",
+        "pub struct NodeConstFactor<'a> {",
+        "impl<'a> NodeConstFactor<'a> {",
+        "pub struct NodeConstFactorPair<'a> {",
+        "impl<'a> NodeConstFactorPair<'a> {",
+        "pub enum FactorError {",
+        "pub enum ConstantFactorError {",
+        "pub enum ProportionalFactorError {",
+        "fn get_norm_proportional_factor_pairs<'a>(",
+        "pub enum ConstantProportionalFactorError {",
+        "fn get_const_norm_proportional_factor_pairs<'a>(",
+        "pub enum RatioFactorError {",
+        "fn get_norm_ratio_factor_pairs<'a>(",
+        "pub enum ConstantRatioFactorError {",
+        "fn get_const_norm_ratio_factor_pairs<'a>(",
+        "pub enum CoefficientFactorError {",
+        "fn get_coefficient_factor_pairs<'a>(",
+        "pub enum ConstantCoefficientFactorError {",
+        "fn get_const_coefficient_factor_pairs<'a>(",
+    ],
+    methods: &[(
+        "impl AggregatedNode {",
+        &[
+            "name",
+            "sub_name",
+            "full_name",
+            "index",
+            "iter_nodes",
+            "has_exclusivity",
+            "get_exclusivity",
+            "get_factors",
+            "get_const_norm_factor_pairs",
+            "get_norm_factor_pairs",
+            "get_min_flow",
+            "get_max_flow",
+            "get_flow_bounds",
+        ],
+    )],
+};
+
+/// Periods and volumes.
+pub const VIRTUAL_STORAGE: Parts = Parts {
+    items: &[
+        "pub enum VirtualStorageReset {",
+        "pub enum VirtualStorageResetVolume {",
+        "pub enum VirtualStorageActivePeriod {",
+        "impl VirtualStorageActivePeriod {",
+        "pub enum VirtualStorageError {",
+        "pub struct VirtualStorageNode {",
+    ],
+    methods: &[(
+        "impl VirtualStorageNode {",
+        &[
+            "name",
+            "sub_name",
+            "full_name",
+            "index",
+            "get_cost",
+            "iter_nodes_with_factors",
+            "get_min_volume",
+            "get_max_volume",
+            "get_available_volume_bounds",
+            "is_active",
+        ],
+    )],
+};
