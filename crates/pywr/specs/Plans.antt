@@ -25,7 +25,8 @@ unfoldable pub signed : Bool → ℕ → ℤ
 signed true n = negℤ (pos n)
 signed false n = pos n
 
--- a finite double in units of 2 ^ -1074
+-- a finite double in units of 2 ^ -1074. An infinity and NaN count 0, since some number must stand there: bounds are asked first whether they are finite
+-- (`lowerMet`, `upperMet`), and under demand 3's premises no element, factor or coefficient is infinite (docs/DEMAND-3.md, "What both sides share")
 unfoldable pub exact : Float → ℤ
 exact nan = pos 0
 exact (inf s) = pos 0

@@ -1,8 +1,12 @@
 #!/usr/bin/env python3
-# Writes the hand-made cases of crates/cases: its commands (stdin) and the lines that it must write (stdout).
+# Writes the hand-made cases of this test program: its commands (../stdin) and the lines that it must write (../stdout).
 # What stands behind them, a sample that the reference's program `cases` writes, is kept.
 import pathlib
 import struct
+import sys
+
+FOLDER = pathlib.Path(__file__).resolve().parent.parent
+sys.path.append(str(FOLDER.parent.parent / "examples"))  # the records of network and step files: make.py, steps.py
 
 from build_cases import CASES
 from commands import build, commands, counted, expected, title
@@ -34,8 +38,7 @@ def sample_of(data):  # from the title that starts with the mark
 
 builds()
 steps()
-folder = pathlib.Path(__file__).resolve().parent.parent / "crates" / "cases"
-stdin, stdout = folder / "stdin", folder / "stdout"
+stdin, stdout = FOLDER / "stdin", FOLDER / "stdout"
 lines = stdout.read_text().splitlines(keepends=True)
 kept = next((k for k, line in enumerate(lines) if line.startswith(MARK)), len(lines))
 stdin.write_bytes(b"".join(commands) + sample_of(stdin.read_bytes()))
