@@ -84,9 +84,11 @@ impl<'a> Calls<'a> {
     fn require_equal_answers(&mut self) {
         let mut reference = Reference::build(&self.case.network, Sentinel::Infinity).unwrap();
         reference.step(&self.case.step).unwrap();
-        (0..COUNT).for_each(|k| self.call(k));
         let programme = reference.programme();
-        assert!(self.solver.programme().same_bits(programme));
+        for k in 0..COUNT {
+            self.call(k);
+            assert!(k < STEPS[1] || self.solver.programme().same_bits(programme));
+        }
         let store = &self.port.store;
         let bounds = |i| (store.row_lower[i], store.row_upper[i]);
         assert_eq!((store.column_count(), store.row_count()), (programme.columns.len(), programme.rows.len()));
