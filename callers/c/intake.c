@@ -1,6 +1,9 @@
-/* intake NETWORK: builds examples/intake.network, runs steps on it and prints what they leave. */
+/* intake NETWORK: builds examples/intake.network, runs steps on it and prints what they leave. It exits with 1 where the network is refused
+ * or its file cannot be read, with 2 where it is called otherwise. */
 #include "pywr.h"
 
+#include <errno.h>
+#include <inttypes.h>
 #include <stdio.h>
 #include <string.h>
 
@@ -99,11 +102,21 @@ static void print_costs(void)
     printf("\n");
 }
 
+/* A refusal with its words and, unless its place is always 0, what that is. */
+static void print_refusal(uint64_t number, uint64_t place)
+{
+    printf("refused with %" PRIu64 " at %" PRIu64 ": %s", number, place, pywr_refusal_text(number));
+    if (*pywr_place_text(number) != '\0')
+        printf(", %s %" PRIu64, pywr_place_text(number), place);
+    printf("\n");
+}
+
 static void run(const char *name, const File *file)
 {
     PywrAnswer answer = step(file->bytes, file->length);
     if (answer.number != 0) {
-        printf("%s: refused with %u at %u\n", name, (unsigned)answer.number, (unsigned)answer.place);
+        printf("%s: ", name);
+        print_refusal(answer.number, answer.place);
         return;
     }
     printf("%s: accepted\n", name);
@@ -111,19 +124,36 @@ static void run(const char *name, const File *file)
     print_rows(0, shape[PYWR_VARYING_ROW_COUNT]);
 }
 
+/* As many bytes as fit: a network that is longer than any accepted one is refused by its first bytes too many. False, with errno, where
+ * the file cannot be opened or read. */
+static bool read_file(const char *name, uint8_t *bytes, size_t most, size_t *length)
+{
+    FILE *in = fopen(name, "rb");
+    if (in == NULL)
+        return false;
+    *length = fread(bytes, 1, most, in);
+    int failed = ferror(in) ? errno : 0;
+    fclose(in);
+    errno = failed;
+    return failed == 0;
+}
+
 int main(int count, char **arguments)
 {
     static uint8_t network[PYWR_NETWORK_FILE + 2];
-    FILE *in = count == 2 ? fopen(arguments[1], "rb") : NULL;
-    if (in == NULL) {
+    size_t length;
+    if (count != 2) {
         fprintf(stderr, "usage: intake NETWORK\n");
         return 2;
     }
-    size_t length = fread(network, 1, sizeof network, in);
-    fclose(in);
+    if (!read_file(arguments[1], network, sizeof network, &length)) {
+        fprintf(stderr, "%s: %s\n", arguments[1], strerror(errno));
+        return 1;
+    }
     PywrAnswer answer = build(network, length);
     if (answer.number != 0) {
-        printf("network: refused with %u at %u\n", (unsigned)answer.number, (unsigned)answer.place);
+        printf("network: ");
+        print_refusal(answer.number, answer.place);
         return 1;
     }
     size_t rows = (size_t)shape[PYWR_VARYING_ROW_COUNT] + shape[PYWR_FIXED_ROW_COUNT];
@@ -142,6 +172,7 @@ int main(int count, char **arguments)
     run("summer", &summer);
 
     PywrRow none = row_part(rows);
-    printf("row %zu: refused with %u at %u\n", rows, (unsigned)none.number, (unsigned)none.place);
+    printf("row %zu: ", rows);
+    print_refusal(none.number, none.place);
     return 0;
 }

@@ -16,29 +16,9 @@
  *
  * A run may be longer. What lies beyond the counts is left as it was. A refused call leaves the store as it was, byte for byte.
  *
- * An answer is a number, 0 where the call is accepted, and a place:
- *
- *   the modeller, pywr_build
- *    1  the file ends inside a mark or field            the record's offset, as for 2 to 6
- *    2  unknown or out-of-order mark
- *    3  value outside its range, NaN, or min_active over max_active
- *    4  node number not under the node count
- *    5  edge into an input, out of an output, to itself, or repeating a pair
- *    6  a record beyond its maximum
- *    7  no edges                                        0
- *    8  link without incoming or outgoing edges         the node, as for 9 and 10
- *    9  constant min over max
- *   10  exclusive constant node with max -infinity or min +infinity
- *   11  over 128 distinct sets, 1,024 rows or 4,096 elements    0
- *   the data feed, pywr_step
- *   12  step file short, wrongly marked, or with bytes left over    the record's offset; the first byte left over
- *   13  value outside its range, or NaN                 the record's offset
- *   14  a varying node's lower over its upper           the node
- *   15  the same for a virtual storage                  its index
- *   the calling program
- *   16  a run is shorter than its least length          0; any call
- *   17  the store is misshapen                          0; pywr_step and pywr_row
- *   18  no such row                                     the row; pywr_row
+ * An answer is a number, 0 where the call is accepted, and a place. pywr_refusal_text has the words of each number, pywr_place_text what
+ * its place is. 1 to 11 are for the modeller (pywr_build), 12 to 15 for the data feed (pywr_step), 16 to 18 for the calling program: 16 from
+ * any call, 17 from pywr_step and pywr_row, 18 from pywr_row.
  */
 #ifndef PYWR_H
 #define PYWR_H
@@ -117,6 +97,44 @@ PywrRow pywr_row(
     const double *elements, size_t elements_length, const uint16_t *columns, size_t columns_length,
     const uint32_t *row_starts, size_t row_starts_length, const uint16_t *shape, size_t shape_length,
     size_t row);
+
+/* The words of a refusal, in English. */
+static inline const char *pywr_refusal_text(uint64_t number)
+{
+    switch (number) {
+    case 1: return "file ends inside a mark or field";
+    case 2: return "unknown or out-of-order mark";
+    case 3: return "value outside its range, NaN, or min_active over max_active";
+    case 4: return "node index not under the node count";
+    case 5: return "edge into an input, out of an output, to itself, or repeating a pair";
+    case 6: return "a record beyond its maximum";
+    case 7: return "no edges";
+    case 8: return "link without incoming or outgoing edge";
+    case 9: return "constant min over max";
+    case 10: return "exclusive constant max -infinity or min +infinity";
+    case 11: return "programme over its ceilings";
+    case 12: return "step file short, wrongly marked, or with bytes left over";
+    case 13: return "value outside its range, or NaN";
+    case 14: return "varying node's lower over upper";
+    case 15: return "virtual storage's lower over upper";
+    case 16: return "a buffer of store, work or output under the length its ceilings need";
+    case 17: return "store misshapen";
+    case 18: return "row not under the count";
+    default: return "unknown refusal";
+    }
+}
+
+/* What a refusal's place is, or "" where it is always 0. A byte is the offset of a record or, for 12, of the first byte left over. */
+static inline const char *pywr_place_text(uint64_t number)
+{
+    switch (number) {
+    case 1: case 2: case 3: case 4: case 5: case 6: case 12: case 13: return "byte";
+    case 8: case 9: case 10: case 14: return "node";
+    case 15: return "virtual storage";
+    case 18: return "row";
+    default: return "";
+    }
+}
 
 #ifdef __cplusplus
 }

@@ -26,6 +26,7 @@ pub mod solver;
 pub mod step_file;
 #[cfg(feature = "library")]
 pub mod store_shape;
+pub mod timed;
 
 pub use network_file::NetworkFile;
 pub use programme::Programme;

@@ -7,7 +7,7 @@ use pywr_core::node::NodeType;
 use pywr_core::state::{AggregateNumbers, NodeNumbers, State, VirtualStorageNumbers};
 use pywr_core::timestep::Timestep;
 
-const DAYS_OF_MONTH: [u8; 12] = [31, 29, 31, 30, 31, 30, 31, 31, 30, 31, 30, 31];
+pub const DAYS_OF_MONTH: [u8; 12] = [31, 29, 31, 30, 31, 30, 31, 31, 30, 31, 30, 31];
 
 pub fn read(network: &NetworkFile, file: &[u8]) -> Result<(Timestep, State), Refusal> {
     let mut state = State::default();

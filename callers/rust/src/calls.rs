@@ -1,14 +1,5 @@
 //! The library's functions, and their answers.
-use crate::{Sentinel, Store};
-use std::fmt;
-
-/// Document 01's number, and the place.
-#[repr(C)]
-#[derive(Debug, Clone, Copy, PartialEq, Eq)]
-pub struct Refusal {
-    pub number: u64,
-    pub place: u64,
-}
+use crate::{Refusal, Sentinel, Store};
 
 #[repr(C)]
 struct RowPart {
@@ -93,11 +84,3 @@ pub fn row(s: &Store, row: usize) -> (usize, usize, Result<(), Refusal>) {
 fn accepted(answer: Refusal) -> Result<(), Refusal> {
     if answer.number == 0 { Ok(()) } else { Err(answer) }
 }
-
-impl fmt::Display for Refusal {
-    fn fmt(&self, f: &mut fmt::Formatter<'_>) -> fmt::Result {
-        write!(f, "refused with {} at {}", self.number, self.place)
-    }
-}
-
-impl std::error::Error for Refusal {}

@@ -3,9 +3,10 @@
 //! A [`Store`] holds a programme in nine runs. [`Store::build`] writes a network file's programme into it, [`Store::step`] a step file's
 //! costs, bounds and coefficients; [`Store::row`] reads one row. A call that is refused leaves the store as it was.
 mod calls;
+mod refusal;
 mod store;
 
-pub use calls::Refusal;
+pub use refusal::{Place, Refusal};
 pub use store::{Row, Store};
 
 /// The least lengths of the runs of a store.

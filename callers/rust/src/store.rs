@@ -51,11 +51,7 @@ impl Store {
     /// The columns and elements of a row, or a refusal with 16 to 18.
     pub fn row(&self, row: usize) -> Result<Row<'_>, Refusal> {
         let (start, length, answer) = self.row_part(row);
-        answer.map(|()| Row {
-            start,
-            columns: &self.columns[start..start + length],
-            elements: &self.elements[start..start + length],
-        })
+        answer.map(|()| Row { start, columns: part(&self.columns, start, length), elements: part(&self.elements, start, length) })
     }
 
     /// The same as the start and the length of the row's part: both are 0 where it is refused.
@@ -65,21 +61,35 @@ impl Store {
 
     /// How many columns are for edges; those behind them are the sets' integer columns.
     pub fn edge_column_count(&self) -> usize {
-        self.shape[3] as usize
+        self.count(3)
     }
 
     pub fn column_count(&self) -> usize {
-        self.edge_column_count() + self.shape[4] as usize
+        self.count(3) + self.count(4)
     }
 
     /// How many rows a step writes; those behind them are fixed.
     pub fn varying_row_count(&self) -> usize {
-        self.shape[5] as usize
+        self.count(5)
     }
 
     pub fn row_count(&self) -> usize {
-        self.varying_row_count() + self.shape[6] as usize
+        self.count(5) + self.count(6)
     }
+
+    pub fn element_count(&self) -> usize {
+        self.count(7)
+    }
+
+    /// A count as `shape` holds it, whatever that is; 0 where `shape` ends before it.
+    fn count(&self, at: usize) -> usize {
+        self.shape.get(at).map_or(0, |&count| count as usize)
+    }
+}
+
+/// The part of a run from a start; empty where the run ends inside it.
+fn part<T>(run: &[T], start: usize, length: usize) -> &[T] {
+    run.get(start..).and_then(|rest| rest.get(..length)).unwrap_or_default()
 }
 
 impl Default for Store {

@@ -1,7 +1,7 @@
 //! aggregated_node.rs: the sets, exclusivity and bounds of the source, and how an aggregate is made.
 use crate::NodeIndex;
 use crate::metric::{ConstantMetricF64Error, MetricF64, MetricF64Error};
-use crate::network::{AggregateParts, AggregatedNodeIndex, Network, indices};
+use crate::network::{AggregatedNodeIndex, Network};
 use crate::node::{FlowConstraints, NodeMeta, UnresolvedNode};
 use crate::state::{ConstParameterValues, State};
 use thiserror::Error;
@@ -9,16 +9,16 @@ use thiserror::Error;
 include!(concat!(env!("OUT_DIR"), "/aggregated_node.rs"));
 
 impl AggregatedNode {
-    /// Stands for `AggregatedNodeBuilder::build`. An aggregate's name is its number.
-    pub(crate) fn from_parts(index: AggregatedNodeIndex, parts: &AggregateParts) -> Self {
+    /// Stands for `AggregatedNodeBuilder::build`. An exclusive aggregate has min_active and max_active.
+    pub fn new(index: AggregatedNodeIndex, name: &str, nodes: Vec<Vec<NodeIndex>>, exclusive: Option<(u32, u32)>) -> Self {
         Self {
-            meta: NodeMeta::from_unresolved_name(UnresolvedNode::new(&index.to_string(), None), index),
+            meta: NodeMeta::from_unresolved_name(UnresolvedNode::new(name, None), index),
             flow_constraints: FlowConstraints::new(
                 Some(MetricF64::AggregateLower(index)),
                 Some(MetricF64::AggregateUpper(index)),
             ),
-            nodes: parts.sets.iter().map(|set| indices(set)).collect(),
-            relationship: parts.exclusive.map(|(min_active, max_active)| {
+            nodes,
+            relationship: exclusive.map(|(min_active, max_active)| {
                 Relationship::Exclusive(Exclusivity { min_active: min_active.into(), max_active: max_active.into() })
             }),
         }

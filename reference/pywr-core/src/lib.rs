@@ -11,9 +11,21 @@ pub mod state;
 pub mod timestep;
 pub mod virtual_storage;
 
-/// Stand-in for the source's clock.
+/// Stand-in for the source's clock. It reads none: timings are left out, and the source's four readings would be a third of a small step.
 pub mod clock {
-    pub use std::time::Instant;
+    use std::time::Duration;
+
+    pub struct Instant;
+
+    impl Instant {
+        pub fn now() -> Self {
+            Self
+        }
+
+        pub fn elapsed(&self) -> Duration {
+            Duration::ZERO
+        }
+    }
 }
 
 pub use network::NodeIndex;

@@ -41,8 +41,30 @@ pub(crate) fn indices(numbers: &[usize]) -> Vec<NodeIndex> {
     numbers.iter().map(|&n| NodeIndex(n)).collect()
 }
 
+macro_rules! from_number {
+    ($($index:ident),*) => {$(
+        impl From<usize> for $index {
+            fn from(number: usize) -> Self {
+                Self(number)
+            }
+        }
+    )*};
+}
+
+from_number!(NodeIndex, EdgeIndex, AggregatedNodeIndex, VirtualStorageIndex);
+
 impl Network {
     /// Stands for `NetworkBuilder`, which refuses more than document 01 does. Nodes list their edges in edge order, as there.
+    pub fn new(
+        nodes: Vec<Node>,
+        edges: Vec<Edge>,
+        aggregated_nodes: Vec<AggregatedNode>,
+        virtual_storage_nodes: Vec<VirtualStorageNode>,
+    ) -> Self {
+        Self { nodes, edges, aggregated_nodes, virtual_storage_nodes }
+    }
+
+    /// The network of a file that has been read. Names are numbers.
     pub fn from_parts(
         nodes: &[NodeParts],
         edges: &[(usize, usize)],
@@ -56,19 +78,23 @@ impl Network {
             incoming[to].push(EdgeIndex(i));
         }
         let edge_lists = incoming.into_iter().zip(outgoing);
-        Self {
-            nodes: (nodes.iter().zip(edge_lists).enumerate())
-                .map(|(i, (node, (incoming, outgoing)))| Node::from_parts(NodeIndex(i), node, incoming, outgoing))
+        Self::new(
+            (nodes.iter().zip(edge_lists).enumerate())
+                .map(|(i, (node, (incoming, outgoing)))| Node::new(i.into(), &i.to_string(), node, incoming, outgoing))
                 .collect(),
-            edges: (edges.iter().enumerate())
-                .map(|(i, &(from, to))| Edge::new(EdgeIndex(i), NodeIndex(from), NodeIndex(to)))
+            (edges.iter().enumerate()).map(|(i, &(from, to))| Edge::new(i.into(), from.into(), to.into())).collect(),
+            (aggregates.iter().enumerate())
+                .map(|(i, parts)| {
+                    let sets = parts.sets.iter().map(|set| indices(set)).collect();
+                    AggregatedNode::new(i.into(), &i.to_string(), sets, parts.exclusive)
+                })
                 .collect(),
-            aggregated_nodes: (aggregates.iter().enumerate())
-                .map(|(i, parts)| AggregatedNode::from_parts(AggregatedNodeIndex(i), parts))
+            (virtual_storages.iter().enumerate())
+                .map(|(i, parts)| {
+                    let (nodes, factors): (Vec<usize>, _) = parts.nodes.iter().copied().unzip();
+                    VirtualStorageNode::new(i.into(), &i.to_string(), indices(&nodes), factors, parts.period)
+                })
                 .collect(),
-            virtual_storage_nodes: (virtual_storages.iter().enumerate())
-                .map(|(i, parts)| VirtualStorageNode::from_parts(VirtualStorageIndex(i), parts))
-                .collect(),
-        }
+        )
     }
 }

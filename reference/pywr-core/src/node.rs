@@ -8,14 +8,15 @@ use thiserror::Error;
 include!(concat!(env!("OUT_DIR"), "/node.rs"));
 
 impl Node {
-    /// Stands for `NodeBuilder::build`. A node's name is its number.
-    pub(crate) fn from_parts(
+    /// Stands for `NodeBuilder::build`.
+    pub fn new(
         index: NodeIndex,
+        name: &str,
         parts: &NodeParts,
         incoming_edges: Vec<EdgeIndex>,
         outgoing_edges: Vec<EdgeIndex>,
     ) -> Self {
-        let meta = NodeMeta::from_unresolved_name(UnresolvedNode::new(&index.to_string(), None), index);
+        let meta = NodeMeta::from_unresolved_name(UnresolvedNode::new(name, None), index);
         let cost = NodeCost { local: Some(MetricF64::NodeCost(index)), virtual_storage_nodes: Vec::new(), agg_func: None };
         let flow_constraints = match parts.constant {
             Some((min, max)) => FlowConstraints::new(Some(MetricF64::Constant(min)), Some(MetricF64::Constant(max))),

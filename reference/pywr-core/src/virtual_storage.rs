@@ -2,7 +2,7 @@
 use crate::NodeIndex;
 use crate::civil::Date;
 use crate::metric::{MetricF64, MetricF64Error, SimpleMetricF64, SimpleMetricF64Error};
-use crate::network::{Network, VirtualStorageIndex, VirtualStorageParts, indices};
+use crate::network::{Network, VirtualStorageIndex};
 use crate::node::{NodeMeta, StorageConstraints, StorageInitialVolume, UnresolvedNode};
 use crate::state::{NetworkStateError, State, StateError};
 use crate::timestep::Timestep;
@@ -12,12 +12,17 @@ use thiserror::Error;
 include!(concat!(env!("OUT_DIR"), "/virtual_storage.rs"));
 
 impl VirtualStorageNode {
-    /// Stands for `VirtualStorageNodeBuilder::build`. Its name is its number; resets are no part of a step.
-    pub(crate) fn from_parts(index: VirtualStorageIndex, parts: &VirtualStorageParts) -> Self {
-        let (nodes, factors): (Vec<usize>, Vec<f64>) = parts.nodes.iter().copied().unzip();
+    /// Stands for `VirtualStorageNodeBuilder::build`. Resets are no part of a step.
+    pub fn new(
+        index: VirtualStorageIndex,
+        name: &str,
+        nodes: Vec<NodeIndex>,
+        factors: Vec<f64>,
+        period: Option<[u8; 4]>,
+    ) -> Self {
         Self {
-            meta: NodeMeta::from_unresolved_name(UnresolvedNode::new(&index.to_string(), None), index),
-            nodes: indices(&nodes),
+            meta: NodeMeta::from_unresolved_name(UnresolvedNode::new(name, None), index),
+            nodes,
             factors,
             initial_volume: StorageInitialVolume::Absolute(0.0),
             storage_constraints: StorageConstraints::new(
@@ -27,7 +32,7 @@ impl VirtualStorageNode {
             reset: VirtualStorageReset::Never,
             reset_volume: VirtualStorageResetVolume::Initial,
             rolling_window: None,
-            active_period: match parts.period {
+            active_period: match period {
                 None => VirtualStorageActivePeriod::Always,
                 Some([start_month, start_day, end_month, end_day]) => VirtualStorageActivePeriod::Period {
                     start_day: start_day as i8,

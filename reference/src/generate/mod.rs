@@ -6,6 +6,7 @@ mod damage;
 pub mod encode;
 mod exclusive;
 mod numbers;
+pub mod sized;
 mod small;
 mod steps;
 

@@ -27,7 +27,7 @@ fn file(r: &mut Random, network: &NetworkFile) -> Vec<u8> {
     }
 }
 
-fn step(r: &mut Random, network: &NetworkFile) -> Step {
+pub fn step(r: &mut Random, network: &NetworkFile) -> Step {
     let (month, day) = date(r, network);
     Step {
         month,

@@ -1,27 +1,23 @@
-//! The ratio port to Rust over the generator's networks. A call's time is the least of a few batches in each of a few passes over all networks.
-use super::{Port, rust_build, rust_step};
-use pywr_reference::generate::{self, Case};
-use pywr_reference::solver::{InOrder, Solver};
-use pywr_reference::{NetworkFile, Sentinel};
-use std::hint::black_box;
+//! The ratios over the generator's networks. A call's time is the least of a few batches in each of a few passes over all networks.
+use crate::calls::{BUILDS, COUNT, Calls, STEPS};
+use crate::networks::{Case, VARIANTS};
+use crate::times::median;
+use pywr_core::state::State;
+use pywr_reference::generate::encode::Step;
+use pywr_reference::{NetworkFile, Reference, Sentinel, generate, step_file};
 use std::time::Instant;
 
 const PASSES: usize = 4;
 const BATCHES: usize = 5;
 const CALLS: usize = 10;
 
-/// Nanoseconds of a call, the port's and the Rust's.
-type Pair = [f64; 2];
+/// Nanoseconds of each call.
+type Measured = [f64; COUNT];
 
-/// A network's build, and its first step that is accepted.
-struct Timed {
-    build: Pair,
-    step: Option<Pair>,
-    text: String,
-}
-
+/// One network and step.
 struct Ratio {
-    ratio: f64,
+    /// To the Rust with reading, and to builder.rs alone.
+    ratios: [f64; 2],
     rust: f64,
     text: String,
 }
@@ -36,68 +32,62 @@ fn least(mut call: impl FnMut()) -> f64 {
     (0..BATCHES).map(|_| batch(&mut call)).fold(f64::INFINITY, f64::min)
 }
 
-fn measure(case: &Case, index: u64, port: &mut Port) -> Option<Timed> {
-    port.store.build(&case.network, pywr::Sentinel::Infinity, &mut port.words, &mut port.numbers).ok()?;
-    let file = NetworkFile::read(&case.network).unwrap();
-    let text = format!(
-        "case {index} ({}): {} nodes, {} edges, {} rows of which {} vary, {} elements",
-        case.kind,
-        file.nodes.len(),
-        file.edges.len(),
-        port.store.row_count(),
-        port.store.varying_row_count(),
-        port.store.shape[7]
-    );
-    let build = [least(|| port.build(black_box(&case.network))), least(|| drop(black_box(rust_build(black_box(&case.network)))))];
-    let step = case.steps.iter().find(|step| port.store.step(step, &mut port.work).is_ok()).map(|step| {
-        let network = file.network();
-        let mut solver = InOrder::create(&network, Sentinel::Infinity.high()).unwrap();
-        [least(|| port.step(black_box(step))), least(|| rust_step(&file, &network, &mut solver, black_box(step)))]
-    });
-    Some(Timed { build, step, text })
+/// A network that is accepted, with its first step that is accepted, as generated and without subnormals.
+fn cases(seed: u64, index: u64) -> Option<[Case; 2]> {
+    let drawn = generate::case(seed, index);
+    let mut built = Reference::build(&drawn.network, Sentinel::Infinity).ok()?;
+    let step = drawn.steps.iter().find(|step| built.step(step).is_ok())?;
+    let file = NetworkFile::read(&drawn.network).unwrap();
+    let (timestep, State { nodes, aggregates, virtual_storages }) = step_file::read(&file, step).unwrap();
+    let date = timestep.date.date();
+    let [month, day] = [date.month(), date.day()].map(|number| number as u8);
+    let numbers = Step { month, day, days: timestep.days(), nodes, aggregates, virtual_storages };
+    let without = generate::sized::without_subnormals(&file, &numbers);
+    Some([Case::new(index, VARIANTS[0], (file, numbers)), Case::new(index, VARIANTS[1], without)])
 }
 
-impl Timed {
-    /// What is the least of this and another pass.
-    fn with(self, other: Self) -> Self {
-        let least = |a: Pair, b: Pair| [a[0].min(b[0]), a[1].min(b[1])];
-        Self { build: least(self.build, other.build), step: self.step.zip(other.step).map(|(a, b)| least(a, b)), ..self }
-    }
+fn measure(case: &Case) -> Measured {
+    let mut calls = Calls::new(case);
+    std::array::from_fn(|k| least(|| calls.call(k)))
 }
 
-fn ratio([port, rust]: Pair, text: &str) -> Ratio {
-    Ratio { ratio: port / rust, rust, text: format!("{:.2} us against {:.2}, {text}", port / 1e3, rust / 1e3) }
+fn ratio(times: &Measured, of: [usize; 3], case: &Case) -> Ratio {
+    let [port, rust, alone] = of.map(|k| times[k] / 1e3);
+    let text = format!("{port:.2} us against {rust:.2} and {alone:.2}, case {}: {}", case.index, case.counts());
+    Ratio { ratios: [port / rust, port / alone], rust, text }
 }
 
-fn tell(name: &str, mut list: Vec<Ratio>, limits: [f64; 3]) {
-    list.sort_by(|a, b| b.ratio.total_cmp(&a.ratio));
-    for (low, high) in [(0.0, limits[0]), (limits[0], limits[1]), (limits[1], limits[2])] {
+/// By the Rust's time with reading, under and over the limits.
+fn tell(name: &str, mut list: Vec<Ratio>, limits: [f64; 2]) {
+    list.sort_by(|a, b| b.ratios[0].total_cmp(&a.ratios[0]));
+    for (low, high) in [(0.0, limits[0]), (limits[0], limits[1]), (limits[1], f64::INFINITY)] {
         let part: Vec<&Ratio> = list.iter().filter(|r| low <= r.rust && r.rust < high).collect();
         let Some(worst) = part.first() else { continue };
-        let over = part.iter().filter(|r| r.ratio > 0.5).count();
-        let range = match (low > 0.0, high.is_finite()) {
-            (false, _) => format!("under {} us", high / 1e3),
-            (true, true) => format!("{} to {} us", low / 1e3, high / 1e3),
-            (true, false) => format!("{} us and over", low / 1e3),
-        };
-        println!(
-            "{name} that take the Rust {range}: {}, median ratio {:.2}, over half {over}",
-            part.len(),
-            part[part.len() / 2].ratio
+        let over = [0, 1].map(|k| part.iter().filter(|r| r.ratios[k] > 0.5).count());
+        let [with, alone] = [0, 1].map(|k| median(part.iter().map(|r| r.ratios[k]).collect()));
+        print!(
+            "{name} that take the Rust {low} to {high} us: {}, median ratio {with:.2} ({alone:.2} to builder.rs alone), ",
+            part.len()
         );
-        println!("  worst {:.2}: {}", worst.ratio, worst.text);
+        println!("over half {} ({})", over[0], over[1]);
+        println!("  worst {:.2}: {}", worst.ratios[0], worst.text);
     }
 }
 
 pub fn run(seed: u64, count: u64) {
-    let mut port = Port::new();
-    let mut pass =
-        || -> Vec<Option<Timed>> { (0..count).map(|index| measure(&generate::case(seed, index), index, &mut port)).collect() };
-    let mut timed = pass();
+    let cases: Vec<Case> = (0..count).filter_map(|index| cases(seed, index)).flatten().collect();
+    let mut times: Vec<Measured> = cases.iter().map(measure).collect();
     for _ in 1..PASSES {
-        timed = timed.into_iter().zip(pass()).map(|(a, b)| a.zip(b).map(|(a, b)| a.with(b))).collect();
+        for (times, case) in times.iter_mut().zip(&cases) {
+            let again = measure(case);
+            *times = std::array::from_fn(|k| times[k].min(again[k]));
+        }
     }
-    let timed: Vec<Timed> = timed.into_iter().flatten().collect();
-    tell("builds", timed.iter().map(|t| ratio(t.build, &t.text)).collect(), [5e3, 50e3, f64::INFINITY]);
-    tell("steps", timed.iter().filter_map(|t| Some(ratio(t.step?, &t.text))).collect(), [1e3, 5e3, f64::INFINITY]);
+    for variant in VARIANTS {
+        println!("{variant}:");
+        for (name, of, limits) in [("builds", BUILDS, [5.0, 50.0]), ("steps", STEPS, [1.0, 5.0])] {
+            let of_variant = cases.iter().zip(&times).filter(|(case, _)| case.variant == variant);
+            tell(name, of_variant.map(|(case, times)| ratio(times, of, case)).collect(), limits);
+        }
+    }
 }

@@ -1,4 +1,7 @@
 //! The memory that a call needs: the heap by an allocator that counts, the stack by one that is painted before the call.
+use crate::calls::{Port, rust_build, rust_create, rust_step};
+use crate::networks::Case;
+use pywr_reference::timed::{network_reader, step_reader::StepReader};
 use std::alloc::{GlobalAlloc, Layout, System};
 use std::arch::asm;
 use std::sync::atomic::{AtomicBool, AtomicIsize, Ordering::Relaxed};
@@ -88,4 +91,29 @@ pub fn stack<F: FnMut()>(mut call: F) -> usize {
     let kept = words.iter().take_while(|word| **word == PAINT).count();
     assert!(kept > 0, "a call needs over {STACK} bytes of stack");
     top - start - 8 * kept
+}
+
+/// The port's runs are the caller's, and it has no heap. The Rust's heap is that of its solver, and of the network and the state that a step
+/// reads too.
+pub fn tell(case: &Case) {
+    let mut port = Port::new();
+    let s = &port.store;
+    let doubles = [&s.col_lower, &s.col_upper, &s.col_obj_coef, &s.row_lower, &s.row_upper, &s.elements];
+    let store = doubles.map(|run| size_of_val(&run[..])).iter().sum::<usize>()
+        + [&s.columns, &s.shape].map(|run| size_of_val(&run[..])).iter().sum::<usize>()
+        + size_of_val(&s.row_starts[..]);
+    let work = [size_of_val(&port.words[..]) + size_of_val(&port.numbers[..]), size_of_val(&port.work[..])];
+    let [build, step] = [stack(|| port.build(&case.network)), stack(|| port.step(&case.step))];
+    println!("  bytes  port  store {store}; build: work {}, stack {build}; step: work {}, stack {step}", work[0], work[1]);
+
+    let network = network_reader::read(&case.network).unwrap();
+    let held = heap(|| rust_create(&network));
+    let with_network = heap(|| (rust_build(&case.network), StepReader::new(&case.file)));
+    let build = heap(|| rust_build(&case.network));
+    let (mut solver, mut reader) = (rust_create(&network), StepReader::new(&case.file));
+    let step = heap(|| rust_step(&network, &mut solver, &mut reader, &case.step));
+    print!("         Rust  solver {}, with the network and the state {}; ", held.held, with_network.held);
+    let stacks = [stack(|| drop(rust_build(&case.network))), stack(|| rust_step(&network, &mut solver, &mut reader, &case.step))];
+    print!("build: heap {} (builder.rs alone {}), stack {}; ", build.peak, held.peak, stacks[0]);
+    println!("step: heap {}, stack {}", step.peak, stacks[1]);
 }

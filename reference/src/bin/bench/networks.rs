@@ -1,25 +1,67 @@
-//! Supply systems made of equal units, and a day's step for them.
+//! What is timed: supply systems made of equal units with a day's step, and generated networks of two sizes.
 use pywr_core::network::{AggregateParts, NodeParts, VirtualStorageParts};
 use pywr_core::node::NodeType::{self, Input, Link, Output, Storage};
 use pywr_core::state::{AggregateNumbers, NodeNumbers, VirtualStorageNumbers};
 use pywr_reference::generate::encode::{self, Step};
-use pywr_reference::{NetworkFile, random::Random};
+use pywr_reference::generate::sized::{self, Size};
+use pywr_reference::{NetworkFile, Reference, Sentinel, random::Random};
 
-pub struct Named {
-    pub name: &'static str,
+pub struct Case {
+    pub index: u64,
+    /// Which of the VARIANTS it is.
+    pub variant: &'static str,
     pub file: NetworkFile,
     pub network: Vec<u8>,
     pub step: Vec<u8>,
 }
 
-pub fn all() -> Vec<Named> {
-    vec![named("small", system(1)), named("medium", system(5)), named("ceiling", at_the_ceiling())]
+pub struct Group {
+    pub name: &'static str,
+    pub cases: Vec<Case>,
 }
 
-fn named(name: &'static str, file: NetworkFile) -> Named {
-    let network = encode::network_records(&file).concat();
-    let step = encode::step_records(&day(&file)).concat();
-    Named { name, file, network, step }
+/// A subnormal number takes the processor far longer than another.
+pub const VARIANTS: [&str; 2] = ["as generated", "without subnormals"];
+const SEED: u64 = 77;
+const NETWORKS: u64 = 7;
+
+pub fn groups() -> Vec<Group> {
+    let system = |name, file: NetworkFile| {
+        let step = day(&file);
+        Group { name, cases: vec![Case::new(0, "", (file, step))] }
+    };
+    vec![
+        system("small", system_of(1)),
+        system("medium", system_of(5)),
+        system("ceiling", at_the_ceiling()),
+        generated("generated, 50 nodes", sized::MEDIUM),
+        generated("generated, ceilings", sized::CEILING),
+    ]
+}
+
+fn generated(name: &'static str, size: Size) -> Group {
+    let variants = |index| {
+        let (file, step) = sized::case(SEED, index, size);
+        let without = sized::without_subnormals(&file, &step);
+        [Case::new(index, VARIANTS[0], (file, step)), Case::new(index, VARIANTS[1], without)]
+    };
+    Group { name, cases: (0..NETWORKS).flat_map(variants).collect() }
+}
+
+impl Case {
+    pub fn new(index: u64, variant: &'static str, (file, step): (NetworkFile, Step)) -> Self {
+        let network = encode::network_records(&file).concat();
+        Self { index, variant, file, network, step: encode::step_records(&step).concat() }
+    }
+
+    pub fn counts(&self) -> String {
+        let NetworkFile { nodes, edges, aggregates, virtual_storages } = &self.file;
+        let built = Reference::build(&self.network, Sentinel::Infinity).unwrap();
+        let [nodes, edges, aggregates] = [nodes.len(), edges.len(), aggregates.len()];
+        let storages = virtual_storages.len();
+        let counts = built.programme().counts();
+        format!("{nodes} nodes, {edges} edges, {aggregates} aggregates, {storages} virtual storages; {counts}")
+    }
 }
 
 const UNIT: [(NodeType, Option<(f64, f64)>); 10] = [
@@ -37,7 +79,7 @@ const UNIT: [(NodeType, Option<(f64, f64)>); 10] = [
 const EDGES: [(usize, usize); 11] = [(0, 3), (0, 4), (3, 5), (4, 5), (1, 2), (2, 5), (5, 6), (6, 7), (7, 8), (2, 9), (7, 9)];
 
 /// Units, each joined to the next by an edge between their service reservoirs. At most one pump of a unit runs; its intake has two licences.
-fn system(units: usize) -> NetworkFile {
+fn system_of(units: usize) -> NetworkFile {
     let mut file = NetworkFile::default();
     for u in 0..units {
         let at = 10 * u;
@@ -59,7 +101,7 @@ fn licence(nodes: &[usize], period: Option<[u8; 4]>) -> VirtualStorageParts {
 
 /// 256 nodes, 512 edges, 64 aggregates, 32 virtual storages.
 fn at_the_ceiling() -> NetworkFile {
-    let mut file = system(25);
+    let mut file = system_of(25);
     file.nodes.extend([NodeParts { kind: Storage, constant: None }; 6]);
     let r = &mut Random::new(1);
     while file.edges.len() < 512 {

@@ -1,0 +1,81 @@
+//! Refusals: document 01's number with its words, and the place with what it is.
+use std::fmt;
+
+/// Document 01's number, and the place.
+#[repr(C)]
+#[derive(Debug, Clone, Copy, PartialEq, Eq)]
+pub struct Refusal {
+    pub number: u64,
+    pub place: u64,
+}
+
+/// What a place is.
+#[derive(Debug, Clone, Copy, PartialEq, Eq)]
+pub enum Place {
+    /// The offset of a record, or of the first byte left over.
+    Byte,
+    Node,
+    VirtualStorage,
+    Row,
+}
+
+/// The words and the kind of place of each refusal from 1; without one, the place is 0. The C header has the same.
+const REFUSALS: [(&str, Option<Place>); 18] = [
+    ("file ends inside a mark or field", Some(Place::Byte)),
+    ("unknown or out-of-order mark", Some(Place::Byte)),
+    ("value outside its range, NaN, or min_active over max_active", Some(Place::Byte)),
+    ("node index not under the node count", Some(Place::Byte)),
+    ("edge into an input, out of an output, to itself, or repeating a pair", Some(Place::Byte)),
+    ("a record beyond its maximum", Some(Place::Byte)),
+    ("no edges", None),
+    ("link without incoming or outgoing edge", Some(Place::Node)),
+    ("constant min over max", Some(Place::Node)),
+    ("exclusive constant max -infinity or min +infinity", Some(Place::Node)),
+    ("programme over its ceilings", None),
+    ("step file short, wrongly marked, or with bytes left over", Some(Place::Byte)),
+    ("value outside its range, or NaN", Some(Place::Byte)),
+    ("varying node's lower over upper", Some(Place::Node)),
+    ("virtual storage's lower over upper", Some(Place::VirtualStorage)),
+    ("a buffer of store, work or output under the length its ceilings need", None),
+    ("store misshapen", None),
+    ("row not under the count", Some(Place::Row)),
+];
+
+impl Refusal {
+    fn entry(&self) -> Option<&'static (&'static str, Option<Place>)> {
+        REFUSALS.get(usize::try_from(self.number).ok()?.checked_sub(1)?)
+    }
+
+    /// Document 01's words for the number.
+    pub fn text(&self) -> &'static str {
+        self.entry().map_or("unknown refusal", |entry| entry.0)
+    }
+
+    /// What the place is, or none where it is always 0.
+    pub fn place_kind(&self) -> Option<Place> {
+        self.entry()?.1
+    }
+}
+
+impl Place {
+    pub fn text(self) -> &'static str {
+        match self {
+            Self::Byte => "byte",
+            Self::Node => "node",
+            Self::VirtualStorage => "virtual storage",
+            Self::Row => "row",
+        }
+    }
+}
+
+impl fmt::Display for Refusal {
+    fn fmt(&self, f: &mut fmt::Formatter<'_>) -> fmt::Result {
+        write!(f, "{} at {}: {}", self.number, self.place, self.text())?;
+        match self.place_kind() {
+            Some(kind) => write!(f, ", {} {}", kind.text(), self.place),
+            None => Ok(()),
+        }
+    }
+}
+
+impl std::error::Error for Refusal {}
