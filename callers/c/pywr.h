@@ -98,10 +98,11 @@ PywrRow pywr_row(
     const uint32_t *row_starts, size_t row_starts_length, const uint16_t *shape, size_t shape_length,
     size_t row);
 
-/* The words of a refusal, in English. */
+/* The words of an answer's number, in English. */
 static inline const char *pywr_refusal_text(uint64_t number)
 {
     switch (number) {
+    case 0: return "accepted";
     case 1: return "file ends inside a mark or field";
     case 2: return "unknown or out-of-order mark";
     case 3: return "value outside its range, NaN, or min_active over max_active";

@@ -1,4 +1,4 @@
-/* Prints each refusal's number, words and kind of place: the text that the Rust crate's table is held to as well. */
+/* Prints each number's words and kind of place: the text that the Rust crate's table is held to as well. */
 #include "pywr.h"
 
 #include <inttypes.h>

@@ -19,8 +19,9 @@ pub enum Place {
     Row,
 }
 
-/// The words and the kind of place of each refusal from 1; without one, the place is 0. The C header has the same.
-const REFUSALS: [(&str, Option<Place>); 18] = [
+/// The words and the kind of place of each number; without one, the place is 0. The C header has the same.
+const REFUSALS: [(&str, Option<Place>); 19] = [
+    ("accepted", None),
     ("file ends inside a mark or field", Some(Place::Byte)),
     ("unknown or out-of-order mark", Some(Place::Byte)),
     ("value outside its range, NaN, or min_active over max_active", Some(Place::Byte)),
@@ -43,7 +44,7 @@ const REFUSALS: [(&str, Option<Place>); 18] = [
 
 impl Refusal {
     fn entry(&self) -> Option<&'static (&'static str, Option<Place>)> {
-        REFUSALS.get(usize::try_from(self.number).ok()?.checked_sub(1)?)
+        REFUSALS.get(usize::try_from(self.number).ok()?)
     }
 
     /// Document 01's words for the number.

@@ -16,6 +16,7 @@ fn the_header_has_the_same_words() {
 #[test]
 fn each_number_is_shown_with_its_words_and_place() {
     let shown = [
+        "0 at 0: accepted",
         "1 at 5: file ends inside a mark or field, byte 5",
         "2 at 5: unknown or out-of-order mark, byte 5",
         "3 at 5: value outside its range, NaN, or min_active over max_active, byte 5",
@@ -35,11 +36,11 @@ fn each_number_is_shown_with_its_words_and_place() {
         "17 at 0: store misshapen",
         "18 at 5: row not under the count, row 5",
     ];
-    for (text, number) in shown.iter().zip(1..) {
-        let place = if [7, 11, 16, 17].contains(&number) { 0 } else { 5 };
+    for (text, number) in shown.iter().zip(0..) {
+        let place = if [0, 7, 11, 16, 17].contains(&number) { 0 } else { 5 };
         assert_eq!(Refusal { number, place }.to_string(), *text);
     }
-    for number in [0, 19, u64::MAX] {
+    for number in [19, u64::MAX] {
         assert_eq!(Refusal { number, place: 3 }.to_string(), format!("{number} at 3: unknown refusal"));
     }
 }
