@@ -1,0 +1,2 @@
+pub mod SumBounds
+pub mod ReadBounds
