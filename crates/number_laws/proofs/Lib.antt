@@ -1,2 +1,3 @@
 pub mod SumBounds
 pub mod ReadBounds
+pub mod ElementBounds
