@@ -1,5 +1,5 @@
 -- The programme of a network that was read: every bound, cost and element is a number, and no element is −0.0. Assumes nothing.
-use mathlib.Core.Path.{_≡_, refl, sym, ap, _∙_, subst}
+use mathlib.Core.Path.{refl}
 use Prim.Native.Nat.{ℕ, zero, suc, _+_, _≤_}
 use native.Mathlib.Nat.{le-trans, le-of-eq}
 use mathlib.Core.Bool.{Bool, true, false, cond, not, _&&_}
@@ -11,12 +11,12 @@ use Rattle.doubles.proofs.Order.{neg-num, larger-num, smaller-num}
 use Rattle.doubles.proofs.Rounding.{round-num}
 use Rattle.pywr.specs.declared.Sentinel.{Sentinel}
 use Rattle.pywr.specs.Numbers.{double, zero64, one64, million, millionth, high, lesser, greater}
-use Rattle.pywr.specs.Network.{link, Node, Aggregate, VirtualStorage, Network}
+use Rattle.pywr.specs.Network.{link, Node, Aggregate, Network}
 use Rattle.pywr.specs.ColEdgeMap.{columns, mappedEdges}
 use Rattle.pywr.specs.ExclusiveSets.{setsListing}
-use Rattle.pywr.specs.Rows.{Element, ColumnMap, columnMap, nodeRow, massRow, aggregateRow, virtualStorageRow, upperRow, lowerRow, exclusivityRow}
+use Rattle.pywr.specs.Rows.{Element, ColumnMap, columnMap, massRow, aggregateRow, virtualStorageRow, upperRow, lowerRow, exclusivityRow}
 use Rattle.pywr.specs.VariableRows.{Joined, addVariableRows}
-use Rattle.pywr.specs.Programme.{Column, Row, Programme, continuous, binaryUpper, binaryLower}
+use Rattle.pywr.specs.Programme.{Column, Row, Programme}
 use Rattle.pywr.specs.VaryingRows.{RowRequest, exclusiveRequests, requestsBySets, requestsFrom, freshRow}
 use Rattle.pywr.specs.FixedRows.{massRowsFrom, upperCoefficient, lowerCoefficient, exclusiveRows, constantRows, constantRowsFrom, exclusivityRows}
 use Rattle.pywr.specs.Build.{edgeColumn, setColumn, allColumns, requestedRow, assemble, programmeOf}
@@ -26,9 +26,8 @@ use Rattle.pywr.proofs.ListLaws.{AllMem, all-none, all-map, every-mem}
 use Rattle.pywr.proofs.AmountLaws.{pipes-length}
 use Rattle.pywr.proofs.FitLaws.{columns-long}
 use Rattle.pywr.proofs.ShapeLaws.{joins-all}
-use Rattle.pywr.proofs.ReadLaws.{NodeOk, AggregateOk, Good, StorageOk}
-use Rattle.number_laws.proofs.SumBounds.{one-within, zero-within}
-use Rattle.number_laws.proofs.ReadBounds.{SmallFactors, AllSmall}
+use Rattle.pywr.proofs.ReadLaws.{NodeOk, AggregateOk, Good}
+use Rattle.number_laws.proofs.ReadBounds.{AllSmall}
 use Rattle.number_laws.proofs.ElementBounds.{Plain, AllPlain, node-plain, mass-plain, upper-plain, lower-plain, aggregate-plain, storage-plain, exclusivity-plain}
 
 -- bounds that are numbers, and elements of which P holds

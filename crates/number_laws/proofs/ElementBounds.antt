@@ -1,6 +1,6 @@
 -- Every row that a build makes: each element is a number and not −0.0. An element is a sum from 0.0 of 1.0, −1.0 and factors, fewer than a million of them; the
 -- coefficient of an exclusive node, which may be of any size, is added last. Assumes nothing.
-use mathlib.Core.Path.{_≡_, refl, sym, subst}
+use mathlib.Core.Path.{refl}
 use Prim.Native.Nat.{ℕ, suc, _+_, _*_, _≤_, compare, Ordering, Ordering·lt, Ordering·eq, Ordering·gt}
 use native.Mathlib.Nat.{le-trans}
 use native.Mathlib.Omega.{arith}

@@ -18,18 +18,17 @@ use Rattle.pywr.specs.Rows.{Element, columnMap}
 use Rattle.pywr.specs.Programme.{Column, Row, Programme, Shape, Built}
 use Rattle.pywr.specs.Build.{assemble, programmeOf, build}
 use Rattle.pywr.specs.StepFile.{StepFile}
-use Rattle.pywr.specs.StepIntervals.{intervals}
-use Rattle.pywr.specs.Step.{periodOf, periods, stepped}
+use Rattle.pywr.specs.Step.{periodOf, periods}
 use Rattle.pywr.specs.Plans.{allFrom}
 use Rattle.pywr.specs.Store.{Store, programmeIn}
 use Rattle.pywr.specs.Calls.{buildAnswer, buildStore, storeOfStep, isAccepted}
-use Rattle.pywr.specs.Correspondence.{Call, storeAfter, reports, lastAccepted}
+use Rattle.pywr.specs.Correspondence.{storeAfter, reports, lastAccepted}
 use Rattle.pywr.proofs.BoundLaws.{IsBound}
 use Rattle.pywr.proofs.MassLaws.{Every}
 use Rattle.pywr.proofs.Represents.{Represents, programme-back}
 use Rattle.pywr.proofs.RunLaws.{bind-value, after, after-held, Reached, run}
 use Rattle.pywr.proofs.ReadLaws.{Sound, read-sound}
-use Rattle.pywr.proofs.StepReadLaws.{StepSound, step-sound, IntervalsOk, intervals-sound}
+use Rattle.pywr.proofs.StepReadLaws.{StepSound, step-sound, intervals-sound}
 use Rattle.pywr.proofs.DemandThree.{accepted-value, build-accepted, build-represents}
 use Rattle.number_laws.specs.ProgrammeNumbers.{isNumber, columnNumbers, rowNumbers, allNumbers, isMinusZero, rowPlain, elementsPlain, NumbersOnly, NoMinusZero}
 use Rattle.number_laws.proofs.SumBounds.{plain-bits}

@@ -1,10 +1,10 @@
 -- A step whose file was read leaves numbers: costs are sums of at most 1,024 pieces, bounds and coefficients come from the file's intervals. Assumes nothing.
-use mathlib.Core.Path.{_≡_, refl, sym, subst}
+use mathlib.Core.Path.{refl}
 use Prim.Native.Nat.{ℕ, zero, suc, _+_, _*_, _≤_}
 use native.Mathlib.Omega.{arith}
 use mathlib.Core.Bool.{Bool, true, false, cond}
 use mathlib.Core.List.{List, [], _∷_, map, List·Memᴰ·head, List·Memᴰ·tail}
-use lib.ListN.{length, getD, set, replicate, length-map}
+use lib.ListN.{length, getD, set, replicate}
 use lib.Dec.{eqb, lit≤}
 use lib.Ieee.{Float, binary64, add, div, neg}
 use Rattle.doubles.proofs.Units.{finite-number}

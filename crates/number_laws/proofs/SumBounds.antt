@@ -2,32 +2,32 @@
 -- its first operand is. Assumes nothing.
 use mathlib.Core.Path.{_≡_, refl, sym, ap, _∙_, subst}
 use Prim.Native.Nat.{ℕ, zero, suc, _+_, _-_, _*_, _^_, _≤_, _<_, zero-le}
-use native.Mathlib.Nat.{le-trans, le-of-eq, le-of-lt, lt-of-le-of-lt, lt-of-lt-of-le, add-le-add, add-mul, mul-le-mul-right, mul-lt-mul-of-pos-right, one-mul, zero-mul}
+use native.Mathlib.Nat.{le-trans, le-of-eq, lt-of-le-of-lt, add-le-add, add-mul, mul-le-mul-right}
 use native.Mathlib.Omega.{arith}
 use mathlib.Core.Bool.{Bool, true, false, not, _&&_, cond}
 use lib.IntN.{ℤ, pos, negℤ}
 use lib.Dec.{T, T-not, not-T, ltb, eqb, eqb→eq, lit<, lit≤}
 use lib.Pow.{pow-pos}
 use lib.Signed.{leZ}
-use lib.Ieee.{Float, nan, inf, fin, binary64, fits, round, add, div, neg, le, ofBits, toBits, low}
+use lib.Ieee.{Float, binary64, fits, add, div, neg, le, ofBits, toBits, low}
 use lib.Ieee.Bits.{ofBits-toBits}
 use lib.Ieee.Fits.{add-fits, and-l, and-r, div-fits, neg-fits}
 use lib.Ieee.Scale.{finite, overflow}
 use Rattle.laws.proofs.Tests.{tests}
-use Rattle.doubles.specs.Units.{sign, mag, signed, number, Num, rank, zero+, notMinusZero}
+use Rattle.doubles.specs.Units.{sign, mag, signed, Num, rank, notMinusZero}
 use Rattle.doubles.specs.Rounding.{snap, Held, addSign, addMag}
 use Rattle.doubles.specs.Costs.{two}
 use Rattle.doubles.proofs.Integers.{ints, neg-plus, neg-less}
 use Rattle.doubles.proofs.Units.{neg-mag, neg-finite, neg-rank, finite-number}
 use Rattle.doubles.proofs.Order.{neg-num, le→Z}
-use Rattle.doubles.proofs.Rounding.{round-sign, round-num, snap-is, snap-mono, round-held, add-is, addMag-le}
+use Rattle.doubles.proofs.Rounding.{round-sign, snap-is, snap-mono, round-held, add-is, addMag-le}
 use Rattle.doubles.proofs.Sums.{zero-mag, zero-grain}
 use Rattle.doubles.proofs.Monotone.{add-num}
 use Rattle.doubles.proofs.Errors.{under-finite}
 use Rattle.doubles.proofs.Halves.{half-near}
 use Rattle.pywr.specs.Numbers.{zero64, one64, two64, trillion, isFlow, isSmall, ofPattern}
 use Rattle.pywr.proofs.NumberLaws.{FiniteFit, small-is}
-use Rattle.number_laws.specs.ProgrammeNumbers.{isMinusZero}
+use Rattle.number_laws.specs.ProgrammeNumbers.{minusZeroBits, isMinusZero}
 
 -- 2 ^ 40 in units: over 1e12
 unfoldable pub piece : ℕ
@@ -183,7 +183,7 @@ add-plain x y p q n k h =
     T-not s (zero-sum (sign x) (mag binary64 x) (sign y) (mag binary64 y) (snap-kept w (sym mag-is ∙ eqb→eq (mag binary64 r) 0 (and-r (sign r) (eqb (mag binary64 r) 0) t))) h)
     (subst T sign-is (and-l (sign r) (eqb (mag binary64 r) 0) t)))
 
-minus-zero : notMinusZero binary64 (ofBits binary64 0x8000000000000000) ≡ false
+minus-zero : notMinusZero binary64 (ofBits binary64 minusZeroBits) ≡ false
 unfolding ofBits mag
 minus-zero = refl
 
@@ -191,5 +191,5 @@ minus-zero = refl
 pub plain-bits : (x : Float) → T (fits binary64 x) → T (notMinusZero binary64 x) → T (not (isMinusZero x))
 unfolding isMinusZero
 plain-bits x p h =
-    not-T (eqb (toBits binary64 x) 0x8000000000000000)
-    (λ t. subst T (ap (notMinusZero binary64) (sym (ofBits-toBits binary64 x p) ∙ ap (ofBits binary64) (eqb→eq (toBits binary64 x) 0x8000000000000000 t)) ∙ minus-zero) h)
+    not-T (eqb (toBits binary64 x) minusZeroBits)
+    (λ t. subst T (ap (notMinusZero binary64) (sym (ofBits-toBits binary64 x p) ∙ ap (ofBits binary64) (eqb→eq (toBits binary64 x) minusZeroBits t)) ∙ minus-zero) h)

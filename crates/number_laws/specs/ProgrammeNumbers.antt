@@ -29,9 +29,12 @@ allNumbers p =
     && allFrom (λ (i : ℕ) (r : Row). rowNumbers r) 0 (p .varying)
     && allFrom (λ (i : ℕ) (r : Row). rowNumbers r) 0 (p .fixed)
 
--- by its bits
+-- the bits of −0.0
+abbrev pub minusZeroBits : ℕ
+minusZeroBits = 0x8000000000000000
+
 unfoldable pub isMinusZero : Float → Bool
-isMinusZero x = eqb (toBits binary64 x) 0x8000000000000000
+isMinusZero x = eqb (toBits binary64 x) minusZeroBits
 
 unfoldable pub rowPlain : Row → Bool
 rowPlain r = allFrom (λ (i : ℕ) (e : Element). not (isMinusZero (e .factor))) 0 (r .elements)
