@@ -10,6 +10,7 @@ use lib.Ieee.{Float, binary64, fits, neg, eq}
 use Rattle.doubles.proofs.Order.{neg-num, larger-num, smaller-num}
 use Rattle.doubles.proofs.Rounding.{round-num}
 use Rattle.pywr.specs.declared.Sentinel.{Sentinel}
+use Rattle.pywr.specs.declared.Sentinel.the-variants.{Infinity}
 use Rattle.pywr.specs.Numbers.{double, zero64, one64, million, millionth, high, lesser, greater}
 use Rattle.pywr.specs.Network.{link, Node, Aggregate, Network}
 use Rattle.pywr.specs.ColEdgeMap.{columns, mappedEdges}
@@ -22,11 +23,12 @@ use Rattle.pywr.specs.FixedRows.{massRowsFrom, upperCoefficient, lowerCoefficie
 use Rattle.pywr.specs.Build.{edgeColumn, setColumn, allColumns, requestedRow, assemble, programmeOf}
 use Rattle.pywr.proofs.BoundLaws.{IsBound, high-bound}
 use Rattle.pywr.proofs.MassLaws.{Every, every-append}
-use Rattle.pywr.proofs.ListLaws.{AllMem, all-none, all-map, every-mem}
+use Rattle.pywr.proofs.ListLaws.{AllMem, all-none, all-append, all-map, every-mem}
 use Rattle.pywr.proofs.AmountLaws.{pipes-length}
 use Rattle.pywr.proofs.FitLaws.{columns-long}
 use Rattle.pywr.proofs.ShapeLaws.{joins-all}
 use Rattle.pywr.proofs.ReadLaws.{NodeOk, AggregateOk, Good}
+use Rattle.number_laws.specs.ProgrammeNumbers.{askedRows}
 use Rattle.number_laws.proofs.ReadBounds.{AllSmall}
 use Rattle.number_laws.proofs.ElementBounds.{Plain, AllPlain, node-plain, mass-plain, upper-plain, lower-plain, aggregate-plain, storage-plain, exclusivity-plain}
 
@@ -184,34 +186,60 @@ module _ (s : Sentinel) (f : ColumnMap) (few : length (f .mappedEdges) ≤ 512) 
 
   -- ---- the whole programme
 
-  assembled : (net : Network) → Good net → AllSmall net → ProgrammeOk Plain (assemble s net f .programme)
-  unfolding assemble requestedRow
-  assembled net good small =
-      let requests : List RowRequest = requestsFrom f 0 (net .nodes) in
-      let forNodes : Joined = addVariableRows (map requestedRow requests) (record { rows = []; places = [] }) in
-      let forAggregates : Joined = addVariableRows (map (aggregateRow f) (net .aggregates)) (record { rows = forNodes .rows; places = [] }) in
-      let forStorages : Joined = addVariableRows (map (virtualStorageRow f) (net .virtualStorages)) (record { rows = forAggregates .rows; places = [] }) in
-      let a : AllMem AllPlain (forNodes .rows) = joins-all AllPlain (map requestedRow requests) (record { rows = []; places = [] }) (all-map AllPlain requestedRow requests (every-mem AskOk requests (asks-ok 0 (net .nodes)))) (all-none AllPlain) in
-      let b : AllMem AllPlain (forAggregates .rows) = joins-all AllPlain (map (aggregateRow f) (net .aggregates)) (record { rows = forNodes .rows; places = [] })
-      (all-map AllPlain (aggregateRow f) (net .aggregates) (λ g m. aggregate-plain f few (length (net .nodes)) g (good .aggregates g m))) a in
-      let c : AllMem AllPlain (forStorages .rows) = joins-all AllPlain (map (virtualStorageRow f) (net .virtualStorages)) (record { rows = forAggregates .rows; places = [] })
-      (all-map AllPlain (virtualStorageRow f) (net .virtualStorages) (λ v m. storage-plain f few v (small v m) (good .storages v m .few))) b in
-      let mass : List Row = massRowsFrom f 0 (net .nodes) in
-      let constant : List Row = constantRowsFrom s f 0 (net .nodes) in
-      record {
-        columns = columns-ok s f;
-        varying = fresh-ok (forStorages .rows) (mem-every AllPlain (forStorages .rows) c);
-        fixed =
-            every-append (RowOk Plain) (mass ++ constant) (exclusivityRows f (net .aggregates)) .1 (
-              every-append (RowOk Plain) mass constant .1 (masses-ok 0 (net .nodes), constants-ok 0 (net .nodes) (good .nodes)),
-              exclusivities-ok (length (net .nodes)) (net .aggregates) (good .aggregates),
-            );
-      }
+  module _ (net : Network) (good : Good net) (small : AllSmall net) where
+    abbrev requests : List RowRequest
+    requests = requestsFrom f 0 (net .nodes)
+
+    pub nodes-asked : AllMem AllPlain (map requestedRow requests)
+    unfolding requestedRow
+    nodes-asked = all-map AllPlain requestedRow requests (every-mem AskOk requests (asks-ok 0 (net .nodes)))
+
+    pub aggregates-asked : AllMem AllPlain (map (aggregateRow f) (net .aggregates))
+    aggregates-asked = all-map AllPlain (aggregateRow f) (net .aggregates) (λ g m. aggregate-plain f few (length (net .nodes)) g (good .aggregates g m))
+
+    pub storages-asked : AllMem AllPlain (map (virtualStorageRow f) (net .virtualStorages))
+    storages-asked = all-map AllPlain (virtualStorageRow f) (net .virtualStorages) (λ v m. storage-plain f few v (small v m) (good .storages v m .few))
+
+    assembled : ProgrammeOk Plain (assemble s net f .programme)
+    unfolding assemble
+    assembled =
+        let forNodes : Joined = addVariableRows (map requestedRow requests) (record { rows = []; places = [] }) in
+        let forAggregates : Joined = addVariableRows (map (aggregateRow f) (net .aggregates)) (record { rows = forNodes .rows; places = [] }) in
+        let forStorages : Joined = addVariableRows (map (virtualStorageRow f) (net .virtualStorages)) (record { rows = forAggregates .rows; places = [] }) in
+        let a : AllMem AllPlain (forNodes .rows) = joins-all AllPlain (map requestedRow requests) (record { rows = []; places = [] }) nodes-asked (all-none AllPlain) in
+        let b : AllMem AllPlain (forAggregates .rows) = joins-all AllPlain (map (aggregateRow f) (net .aggregates)) (record { rows = forNodes .rows; places = [] }) aggregates-asked a in
+        let c : AllMem AllPlain (forStorages .rows) = joins-all AllPlain (map (virtualStorageRow f) (net .virtualStorages)) (record { rows = forAggregates .rows; places = [] }) storages-asked b in
+        let mass : List Row = massRowsFrom f 0 (net .nodes) in
+        let constant : List Row = constantRowsFrom s f 0 (net .nodes) in
+        record {
+          columns = columns-ok s f;
+          varying = fresh-ok (forStorages .rows) (mem-every AllPlain (forStorages .rows) c);
+          fixed =
+              every-append (RowOk Plain) (mass ++ constant) (exclusivityRows f (net .aggregates)) .1 (
+                every-append (RowOk Plain) mass constant .1 (masses-ok 0 (net .nodes), constants-ok 0 (net .nodes) (good .nodes)),
+                exclusivities-ok (length (net .nodes)) (net .aggregates) (good .aggregates),
+              );
+        }
 
 pub edges-few : (net : Network) → Good net → length (mappedEdges net) ≤ 512
 unfolding mappedEdges
 edges-few net good = le-trans (le-of-eq (pipes-length (net .edges) (columns net .of) (columns-long net))) (good .edgeCount)
 
+-- over the network's own columns
+mapped-few : (net : Network) → Good net → length (columnMap net .mappedEdges) ≤ 512
+unfolding columnMap
+mapped-few net good = edges-few net good
+
 pub build-ok : (s : Sentinel) (net : Network) → Good net → AllSmall net → ProgrammeOk Plain (programmeOf s net .programme)
-unfolding programmeOf columnMap
-build-ok s net good small = assembled s (columnMap net) (edges-few net good) net good small
+unfolding programmeOf
+build-ok s net good small = assembled s (columnMap net) (mapped-few net good) net good small
+
+pub asked-plain : (net : Network) → Good net → AllSmall net → AllMem AllPlain (askedRows net)
+unfolding askedRows
+asked-plain net good small =
+    let f : ColumnMap = columnMap net in
+    let nodes : List (List Element) = map requestedRow (requestsFrom f 0 (net .nodes)) in
+    let groups : List (List Element) = map (aggregateRow f) (net .aggregates) in
+    let h = mapped-few net good in
+    all-append AllPlain (nodes ++ groups) (map (virtualStorageRow f) (net .virtualStorages))
+    (all-append AllPlain nodes groups (nodes-asked Infinity f h net good small) (aggregates-asked Infinity f h net good small)) (storages-asked Infinity f h net good small)

@@ -21,10 +21,10 @@ use Rattle.pywr.proofs.MassLaws.{Every}
 use Rattle.pywr.proofs.ListLaws.{AllMem}
 use Rattle.pywr.proofs.AmountLaws.{columns-few}
 use Rattle.pywr.proofs.ReadLaws.{AggregateOk, SetOk}
-use Rattle.number_laws.proofs.SumBounds.{Within, ceiling, add-within, wider, neg-within, zero-within, one-within, add-plain}
+use Rattle.number_laws.proofs.SumBounds.{Within, mostTerms, add-within, wider, neg-within, zero-within, one-within, add-plain}
 use Rattle.number_laws.proofs.ReadBounds.{SmallPart, SmallFactors}
 
--- a sum of at most n pieces that is not −0.0
+-- a sum of at most n terms that is not −0.0
 pub record Added (n : ℕ) (x : Float) : Type 0 where
   pub within : Within n x
   pub plain : T (notMinusZero binary64 x)
@@ -53,14 +53,14 @@ more-all : (a b : ℕ) (row : List Element) → a ≤ b → AllAdded a row → A
 more-all a b [] h us = tt
 more-all a b (e ∷ es) h us = (more-added a b (e .factor) h (us .0), more-all a b es h (us .1))
 
-add-added : (n : ℕ) (x y : Float) → n + 1 ≤ ceiling → Added n x → Within 1 y → Added (n + 1) (add binary64 x y)
+add-added : (n : ℕ) (x y : Float) → n + 1 ≤ mostTerms → Added n x → Within 1 y → Added (n + 1) (add binary64 x y)
 add-added n x y room u v =
     record {
       within = add-within n 1 x y room (u .within) v;
       plain = add-plain x y (u .within .fit) (v .fit) (u .within .isFinite) (v .isFinite) (u .plain);
     }
 
-module _ (c n : ℕ) (x : Float) (room : n + 1 ≤ ceiling) (small : Within 1 x) where
+module _ (c n : ℕ) (x : Float) (room : n + 1 ≤ mostTerms) (small : Within 1 x) where
   new-added : Added (n + 1) (add binary64 zero64 x)
   new-added = more-added (0 + 1) (n + 1) (add binary64 zero64 x) (omega arith) (add-added 0 zero64 x (lit≤ tt) zero-added small)
 
@@ -74,7 +74,7 @@ module _ (c n : ℕ) (x : Float) (room : n + 1 ≤ ceiling) (small : Within 1 x)
       go Ordering·eq ih = (add-added n (e .factor) x room (us .0) small, more-all n (n + 1) es (omega arith) (us .1))
       go Ordering·gt ih = (more-added n (n + 1) (e .factor) (omega arith) (us .0), ih)
 
-add-on : (cs : List ℕ) (x : Float) (n : ℕ) (row : List Element) → n + length cs ≤ ceiling → Within 1 x → AllAdded n row → AllAdded (n + length cs) (addOn cs x row)
+add-on : (cs : List ℕ) (x : Float) (n : ℕ) (row : List Element) → n + length cs ≤ mostTerms → Within 1 x → AllAdded n row → AllAdded (n + length cs) (addOn cs x row)
 unfolding addOn
 add-on [] x n row room small us = more-all n (n + 0) row (omega arith) us
 add-on (c ∷ cs) x n row room small us =
@@ -129,16 +129,16 @@ module _ (f : ColumnMap) (few : length (f .mappedEdges) ≤ 512) where
   abbrev outs : ℕ → List ℕ
   outs i = columnsOutOf i (f .mappedEdges)
 
-  add-few : (cs : List ℕ) (x : Float) (n : ℕ) (row : List Element) → length cs ≤ 512 → n + 512 ≤ ceiling → Within 1 x → AllAdded n row → AllAdded (n + 512) (addOn cs x row)
+  add-few : (cs : List ℕ) (x : Float) (n : ℕ) (row : List Element) → length cs ≤ 512 → n + 512 ≤ mostTerms → Within 1 x → AllAdded n row → AllAdded (n + 512) (addOn cs x row)
   add-few cs x n row h room small us = more-all (n + length cs) (n + 512) (addOn cs x row) (omega arith) (add-on cs x n row (omega arith) small us)
 
   -- the columns into a node, then those out of it
-  add-both : (i : ℕ) (x y : Float) (n : ℕ) (row : List Element) → n + 1024 ≤ ceiling → Within 1 x → Within 1 y → AllAdded n row → AllAdded (n + 1024) (addOn (outs i) y (addOn (ins i) x row))
+  add-both : (i : ℕ) (x y : Float) (n : ℕ) (row : List Element) → n + 1024 ≤ mostTerms → Within 1 x → Within 1 y → AllAdded n row → AllAdded (n + 1024) (addOn (outs i) y (addOn (ins i) x row))
   add-both i x y n row room sx sy us =
       more-all (n + 512 + 512) (n + 1024) (addOn (outs i) y (addOn (ins i) x row)) (omega arith)
       (add-few (outs i) y (n + 512) (addOn (ins i) x row) (out-few i) (omega arith) sy (add-few (ins i) x n row (into-few i) (omega arith) sx us))
 
-  add-node : (i : ℕ) (x : Float) (n : ℕ) (row : List Element) → n + 1024 ≤ ceiling → Within 1 x → AllAdded n row → AllAdded (n + 1024) (addNode f i x row)
+  add-node : (i : ℕ) (x : Float) (n : ℕ) (row : List Element) → n + 1024 ≤ mostTerms → Within 1 x → AllAdded n row → AllAdded (n + 1024) (addNode f i x row)
   unfolding addNode
   add-node i x n row room small us = go (eqb (kindOf (f .nodes) i) output) (eqb (kindOf (f .nodes) i) storage)
     where
@@ -169,7 +169,7 @@ module _ (f : ColumnMap) (few : length (f .mappedEdges) ≤ 512) where
   unfolding lowerRow
   lower-plain i k x b = add-last (f .edgeColumns + k) (0 + 1024) x b (addNode f i one64 []) (add-node i one64 0 [] (lit≤ tt) one-within tt)
 
-  add-nodes : (is : List ℕ) (n : ℕ) (row : List Element) → n + length is * 1024 ≤ ceiling → AllAdded n row → AllAdded (n + length is * 1024) (addNodes f is row)
+  add-nodes : (is : List ℕ) (n : ℕ) (row : List Element) → n + length is * 1024 ≤ mostTerms → AllAdded n row → AllAdded (n + length is * 1024) (addNodes f is row)
   unfolding addNodes
   add-nodes [] n row room us = more-all n (n + 0 * 1024) row (omega arith) us
   add-nodes (i ∷ is) n row room us =
@@ -177,7 +177,7 @@ module _ (f : ColumnMap) (few : length (f .mappedEdges) ≤ 512) where
       (add-nodes is (n + 1024) (addNode f i one64 row) (omega arith) (add-node i one64 n row (omega arith) one-within us))
 
   -- at most 16 nodes to a set
-  add-sets : (nodes : ℕ) (ss : List (List ℕ)) (n : ℕ) (row : List Element) → AllMem (SetOk nodes) ss → n + length ss * 16384 ≤ ceiling → AllAdded n row → AllAdded (n + length ss * 16384) (addSetsOf f ss row)
+  add-sets : (nodes : ℕ) (ss : List (List ℕ)) (n : ℕ) (row : List Element) → AllMem (SetOk nodes) ss → n + length ss * 16384 ≤ mostTerms → AllAdded n row → AllAdded (n + length ss * 16384) (addSetsOf f ss row)
   unfolding addSetsOf
   add-sets nodes [] n row ok room us = more-all n (n + 0 * 16384) row (omega arith) us
   add-sets nodes (s ∷ ss) n row ok room us =
@@ -192,7 +192,7 @@ module _ (f : ColumnMap) (few : length (f .mappedEdges) ≤ 512) where
       let h : length (a .sets) ≤ 16 = ok .few in
       all-plain (0 + length (a .sets) * 16384) (addSetsOf f (a .sets) []) (add-sets nodes (a .sets) 0 [] (ok .sets) (omega arith) tt)
 
-  add-parts : (ps : List Part) (n : ℕ) (row : List Element) → AllMem SmallPart ps → n + length ps * 1024 ≤ ceiling → AllAdded n row → AllAdded (n + length ps * 1024) (addParts f ps row)
+  add-parts : (ps : List Part) (n : ℕ) (row : List Element) → AllMem SmallPart ps → n + length ps * 1024 ≤ mostTerms → AllAdded n row → AllAdded (n + length ps * 1024) (addParts f ps row)
   unfolding addParts
   add-parts [] n row small room us = more-all n (n + 0 * 1024) row (omega arith) us
   add-parts (p ∷ ps) n row small room us =
@@ -204,7 +204,7 @@ module _ (f : ColumnMap) (few : length (f .mappedEdges) ≤ 512) where
   unfolding virtualStorageRow
   storage-plain v small h = all-plain (0 + length (v .parts) * 1024) (addParts f (v .parts) []) (add-parts (v .parts) 0 [] small (omega arith) tt)
 
-  add-active : (ss : List (List ℕ)) (n : ℕ) (row : List Element) → n + length ss ≤ ceiling → AllAdded n row → AllAdded (n + length ss) (addActive f ss row)
+  add-active : (ss : List (List ℕ)) (n : ℕ) (row : List Element) → n + length ss ≤ mostTerms → AllAdded n row → AllAdded (n + length ss) (addActive f ss row)
   unfolding addActive
   add-active [] n row room us = more-all n (n + 0) row (omega arith) us
   add-active (s ∷ ss) n row room us =

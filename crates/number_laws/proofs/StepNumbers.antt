@@ -1,4 +1,4 @@
--- A step whose file was read leaves numbers: costs are sums of at most 1,024 pieces, bounds and coefficients come from the file's intervals. Assumes nothing.
+-- A step whose file was read leaves numbers: costs are sums of at most 1,024 terms, bounds and coefficients come from the file's intervals. Assumes nothing.
 use mathlib.Core.Path.{refl}
 use Prim.Native.Nat.{ℕ, zero, suc, _+_, _*_, _≤_}
 use native.Mathlib.Omega.{arith}
@@ -26,7 +26,7 @@ use Rattle.pywr.proofs.VaryingLaws.{sentinels-interval}
 use Rattle.pywr.proofs.MassLaws.{Every}
 use Rattle.pywr.proofs.ListLaws.{AllMem}
 use Rattle.pywr.proofs.StepReadLaws.{at-interval, IntervalsOk}
-use Rattle.number_laws.proofs.SumBounds.{Within, ceiling, add-within, wider, neg-within, half-within, zero-within}
+use Rattle.number_laws.proofs.SumBounds.{Within, mostTerms, add-within, wider, neg-within, half-within, zero-within}
 use Rattle.number_laws.proofs.ReadBounds.{SmallCost}
 use Rattle.number_laws.proofs.BuildNumbers.{RowOk, ColumnOk, ProgrammeOk, every-replicate}
 
@@ -137,7 +137,7 @@ more-all : (a b : ℕ) (xs : List Float) → a ≤ b → Every (Within a) xs →
 more-all a b [] h us = tt
 more-all a b (x ∷ xs) h us = (wider a b x h (us .0), more-all a b xs h (us .1))
 
-costs-within : (shapes : List NodeShape) (steps : List NodeStep) → AllMem SmallCost steps → (ps : List MappedEdge) (n : ℕ) (costs : List Float) → n + length ps * 2 ≤ ceiling → Every (Within n) costs
+costs-within : (shapes : List NodeShape) (steps : List NodeStep) → AllMem SmallCost steps → (ps : List MappedEdge) (n : ℕ) (costs : List Float) → n + length ps * 2 ≤ mostTerms → Every (Within n) costs
     → Every (Within (n + length ps * 2)) (addCosts shapes steps ps costs)
 unfolding addCosts
 costs-within shapes steps small [] n costs room us = more-all n (n + 0 * 2) costs (omega arith) us

@@ -1,5 +1,5 @@
--- Sums of doubles that are small: a sum of values of at most a and b times 2 ^ 40 is at most a + b times that, whatever is rounded; and a sum is −0.0 only where
--- its first operand is. Assumes nothing.
+-- Sums of doubles that are small: where x is at most a times 2 ^ 40 and y at most b times that, their sum is at most a + b times that, whatever is rounded; and a
+-- sum is −0.0 only where its first operand is. Assumes nothing.
 use mathlib.Core.Path.{_≡_, refl, sym, ap, _∙_, subst}
 use Prim.Native.Nat.{ℕ, zero, suc, _+_, _-_, _*_, _^_, _≤_, _<_, zero-le}
 use native.Mathlib.Nat.{le-trans, le-of-eq, lt-of-le-of-lt, add-le-add, add-mul, mul-le-mul-right}
@@ -29,65 +29,61 @@ use Rattle.pywr.specs.Numbers.{zero64, one64, two64, trillion, isFlow, isSmall,
 use Rattle.pywr.proofs.NumberLaws.{FiniteFit, small-is}
 use Rattle.number_laws.specs.ProgrammeNumbers.{minusZeroBits, isMinusZero}
 
--- 2 ^ 40 in units: over 1e12
-unfoldable pub piece : ℕ
-piece = 2 ^ 1114
+-- what each term of a sum keeps under, 2 ^ 40 in units: over 1e12
+unfoldable pub largestTerm : ℕ
+largestTerm = 2 ^ 1114
 
-piece-pos : 0 < piece
-unfolding piece
-piece-pos = pow-pos 1114
-
--- a finite double of at most n pieces
+-- a finite double of at most n of these
 pub record Within (n : ℕ) (x : Float) : Type 0 where
   pub fit : T (fits binary64 x)
   pub isFinite : T (finite x)
-  pub most : mag binary64 x ≤ n * piece
+  pub most : mag binary64 x ≤ n * largestTerm
 
--- how many pieces a sum may have
-abbrev pub ceiling : ℕ
-ceiling = 1000000
+-- how many terms a sum may have
+abbrev pub mostTerms : ℕ
+mostTerms = 1000000
 
-ceiling-under : ceiling * piece < overflow binary64
-unfolding piece
-ceiling-under = lit< tt
+terms-under : mostTerms * largestTerm < overflow binary64
+unfolding largestTerm
+terms-under = lit< tt
 
-pieces-held : (n : ℕ) → n ≤ ceiling → Held binary64 (n * piece)
-unfolding piece
-pieces-held n h = record {
+terms-held : (n : ℕ) → n ≤ mostTerms → Held binary64 (n * largestTerm)
+unfolding largestTerm
+terms-held n h = record {
   q = n;
   j = 1114;
   few = lt-of-le-of-lt h (lit< tt);
   is = refl;
-  under = unfold piece in lt-of-le-of-lt (mul-le-mul-right (2 ^ 1114) h) ceiling-under;
+  under = unfold largestTerm in lt-of-le-of-lt (mul-le-mul-right (2 ^ 1114) h) terms-under;
 }
 
 -- ---- magnitudes
 
-module _ (a b : ℕ) (x y : Float) (room : a + b ≤ ceiling) (u : Within a x) (v : Within b y) where
-  exact-most : addMag (sign x) (mag binary64 x) (sign y) (mag binary64 y) ≤ (a + b) * piece
-  exact-most = le-trans (addMag-le (sign x) (mag binary64 x) (sign y) (mag binary64 y)) (le-trans (add-le-add (u .most) (v .most)) (le-of-eq (sym (add-mul a b piece))))
+module _ (a b : ℕ) (x y : Float) (room : a + b ≤ mostTerms) (u : Within a x) (v : Within b y) where
+  exact-most : addMag (sign x) (mag binary64 x) (sign y) (mag binary64 y) ≤ (a + b) * largestTerm
+  exact-most = le-trans (addMag-le (sign x) (mag binary64 x) (sign y) (mag binary64 y)) (le-trans (add-le-add (u .most) (v .most)) (le-of-eq (sym (add-mul a b largestTerm))))
 
-  sum-most : mag binary64 (add binary64 x y) ≤ (a + b) * piece
+  sum-most : mag binary64 (add binary64 x y) ≤ (a + b) * largestTerm
   sum-most =
       let w : ℕ = addMag (sign x) (mag binary64 x) (sign y) (mag binary64 y) in
       let s : Bool = addSign (sign x) (mag binary64 x) (sign y) (mag binary64 y) in
       let L : ℕ = 2 ^ low binary64 in
       let Lp = pow-pos (low binary64) in
       le-trans (le-of-eq (ap (mag binary64) (add-is binary64 x y (u .fit) (v .fit) (u .isFinite) (v .isFinite)) ∙ snap-is binary64 s w L))
-      (le-trans (snap-mono binary64 w L ((a + b) * piece) L Lp Lp (mul-le-mul-right L exact-most))
-      (le-of-eq (sym (snap-is binary64 false ((a + b) * piece) L) ∙ round-held binary64 false ((a + b) * piece) (pieces-held (a + b) room) .magIs)))
+      (le-trans (snap-mono binary64 w L ((a + b) * largestTerm) L Lp Lp (mul-le-mul-right L exact-most))
+      (le-of-eq (sym (snap-is binary64 false ((a + b) * largestTerm) L) ∙ round-held binary64 false ((a + b) * largestTerm) (terms-held (a + b) room) .magIs)))
 
   pub add-within : Within (a + b) (add binary64 x y)
   add-within = record {
     fit = add-fits binary64 x y;
     isFinite =
         under-finite binary64 (add binary64 x y) (add-num binary64 x y (u .fit) (v .fit) (u .isFinite) (v .isFinite) .1)
-        (lt-of-le-of-lt sum-most (pieces-held (a + b) room .under));
+        (lt-of-le-of-lt sum-most (terms-held (a + b) room .under));
     most = sum-most;
   }
 
 pub wider : (a b : ℕ) (x : Float) → a ≤ b → Within a x → Within b x
-wider a b x h u = record { fit = u .fit; isFinite = u .isFinite; most = le-trans (u .most) (mul-le-mul-right piece h) }
+wider a b x h u = record { fit = u .fit; isFinite = u .isFinite; most = le-trans (u .most) (mul-le-mul-right largestTerm h) }
 
 pub neg-within : (n : ℕ) (x : Float) → Within n x → Within n (neg x)
 neg-within n x u = record { fit = neg-fits binary64 x (u .fit); isFinite = rw (neg-finite x) (u .isFinite); most = le-trans (le-of-eq (neg-mag binary64 x)) (u .most) }
@@ -106,7 +102,7 @@ unfolding zero64
 zero-within n = record { fit = zero-grain binary64 0 .fit; isFinite = tt; most = le-trans (le-of-eq (zero-mag binary64)) zero-le }
 
 pub one-within : Within 1 one64
-unfolding one64 fits mag piece
+unfolding one64 fits mag largestTerm
 one-within = record { fit = tt; isFinite = tt; most = lit≤ tt }
 
 -- a pattern of at most 1e12 in magnitude
@@ -122,8 +118,8 @@ trillion-rank : rank binary64 trillion ≡ pos (mag binary64 trillion)
 unfolding trillion ofBits
 trillion-rank = refl
 
-trillion-most : mag binary64 trillion ≤ 1 * piece
-unfolding trillion ofBits mag piece
+trillion-most : mag binary64 trillion ≤ 1 * largestTerm
+unfolding trillion ofBits mag largestTerm
 trillion-most = lit≤ tt
 
 pub small-within : (bits : ℕ) → T (isSmall bits) → Within 1 (ofPattern bits)
