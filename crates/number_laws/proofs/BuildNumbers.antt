@@ -65,7 +65,7 @@ every-if P false x p = tt
 
 -- ---- numbers
 
-pub zero-bound : IsBound zero64
+zero-bound : IsBound zero64
 unfolding zero64 fits
 zero-bound = (tt, tt)
 

@@ -86,7 +86,7 @@ add-on (c ∷ cs) x n row room small us =
 plain-of : (n : ℕ) (x : Float) → Added n x → Plain x
 plain-of n x u = record { bound = (u .within .fit, finite-number x (u .within .isFinite)); plain = u .plain }
 
-pub all-plain : (n : ℕ) (row : List Element) → AllAdded n row → AllPlain row
+all-plain : (n : ℕ) (row : List Element) → AllAdded n row → AllPlain row
 all-plain n [] us = tt
 all-plain n (e ∷ es) us = (plain-of n (e .factor) (us .0), all-plain n es (us .1))
 
