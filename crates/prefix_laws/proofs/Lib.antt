@@ -1,0 +1,3 @@
+pub mod SameBytes
+pub mod NetworkPrefix
+pub mod StepPrefix
