@@ -56,6 +56,10 @@ AfterBuildByPrefix =
     (s : Sentinel) (file : List ℕ) (old : Store) (words : List ℕ) (numbers : List Float) (r : Answer) (new : Store) (words′ : List ℕ) (numbers′ : List Float) (m : ℕ)
     → networkPrefix ≤ m → AfterBuild s (take m file) old words numbers r new words′ numbers′ → AfterBuild s file old words numbers r new words′ numbers′
 
+-- no fewer bytes do
+abbrev pub NetworkPrefixLeast : Type 0
+NetworkPrefixLeast = (s : Sentinel) (m : ℕ) → ((file : List ℕ) → build s (take m file) ≡ build s file) → networkPrefix ≤ m
+
 abbrev pub AcceptedNetworkLength : Type 0
 AcceptedNetworkLength = (s : Sentinel) (file : List ℕ) → isAccepted (build s file) ≡ true → length file ≤ longestNetwork
 
@@ -72,6 +76,10 @@ abbrev pub AfterStepByPrefix : Type 0
 AfterStepByPrefix =
     (file : List ℕ) (old : Store) (work : List Float) (r : Answer) (new : Store) (work′ : List Float) (m : ℕ)
     → stepPrefix ≤ m → AfterStep (take m file) old work r new work′ → AfterStep file old work r new work′
+
+-- no fewer bytes do
+abbrev pub StepPrefixLeast : Type 0
+StepPrefixLeast = (m : ℕ) → ((store : Store) (file : List ℕ) (work : List Float) → stepAnswer store (take m file) work ≡ stepAnswer store file work) → stepPrefix ≤ m
 
 abbrev pub AcceptedStepLength : Type 0
 AcceptedStepLength = (store : Store) (file : List ℕ) (work : List Float) → isAccepted (stepAnswer store file work) ≡ true → length file ≤ longestStep
