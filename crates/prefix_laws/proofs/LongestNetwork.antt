@@ -339,10 +339,10 @@ module _ (file tail : List ℕ) (e : file ≡ longest tail) where
   length-is : 0 < length tail → length file ≡ longestNetwork + length tail
   length-is h = let r = read-to-end file tail e in omega (arith, length-drop longestNetwork file, ap length (r .tail-left))
 
-  ends-by : (x : Result Network) → length tail ≤ 2 → 0 < length tail
+  ends-by : (x : Result Network) → 0 < length tail
       → ((left : ℕ) (r : Reading) → r .at ≡ longestNetwork → r .stage ≤ 3 → length (r .network .virtualStorages) ≡ 32 → readRecords (suc left) file r ≡ x)
       → readRecords (length file) file begin ≡ x
-  ends-by x few some-bytes last =
+  ends-by x some-bytes last =
       let t = read-to-end file tail e in
       let s = t .reached in
       let long = length-is some-bytes in
@@ -356,7 +356,7 @@ full-answer : (file : List ℕ) → file ≡ longest (86 ∷ 83 ∷ []) → read
 unfolding hasRoom markAt
 full-answer file e =
     let t = read-to-end file (86 ∷ 83 ∷ []) e in
-    ends-by file (86 ∷ 83 ∷ []) e (refused 6 longestNetwork) (omega arith) (omega arith)
+    ends-by file (86 ∷ 83 ∷ []) e (refused 6 longestNetwork) (omega arith)
     (λ left r at-is stage many.
     let d = subst (λ (p : ℕ). drop p file ≡ 86 ∷ 83 ∷ []) (sym at-is) (t .tail-left) in
     last-full file left r (mark-inside file (r .at) 86 83 [] d) (mark-read file (r .at) 86 83 [] d) stage (le-ltb (length (r .network .virtualStorages)) 32 (omega arith)) ∙ ap (λ (p : ℕ). refused 6 p) at-is)
@@ -364,7 +364,7 @@ full-answer file e =
 short-answer : (file : List ℕ) → file ≡ longest (86 ∷ []) → readRecords (length file) file begin ≡ refused 1 longestNetwork
 short-answer file e =
     let long = length-is file (86 ∷ []) e (omega arith) in
-    ends-by file (86 ∷ []) e (refused 1 longestNetwork) (omega arith) (omega arith)
+    ends-by file (86 ∷ []) e (refused 1 longestNetwork) (omega arith)
     (λ left r at-is stage many. last-short file left r (omega arith) (lt-leb (r .at + 2) (length file) (omega arith)) ∙ ap (λ (p : ℕ). refused 1 p) at-is)
 
 build-refused : (s : Sentinel) (file : List ℕ) (n p : ℕ) → readRecords (length file) file begin ≡ refused n p → build s file ≡ refused n p
