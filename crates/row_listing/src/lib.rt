@@ -41,7 +41,7 @@ pub fn write_out(out: &[u8], end: usize, written: bool) -> bool
     ensures { λ r. ⌜ (written ≡ false → r ≡ false) ⌝ }
 {
     if written {
-        return streams::write_all(&out[0..end]);
+        return streams::write_all(libc::STDOUT_FILENO, &out[0..end]);
     }
     false
 }

@@ -1,4 +1,4 @@
-// Bytes written whole on standard output, and files read whole: a call that moves a part is followed by one for the rest, one that a signal
+// Bytes written whole, and files read whole: a call that moves a part is followed by one for the rest, one that a signal
 // interrupts is made again, and a failure is told apart from the end of a file. After a failure errno says why, and `os::fail` tells it.
 ghost use mathlib.Core.Path.{_≡_};
 ghost use mathlib.Core.Bool.{true};
@@ -16,14 +16,14 @@ fn interrupted(got: isize) -> bool {
     false
 }
 
-// Writes the bytes on standard output and answers whether it took them all.
-pub fn write_all(bytes: &[u8]) -> bool
+// Writes the bytes to an open file and answers whether it took them all.
+pub fn write_all(fd: i32, bytes: &[u8]) -> bool
     ensures { λ r. ⌜ (length (now (bytes .entry)) ≡ 0 → r ≡ true) ⌝ }
 {
     let mut done: usize = 0;
     let mut tries: usize = TRIES;
     while done < bytes.len() {
-        let got = libc::write(libc::STDOUT_FILENO, &bytes[done..]);
+        let got = libc::write(fd, &bytes[done..]);
         let taken = io::count(got, &bytes[done..]);
         if taken == 0 {
             if tries == 0 {

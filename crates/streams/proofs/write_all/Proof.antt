@@ -8,10 +8,10 @@ use Rattle.streams.proofs.write_all.Statement.{statement}
 use Rattle.streams.proofs.write_all.Tie as tie
 
 abbrev Inv-loop : tie.InvT-loop
-Inv-loop bytes done₀ tries₀ done tries = done ≤ length bytes
+Inv-loop fd bytes done₀ tries₀ done tries = done ≤ length bytes
 
 abbrev μ-loop : tie.MeasureT-loop
-μ-loop bytes done₀ tries₀ done tries = length bytes - done + tries
+μ-loop fd bytes done₀ tries₀ done tries = length bytes - done + tries
 
 -- a byte is left that was not taken
 returns : tie.Need-returns Inv-loop μ-loop
