@@ -8,37 +8,11 @@
 //   Z 0 0   sets the whole store to zero, as it is at the start
 // A build and a step answer by the line A, or N with the refusal's number and place. The work run is lent as ones: where it is not all zero
 // after a step, the line `work` says how many of its elements are not.
+use program_store::Runs;
 use pywr::Answer;
 use pywr::Sentinel;
 ghost use Prim.Native.Nat.{_≤_};
 ghost use lib.ListN.{length};
-
-// The runs of a store: each command takes it and hands it back.
-struct Store {
-    col_lower: [f64; 640],
-    col_upper: [f64; 640],
-    col_obj_coef: [f64; 640],
-    row_lower: [f64; 1024],
-    row_upper: [f64; 1024],
-    elements: [f64; 4096],
-    columns: [u16; 4096],
-    row_starts: [u32; 1025],
-    shape: [u16; 19723],
-}
-
-fn zeros() -> Store {
-    Store {
-        col_lower: [0.0f64; 640],
-        col_upper: [0.0f64; 640],
-        col_obj_coef: [0.0f64; 640],
-        row_lower: [0.0f64; 1024],
-        row_upper: [0.0f64; 1024],
-        elements: [0.0f64; 4096],
-        columns: [0u16; 4096],
-        row_starts: [0u32; 1025],
-        shape: [0u16; 19723],
-    }
-}
 
 fn print_number(n: usize) {
     io::write_all(1, b" ");
@@ -67,45 +41,11 @@ fn sentinel(number: u16) -> Sentinel {
     }
 }
 
-fn build(file: &[u8], number: u16, store: Store) -> Store {
-    let mut col_lower = store.col_lower;
-    let mut col_upper = store.col_upper;
-    let mut col_obj_coef = store.col_obj_coef;
-    let mut row_lower = store.row_lower;
-    let mut row_upper = store.row_upper;
-    let mut elements = store.elements;
-    let mut columns = store.columns;
-    let mut row_starts = store.row_starts;
-    let mut shape = store.shape;
-    let mut words = [0u16; 24844];
-    let mut numbers = [0.0f64; 6784];
-    let answer = builder::build(
-        file,
-        sentinel(number),
-        &mut col_lower,
-        &mut col_upper,
-        &mut col_obj_coef,
-        &mut row_lower,
-        &mut row_upper,
-        &mut elements,
-        &mut columns,
-        &mut row_starts,
-        &mut shape,
-        &mut words,
-        &mut numbers,
-    );
+fn build(file: &[u8], number: u16, runs: Runs) -> Runs {
+    let built = program_store::build(file, sentinel(number), runs);
+    let answer = built.answer;
     print_answer(answer);
-    Store {
-        col_lower,
-        col_upper,
-        col_obj_coef,
-        row_lower,
-        row_upper,
-        elements,
-        columns,
-        row_starts,
-        shape,
-    }
+    built.runs
 }
 
 // 1 for an element that is not zero, and 0 for zero.
@@ -174,7 +114,7 @@ fn front_mut(run: &mut [f64], short: bool) -> &mut [f64] {
     run
 }
 
-fn step(file: &[u8], short: u16, store: Store) -> Store {
+fn step(file: &[u8], short: u16, store: Runs) -> Runs {
     let col_lower = store.col_lower;
     let col_upper = store.col_upper;
     let mut col_obj_coef = store.col_obj_coef;
@@ -200,7 +140,7 @@ fn step(file: &[u8], short: u16, store: Store) -> Store {
     );
     print_answer(answer);
     print_work(&work);
-    Store {
+    Runs {
         col_lower,
         col_upper,
         col_obj_coef,
@@ -221,7 +161,7 @@ fn print_change(run: &[u8], at: usize, old: u32, new: u16) {
     io::write_all(1, b"\n");
 }
 
-fn change_shape(mut store: Store, at: usize, word: u16) -> Store {
+fn change_shape(mut store: Runs, at: usize, word: u16) -> Runs {
     if at < 19723 {
         print_change(b"shape", at, store.shape[at] as u32, word);
         store.shape[at] = word;
@@ -229,7 +169,7 @@ fn change_shape(mut store: Store, at: usize, word: u16) -> Store {
     store
 }
 
-fn change_column(mut store: Store, at: usize, column: u16) -> Store {
+fn change_column(mut store: Runs, at: usize, column: u16) -> Runs {
     if at < 4096 {
         print_change(b"column", at, store.columns[at] as u32, column);
         store.columns[at] = column;
@@ -237,7 +177,7 @@ fn change_column(mut store: Store, at: usize, column: u16) -> Store {
     store
 }
 
-fn change_start(mut store: Store, at: usize, start: u16) -> Store {
+fn change_start(mut store: Runs, at: usize, start: u16) -> Runs {
     if at < 1025 {
         print_change(b"start", at, store.row_starts[at], start);
         store.row_starts[at] = start as u32;
@@ -250,7 +190,7 @@ fn print_sum(a: u16, b: u16) {
 }
 
 // The counts that the shape run starts with: columns of edges and of sets, varying and fixed rows, elements.
-fn print_counts(store: Store) {
+fn print_counts(store: Runs) {
     io::write_all(1, b"P");
     print_sum(store.shape[3], store.shape[4]);
     print_sum(store.shape[5], store.shape[6]);
@@ -259,35 +199,12 @@ fn print_counts(store: Store) {
     io::write_all(1, b"\n");
 }
 
-fn list(store: Store) {
-    let col_lower = store.col_lower;
-    let col_upper = store.col_upper;
-    let col_obj_coef = store.col_obj_coef;
-    let row_lower = store.row_lower;
-    let row_upper = store.row_upper;
-    let elements = store.elements;
-    let columns = store.columns;
-    let row_starts = store.row_starts;
-    let shape = store.shape;
-    listing::list_programme(
-        &col_lower,
-        &col_upper,
-        &col_obj_coef,
-        &row_lower,
-        &row_upper,
-        &elements,
-        &columns,
-        &row_starts,
-        &shape,
-    );
-}
-
 fn word_of(low: u8, high: u8) -> u16 {
     low as u16 + 256 * (high as u16)
 }
 
 // Runs a command on the store; a letter that is none does nothing.
-fn run(command: [u8; 5], file: &[u8], store: Store) -> Store {
+fn run(command: [u8; 5], file: &[u8], store: Runs) -> Runs {
     let letter = command[0];
     let first = word_of(command[1], command[2]);
     let second = word_of(command[3], command[4]);
@@ -306,10 +223,10 @@ fn run(command: [u8; 5], file: &[u8], store: Store) -> Store {
             store
         }
         b'L' => {
-            list(store);
+            program_store::list(store);
             store
         }
-        b'Z' => zeros(),
+        b'Z' => program_store::zeros(),
         _ => store,
     }
 }
@@ -340,7 +257,7 @@ fn read(buffer: &mut [u8], n: usize) -> bool
 // At most 65,536 commands.
 fn main() {
     let mut buffer = io::large_buffer();
-    let mut store = zeros();
+    let mut store = program_store::zeros();
     let mut i: usize = 0;
     while i < 65536 {
         let mut command = [0u8; 5];

@@ -1,10 +1,12 @@
 // A stored programme written on standard output, one item a line; the line of a refusal; the line of a step.
-// What stands in each line is proved, in `listing_lines` and `stored_lines`; the functions here answer how many bytes they hand to standard output.
-// That the bytes go out is not stated: output is outside the logic, and no contract of `io` says which bytes are written.
+// What stands in each line is proved, in `listing_lines` and `stored_lines`; the functions here answer how many bytes the text has that they hand to
+// standard output. That the bytes go out is not stated: output is outside the logic. Where a write fails the answer says so, the rest is not
+// written, and errno says why.
 use row_listing::Listed;
 use row_listing::least;
 use row_listing::list_rows;
 use row_listing::spare;
+use row_listing::write_out;
 use store_shape::EDGE_COLUMN_COUNT;
 use store_shape::SET_COUNT;
 use stored_lines::put_counts;
@@ -17,6 +19,12 @@ ghost use Rattle.pywr.specs.Store.{Store};
 ghost use Rattle.listing_fields.specs.Fields.{PutWithin};
 ghost use Rattle.listing_lines.specs.Lines.{refusalLine, stepLine};
 ghost use Rattle.listing.specs.Listing.{columnsText, listedColumns, programmeText};
+
+// How many bytes a text has, and whether standard output took them all.
+pub struct Output {
+    pub bytes: usize,
+    pub written: bool,
+}
 
 // How many columns are listed of a store whose runs have these lengths.
 fn listed_columns(shape: &[u16], lower: usize, upper: usize, cost: usize) -> usize
@@ -42,15 +50,18 @@ fn list_columns(
 {
     let end = listed_columns(shape, col_lower.len(), col_upper.len(), col_obj_coef.len());
     let mut at = from;
+    let mut written = true;
     let mut bytes: usize = 0;
     let mut i: usize = 0;
     while i < end {
-        let start = spare(out, at);
+        let room = spare(out, at, written);
+        written = room.written;
+        let start = room.at;
         at = put_stored_column(out, start, col_lower, col_upper, col_obj_coef, shape, i);
         bytes += at - start;
         i += 1;
     }
-    Listed { at, bytes }
+    Listed { at, bytes, written }
 }
 
 fn list(
@@ -64,9 +75,9 @@ fn list(
     columns: &[u16],
     row_starts: &[u32],
     shape: &[u16],
-) -> usize
+) -> Output
     requires { ⌜ 128 ≤ length (now out) ⌝ }
-    ensures { λ r. ⌜ r ≡ length (programmeText (record {
+    ensures { λ r. ⌜ r .bytes ≡ length (programmeText (record {
       colLower = now («col_lower» .entry);
       colUpper = now («col_upper» .entry);
       colObjCoef = now («col_obj_coef» .entry);
@@ -83,6 +94,7 @@ fn list(
     let rows = list_rows(
         out,
         listed.at,
+        listed.written,
         row_lower,
         row_upper,
         elements,
@@ -90,7 +102,10 @@ fn list(
         row_starts,
         shape,
     );
-    counts + listed.bytes + rows
+    Output {
+        bytes: counts + listed.bytes + rows.bytes,
+        written: write_out(out, rows.at, rows.written),
+    }
 }
 
 // Writes the programme of a store: its P line, its C lines, and each R line with its E lines; of a misshapen store, what its runs hold.
@@ -104,8 +119,8 @@ pub fn list_programme(
     columns: &[u16],
     row_starts: &[u32],
     shape: &[u16],
-) -> usize
-    ensures { λ r. ⌜ r ≡ length (programmeText (record {
+) -> Output
+    ensures { λ r. ⌜ r .bytes ≡ length (programmeText (record {
       colLower = now («col_lower» .entry);
       colUpper = now («col_upper» .entry);
       colObjCoef = now («col_obj_coef» .entry);
@@ -133,35 +148,39 @@ pub fn list_programme(
 }
 
 // Writes the line that stands at the front of the buffer when it returns, and answers its length.
-fn write_refusal(out: &mut [u8], number: usize, place: usize) -> usize
+fn write_refusal(out: &mut [u8], number: usize, place: usize) -> Output
     requires { ⌜ 128 ≤ length (now out) ⌝ }
-    ensures { λ r. ⌜ PutWithin 128 (refusalLine number place) (now (out .entry)) 0 (now (out .exit)) r ⌝ }
+    ensures { λ r. ⌜ PutWithin 128 (refusalLine number place) (now (out .entry)) 0 (now (out .exit)) (r .bytes) ⌝ }
 {
     let end = listing_lines::put_refusal(out, 0, number, place);
-    io::write_all(1, &out[0..end]);
-    end
+    Output {
+        bytes: end,
+        written: write_out(out, end, true),
+    }
 }
 
-fn write_step(out: &mut [u8], k: usize) -> usize
+fn write_step(out: &mut [u8], k: usize) -> Output
     requires { ⌜ 128 ≤ length (now out) ⌝ }
-    ensures { λ r. ⌜ PutWithin 128 (stepLine k) (now (out .entry)) 0 (now (out .exit)) r ⌝ }
+    ensures { λ r. ⌜ PutWithin 128 (stepLine k) (now (out .entry)) 0 (now (out .exit)) (r .bytes) ⌝ }
 {
     let end = listing_lines::put_step(out, 0, k);
-    io::write_all(1, &out[0..end]);
-    end
+    Output {
+        bytes: end,
+        written: write_out(out, end, true),
+    }
 }
 
 // Writes the N line of a refusal.
-pub fn list_refusal(number: u8, place: usize) -> usize
-    ensures { λ r. ⌜ r ≡ length (refusalLine number place) ⌝ }
+pub fn list_refusal(number: u8, place: usize) -> Output
+    ensures { λ r. ⌜ r .bytes ≡ length (refusalLine number place) ⌝ }
 {
     let mut out = io::buffer();
     write_refusal(&mut out, number as usize, place)
 }
 
 // Writes the S line of step k, which stands in front of its listing or refusal.
-pub fn list_step(k: usize) -> usize
-    ensures { λ r. ⌜ r ≡ length (stepLine k) ⌝ }
+pub fn list_step(k: usize) -> Output
+    ensures { λ r. ⌜ r .bytes ≡ length (stepLine k) ⌝ }
 {
     let mut out = io::buffer();
     write_step(&mut out, k)

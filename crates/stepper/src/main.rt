@@ -1,172 +1,98 @@
 // stepper [--finite] NETWORK [STEP]..: builds the network, then runs each step file on the store as the call before left it.
 // A step gets the line S with its number, from 0, and then the programme or, if it is refused, the line N: the store stays as it was.
-// A network that is refused gets its line N alone. --finite picks the largest finite double as high sentinel in place of infinity.
-// A file that cannot be opened or read is named on standard error and ends the run.
+// Without steps the fresh build is listed; a network that is refused gets its line N alone. --finite picks the largest finite double as high
+// sentinel in place of infinity. What goes wrong is said on standard error and ends the run: the program has no exit status.
 use libc::STDERR_FILENO;
+use libc::STDOUT_FILENO;
+use program_store::Runs;
 use pywr::Answer;
 use pywr::Sentinel;
+use streams::FileRead;
 ghost use mathlib.Core.Path.{_≡_};
 ghost use Prim.Native.Nat.{_<_, _≤_};
 ghost use lib.ListN.{length};
 
-// Whether the first argument asks for the finite sentinel.
-fn asks_finite() -> bool {
-    let mut word = io::buffer();
-    let n = os::arg(1, &mut word);
-    check::same(&word[..n], b"--finite")
+fn write_usage(fd: i32) -> bool {
+    streams::write_all(
+        fd,
+        b"usage: stepper [--finite] NETWORK [STEP]..\nBuilds the network and runs the step files in turn; lists the linear programme after each, or the fresh build without steps.\n",
+    )
 }
 
-// Whether a file could be read, and how many bytes of the buffer it takes.
-struct FileRead {
-    done: bool,
-    bytes: usize,
+// Says what could not be done, and why.
+fn tell(what: &[u8]) {
+    streams::write_all(STDERR_FILENO, b"stepper: ");
+    os::fail(what);
 }
 
-// Says on standard error what could not be opened or read.
-fn fail(name: &[u8]) -> FileRead
+fn tell_unwritten(written: bool) {
+    if !written {
+        tell(b"cannot write");
+    }
+}
+
+fn tell_unknown(option: &[u8]) {
+    streams::write_all(STDERR_FILENO, b"stepper: unknown option ");
+    streams::write_all(STDERR_FILENO, option);
+    streams::write_all(STDERR_FILENO, b"\n");
+    write_usage(STDERR_FILENO);
+}
+
+fn failed(what: &[u8]) -> FileRead
     ensures { λ r. ⌜ r .bytes ≡ 0 ⌝ }
 {
-    os::fail(name);
+    tell(what);
     FileRead {
         done: false,
         bytes: 0,
     }
 }
 
-// Reads an open file into the buffer.
-// A network file that can be accepted has at most 63,488 bytes and a step file 10,700: a longer one is refused by what the buffer holds of it.
-fn read_open(fd: i32, name: &[u8], buffer: &mut [u8]) -> FileRead
-    ensures { λ r. ⌜ r .bytes ≤ length (now (buffer .exit)) ⌝ }
-{
-    let got = libc::read(fd, buffer);
-    if got < 0 {
-        return fail(name);
-    }
-    let start = io::count(got, buffer);
-    let more = io::read_full(fd, &mut buffer[start..]);
-    FileRead {
-        done: true,
-        bytes: start + more,
-    }
-}
-
-fn read_named(name: &[u8], buffer: &mut [u8]) -> FileRead
-    ensures { λ r. ⌜ r .bytes ≤ length (now (buffer .exit)) ⌝ }
-{
-    let fd = os::open_read(name);
-    if fd < 0 {
-        return fail(name);
-    }
-    let read = read_open(fd, name, buffer);
-    libc::close(fd);
-    read
-}
-
 // Reads the file that argument k names.
+// A network file that can be accepted has at most 63,488 bytes and a step file 10,700: a longer one is refused by what the buffer holds of it.
 fn read_argument(k: usize, buffer: &mut [u8]) -> FileRead
     ensures { λ r. ⌜ r .bytes ≤ length (now (buffer .exit)) ⌝ }
 {
     let mut name = io::buffer();
-    let length = os::arg(k, &mut name);
+    let n = os::arg(k, &mut name);
     if os::errno() != 0 {
-        return fail(b"argument");
+        return failed(b"argument");
     }
-    read_named(&name[..length], buffer)
-}
-
-// The runs of a store: a step takes it and hands it back.
-struct Store {
-    col_lower: [f64; 640],
-    col_upper: [f64; 640],
-    col_obj_coef: [f64; 640],
-    row_lower: [f64; 1024],
-    row_upper: [f64; 1024],
-    elements: [f64; 4096],
-    columns: [u16; 4096],
-    row_starts: [u32; 1025],
-    shape: [u16; 19723],
-}
-
-fn list(store: Store) {
-    let col_lower = store.col_lower;
-    let col_upper = store.col_upper;
-    let col_obj_coef = store.col_obj_coef;
-    let row_lower = store.row_lower;
-    let row_upper = store.row_upper;
-    let elements = store.elements;
-    let columns = store.columns;
-    let row_starts = store.row_starts;
-    let shape = store.shape;
-    listing::list_programme(
-        &col_lower,
-        &col_upper,
-        &col_obj_coef,
-        &row_lower,
-        &row_upper,
-        &elements,
-        &columns,
-        &row_starts,
-        &shape,
-    );
-}
-
-// Whether a file was accepted; a refusal is written.
-fn is_accepted(answer: Answer) -> bool {
-    match answer {
-        Answer::Refused(number, place) => {
-            listing::list_refusal(number, place);
-            false
-        }
-        Answer::Accepted => true,
+    let read = streams::read_named(&name[..n], buffer);
+    if !read.done {
+        return failed(&name[..n]);
     }
+    read
+}
+
+// The store after a step, and whether all of its lines were written.
+struct Ran {
+    runs: Runs,
+    written: bool,
 }
 
 // Runs a step file and writes its number and what it answers.
-fn run_step(number: usize, file: &[u8], store: Store) -> Store {
-    listing::list_step(number);
-    let col_lower = store.col_lower;
-    let col_upper = store.col_upper;
-    let mut col_obj_coef = store.col_obj_coef;
-    let mut row_lower = store.row_lower;
-    let mut row_upper = store.row_upper;
-    let mut elements = store.elements;
-    let columns = store.columns;
-    let row_starts = store.row_starts;
-    let shape = store.shape;
-    let mut work = [0.0f64; 704];
-    let answer = built_solver::step(
-        file,
-        &col_lower,
-        &col_upper,
-        &mut col_obj_coef,
-        &mut row_lower,
-        &mut row_upper,
-        &mut elements,
-        &columns,
-        &row_starts,
-        &shape,
-        &mut work,
-    );
-    let after = Store {
-        col_lower,
-        col_upper,
-        col_obj_coef,
-        row_lower,
-        row_upper,
-        elements,
-        columns,
-        row_starts,
-        shape,
-    };
-    if is_accepted(answer) {
-        list(after);
+fn run_step(number: usize, file: &[u8], runs: Runs) -> Ran {
+    let line = listing::list_step(number);
+    if !line.written {
+        return Ran {
+            runs,
+            written: false,
+        };
     }
-    after
+    let stepped = program_store::step(file, runs);
+    let answer = stepped.answer;
+    let after = stepped.runs;
+    let listed = program_store::list_answer(answer, after);
+    Ran {
+        runs: after,
+        written: listed.written,
+    }
 }
 
-// Runs the step files that the arguments from `first` up to `end` name, up to one that cannot be read.
-fn run_steps(first: usize, end: usize, buffer: &mut [u8], built: Store) {
-    let mut store = built;
+// Runs the step files that the arguments from `first` up to `end` name, up to one that cannot be read or listed.
+fn run_steps(first: usize, end: usize, buffer: &mut [u8], built: Runs) {
+    let mut runs = built;
     let mut k: usize = first;
     while k < end {
         let file = read_argument(k, buffer);
@@ -174,59 +100,20 @@ fn run_steps(first: usize, end: usize, buffer: &mut [u8], built: Store) {
             return;
         }
         let n = file.bytes;
-        store = run_step(k - first, &buffer[0..n], store);
+        let ran = run_step(k - first, &buffer[0..n], runs);
+        if !ran.written {
+            tell(b"cannot write");
+            return;
+        }
+        runs = ran.runs;
         k += 1;
     }
 }
 
-// A store, and whether the build that wrote it was accepted.
-struct Built {
-    accepted: bool,
-    store: Store,
-}
-
-// Builds the network of a file, and writes the refusal if it is refused.
-fn build(file: &[u8], sentinel: Sentinel) -> Built {
-    let mut col_lower = [0.0f64; 640];
-    let mut col_upper = [0.0f64; 640];
-    let mut col_obj_coef = [0.0f64; 640];
-    let mut row_lower = [0.0f64; 1024];
-    let mut row_upper = [0.0f64; 1024];
-    let mut elements = [0.0f64; 4096];
-    let mut columns = [0u16; 4096];
-    let mut row_starts = [0u32; 1025];
-    let mut shape = [0u16; 19723];
-    let mut words = [0u16; 24844];
-    let mut numbers = [0.0f64; 6784];
-    let answer = builder::build(
-        file,
-        sentinel,
-        &mut col_lower,
-        &mut col_upper,
-        &mut col_obj_coef,
-        &mut row_lower,
-        &mut row_upper,
-        &mut elements,
-        &mut columns,
-        &mut row_starts,
-        &mut shape,
-        &mut words,
-        &mut numbers,
-    );
-    let store = Store {
-        col_lower,
-        col_upper,
-        col_obj_coef,
-        row_lower,
-        row_upper,
-        elements,
-        columns,
-        row_starts,
-        shape,
-    };
-    Built {
-        accepted: is_accepted(answer),
-        store,
+fn is_accepted(answer: Answer) -> bool {
+    match answer {
+        Answer::Refused(number, place) => false,
+        Answer::Accepted => true,
     }
 }
 
@@ -240,28 +127,61 @@ fn run(network: usize, end: usize, sentinel: Sentinel)
         return;
     }
     let n = file.bytes;
-    let built = build(&buffer[0..n], sentinel);
-    if built.accepted {
-        let store = built.store;
-        run_steps(network + 1, end, &mut buffer, store);
+    let built = program_store::build(&buffer[0..n], sentinel, program_store::zeros());
+    let answer = built.answer;
+    let runs = built.runs;
+    if (network + 1 < end) & is_accepted(answer) {
+        run_steps(network + 1, end, &mut buffer, runs);
+        return;
+    }
+    let listed = program_store::list_answer(answer, runs);
+    tell_unwritten(listed.written);
+}
+
+fn asks_help(word: &[u8]) -> bool {
+    check::same(word, b"--help") | check::same(word, b"-h")
+}
+
+fn is_option(word: &[u8]) -> bool {
+    if word.len() < 2 {
+        return false;
+    }
+    word[0] == b'-'
+}
+
+// Whether the word in the network's place names a file; what else it asks is done.
+fn is_name(word: &[u8]) -> bool {
+    if asks_help(word) {
+        tell_unwritten(write_usage(STDOUT_FILENO));
+        return false;
+    }
+    if is_option(word) {
+        tell_unknown(word);
+        return false;
+    }
+    true
+}
+
+// Starts with the network's name at argument `network`.
+fn start(network: usize, sentinel: Sentinel) {
+    let end = os::arg_count();
+    if end <= network {
+        write_usage(STDERR_FILENO);
+        return;
+    }
+    let mut word = io::buffer();
+    let n = os::arg(network, &mut word);
+    if is_name(&word[..n]) {
+        run(network, end, sentinel);
     }
 }
 
 fn main() {
-    let finite = asks_finite();
-    let network: usize = if finite { 2 } else { 1 };
-    let end = os::arg_count();
-    if end <= network {
-        io::write_all(
-            STDERR_FILENO,
-            b"usage: stepper [--finite] NETWORK [STEP]..\n",
-        );
+    let mut word = io::buffer();
+    let n = os::arg(1, &mut word);
+    if check::same(&word[..n], b"--finite") {
+        start(2, Sentinel::Largest);
         return;
     }
-    let sentinel = if finite {
-        Sentinel::Largest
-    } else {
-        Sentinel::Infinity
-    };
-    run(network, end, sentinel);
+    start(1, Sentinel::Infinity);
 }

@@ -9,7 +9,17 @@ use Rattle.listing.proofs.list.Tie as tie
 
 returns : tie.Need-returns
 returns c =
-    let a = c .before .before .before .before .before .before .before .before .before .before .before .before .before .before .before .before .before .before .before .before .before .before .before .args in
+    let c3 = c .before .before .before in
+    let rows = c3 .before .before .before in
+    let c9 = rows .before .before .before in
+    let columns = c9 .before in
+    let c13 = columns .before .before .before in
+    let counts = c13 .before in
+    let c17 = counts .before .before .before in
+    let c20 = c17 .before .before .before in
+    let c23 = c20 .before .before .before in
+    let start = c23 .before .before .before in
+    let a = start .args in
     let s : Store = record {
       colLower = a .col-lower .now;
       colUpper = a .col-upper .now;
@@ -21,10 +31,10 @@ returns c =
       rowStarts = a .row-starts .now;
       shape = a .shape .now;
     } in
-    let counts = c .before .before .before .before .before .before .before .before .before .before .before .put-counts .ensures .0 s refl .next in
-    let columns = c .before .before .before .before .before .before .before .list-columns .ensures .0 s refl refl refl refl in
-    let rows = c .before .before .before .list-rows .ensures .0 s refl refl refl refl refl refl in
-    omega (arith, listing-bytes s, counts, columns, rows)
+    let counted = counts .put-counts .ensures .0 s refl .next in
+    let columned = columns .list-columns .ensures .0 s refl refl refl refl in
+    let rowed = rows .list-rows .ensures .0 s refl refl refl refl refl refl in
+    omega (arith, listing-bytes s, counted, columned, rowed)
 
 pub list-spec : {M : Type 1} → statement M
 list-spec =
@@ -35,5 +45,6 @@ list-spec =
     (λ c κs. search needs)
     (λ c. search needs)
     (λ c. search needs)
+    (λ c κs. search needs)
     (λ c. search needs)
     returns)

@@ -12,7 +12,7 @@ use Rattle.listing.proofs.list_columns.Statement.{statement}
 use Rattle.listing.proofs.list_columns.Tie as tie
 
 abbrev Inv-loop : tie.InvT-loop
-Inv-loop out₀ from col-lower col-upper col-obj-coef shape end at₀ bytes₀ i₀ out at bytes i =
+Inv-loop out₀ from col-lower col-upper col-obj-coef shape end at₀ written₀ bytes₀ i₀ out at written bytes i =
     (at ≤ length out)
     × (length out ≡ length out₀)
     × (i ≤ end)
@@ -20,7 +20,12 @@ Inv-loop out₀ from col-lower col-upper col-obj-coef shape end at₀ bytes₀ i
     × ((s : Store) → s .colLower ≡ col-lower → s .colUpper ≡ col-upper → s .colObjCoef ≡ col-obj-coef → s .shape ≡ shape → bytes ≡ length (columnsText s i))
 
 abbrev μ-loop : tie.MeasureT-loop
-μ-loop out₀ from col-lower col-upper col-obj-coef shape end at₀ bytes₀ i₀ out at bytes i = end - i
+μ-loop out₀ from col-lower col-upper col-obj-coef shape end at₀ written₀ bytes₀ i₀ out at written bytes i = end - i
+
+abbrev start : tie.After-listed-columns Inv-loop μ-loop → tie.Start Inv-loop μ-loop
+start c =
+    let c3 = c .before .before .before in
+    c3 .before .before .before
 
 loop-holds : tie.Need-loop-holds Inv-loop μ-loop
 loop-holds c = (search needs, search needs, search needs, search needs, λ s el eu ec eh. columns-none s)
@@ -28,7 +33,10 @@ loop-holds c = (search needs, search needs, search needs, search needs, λ s el 
 -- there is a store with these runs
 sub-bytes : tie.Need-sub-bytes Inv-loop μ-loop
 sub-bytes c =
-    let a = c .before .before .before .before .before .before .before .before .before .before .before .before .before .before .args in
+    let put = c .before .before in
+    let c4 = put .before .before in
+    let loop = c4 .before .before .before in
+    let a = start (loop .before) .args in
     let s : Store = record {
       colLower = a .col-lower .now;
       colUpper = a .col-upper .now;
@@ -40,20 +48,24 @@ sub-bytes c =
       rowStarts = [];
       shape = a .shape .now;
     } in
-    omega (arith, c .before .before .put-stored-column .ensures .0 s refl refl refl refl .next)
+    omega (arith, put .put-stored-column .ensures .0 s refl refl refl refl .next)
 
 loop-again : tie.Need-loop-again Inv-loop μ-loop
-loop-again c = (
-  search needs,
-  search needs,
-  search needs,
-  search needs,
-  λ s el eu ec eh. omega (arith, columns-more s (c .before .before .before .before .before .before .before .loop .i), c .before .before .before .before .before .before .before .loop .inv .4 s el eu ec eh, c .before .before .put-stored-column .ensures .0 s el eu ec eh .next),
-)
+loop-again c =
+    let put = c .before .before in
+    let c4 = put .before .before in
+    let c7 = c4 .before .before .before in
+    let loop = c7 .loop in (
+      search needs,
+      search needs,
+      search needs,
+      search needs,
+      λ s el eu ec eh. omega (arith, columns-more s (loop .i), loop .inv .4 s el eu ec eh, put .put-stored-column .ensures .0 s el eu ec eh .next),
+    )
 
 returns : tie.Need-returns Inv-loop μ-loop
 returns c =
-    let a = c .before .before .before .before .before .before .before .before .args in
+    let a = start (c .before .before) .args in
     let columns = c .before .before .listed-columns in
     let inv = c .before .loop .inv in
     let e : c .before .loop .i ≡ columns .result = omega (arith, inv .2, c .loop-test .left) in (

@@ -1,5 +1,6 @@
 -- `row_listing::list_elements` meets its contract. Assumes nothing.
 use mathlib.Core.Path.{_≡_}
+use mathlib.Core.Bool.{false}
 use Prim.Native.Nat.{_+_, _*_, _-_, _≤_}
 use native.Mathlib.Omega.{arith}
 use lib.ListN.{length}
@@ -9,26 +10,39 @@ use Rattle.row_listing.proofs.list_elements.Statement.{statement}
 use Rattle.row_listing.proofs.list_elements.Tie as tie
 
 abbrev Inv-loop : tie.InvT-loop
-Inv-loop out₀ from columns elements first end at₀ bytes₀ i₀ out at bytes i =
-    (at ≤ length out) × (length out ≡ length out₀) × (first ≤ i) × (i ≤ end) × (bytes ≤ 128 * (i - first)) × (bytes + bytesFrom columns elements i end ≡ bytesFrom columns elements first end)
+Inv-loop out₀ from so-far columns elements first end at₀ written₀ bytes₀ i₀ out at written bytes i =
+    (at ≤ length out) × (length out ≡ length out₀) × (first ≤ i) × (i ≤ end) × (bytes ≤ 128 * (i - first)) × (bytes + bytesFrom columns elements i end ≡ bytesFrom columns elements first end) × (so-far ≡ false → written ≡ false)
 
 abbrev μ-loop : tie.MeasureT-loop
-μ-loop out₀ from columns elements first end at₀ bytes₀ i₀ out at bytes i = end - i
+μ-loop out₀ from so-far columns elements first end at₀ written₀ bytes₀ i₀ out at written bytes i = end - i
 
 loop-again : tie.Need-loop-again Inv-loop μ-loop
 loop-again c =
-    let a = c .before .before .before .before .before .before .before .before .before .before .before .before .before .before .args in
-    let i = c .before .before .before .before .before .before .before .before .before .before .loop .i in
-    let e = bytes-more (a .columns .now) (a .elements .now) i (a .end) (c .before .before .before .before .wide .result) (search needs) (search needs) (search needs) (c .before .before .before .before .wide .ensures .0) in
-    (search needs, search needs, search needs, search needs, search needs, omega (arith, c .before .before .put-element .ensures .put .next))
+    let put = c .before .before in
+    let wide = put .before .before in
+    let spare = wide .before .before .before in
+    let loop = spare .before .before .before in
+    let known = loop .before .before .before in
+    let a = known .before .args in
+    let e = bytes-more (a .columns .now) (a .elements .now) (loop .loop .i) (a .end) (wide .wide .result) (search needs) (search needs) (search needs) (wide .wide .ensures .0) in (
+      search needs,
+      search needs,
+      search needs,
+      search needs,
+      search needs,
+      omega (arith, put .put-element .ensures .put .next),
+      λ f. spare .spare .ensures .2 (loop .loop .inv .6 f),
+    )
 
 returns : tie.Need-returns Inv-loop μ-loop
 returns c =
-    let a = c .before .before .before .before .before .args in
-    let e : c .before .loop .i ≡ a .end = omega arith in
+    let loop = c .before in
+    let known = loop .before .before .before in
+    let a = known .before .args in
+    let e : loop .loop .i ≡ a .end = omega arith in
     let n = bytes-none (a .columns .now) (a .elements .now) (a .end) in
-    let inv = rw e at (c .before .loop .inv .5) in
-    (omega arith, omega arith, omega arith)
+    let inv = rw e at (loop .loop .inv .5) in
+    (omega arith, omega arith, omega arith, loop .loop .inv .6)
 
 pub list-elements-spec : {M : Type 1} → statement M
 list-elements-spec =

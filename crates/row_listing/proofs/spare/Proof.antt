@@ -8,19 +8,16 @@ use Rattle.row_listing.proofs.spare.Tie as tie
 
 returns : tie.Need-returns
 unfolding lineAt
-returns c = (simp (lt-ltb _ _ (c .before .before .if1 .taken)), omega arith)
+returns c = (simp (lt-ltb _ _ (c .before .if1 .taken)), omega arith, c .write-out .ensures)
 
 returns-2 : tie.Need-returns-2
 unfolding lineAt
-returns-2 c = (simp (le-ltb _ _ (c .if1 .left)), omega arith)
+returns-2 c = (simp (le-ltb _ _ (c .if1 .left)), omega arith, λ e. e)
 
 pub spare-spec : {M : Type 1} → statement M
 spare-spec =
     tie.close
     (tie.spec
-    (λ c. search needs)
-    (λ c. search needs)
-    (λ c. search needs)
     (λ c. search needs)
     (λ c κs. search needs)
     returns

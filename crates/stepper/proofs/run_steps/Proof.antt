@@ -7,11 +7,11 @@ use Rattle.stepper.proofs.run_steps.Statement.{statement}
 use Rattle.stepper.proofs.run_steps.Tie as tie
 
 abbrev Inv-loop : tie.InvT-loop
-Inv-loop first end buffer₀ store₀ k₀ buffer store k =
+Inv-loop first end buffer₀ runs₀ k₀ message buffer runs k =
     (first ≤ k) × (length buffer ≡ length buffer₀)
 
 abbrev μ-loop : tie.MeasureT-loop
-μ-loop first end buffer₀ store₀ k₀ buffer store k = end - k
+μ-loop first end buffer₀ runs₀ k₀ message buffer runs k = end - k
 
 pub run-steps-spec : {M : Type 1} → statement M
 run-steps-spec =
@@ -28,6 +28,10 @@ run-steps-spec =
     (λ c. search needs)
     (λ c. search needs)
     (λ c κs. search needs)
+    (λ c. search needs)
+    (λ c κs. search needs)
+    (λ c. search needs)
+    (λ c. search needs)
     (λ c. search needs)
     (λ c. search needs)
     (λ c. search needs)
