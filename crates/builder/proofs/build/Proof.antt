@@ -5,6 +5,7 @@ use borrow.Author.Tests.{not-true, not-false}
 use Rattle.pywr.specs.Store.{Store}
 use Rattle.store.proofs.Passed.{lengths}
 use Rattle.builder.proofs.Finish.{room, short, refuse, finish}
+use Rattle.builder.proofs.Starts.{row-starts}
 use borrow.Author.Needs.{needs}
 use Rattle.builder.proofs.build.Statement.{statement}
 use Rattle.builder.proofs.build.Tie as tie
@@ -67,8 +68,8 @@ write-matrix-requires c κs =
     let told = c34 .build-has-room .ensures old (c47 .args .words .now) (c47 .args .numbers .now) (lengths old) refl refl in
     let ok = sym told ∙ not-false (c34 .build-has-room .result) (c33 .if1 .left) in
     let h = room old (c47 .args .words .now) (c47 .args .numbers .now) ok in
-    let few = c30 .assemble .ensures .made _ (c24 .a2 .given .1) .laid .few in
-    (few, omega (arith, c30 .assemble .kept .1 .1 .0, h .words-room), omega (arith, c30 .assemble .kept .1 .1 .1 .0, h .numbers-room), h .store .elements, h .store .columns, h .store .rowStarts)
+    let laid = c30 .assemble .ensures .made _ (c24 .a2 .given .1) .laid in
+    (laid .few, row-starts _ _ _ _ _ laid, omega (arith, c30 .assemble .kept .1 .1 .0, h .words-room), omega (arith, c30 .assemble .kept .1 .1 .1 .0, h .numbers-room), h .store .elements, h .store .columns, h .store .rowStarts)
 
 write-shape-requires : tie.Need-write-shape-requires
 write-shape-requires c κs =
