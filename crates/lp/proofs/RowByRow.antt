@@ -34,12 +34,12 @@ module _ {A : Type 0} where
       ∙ sym (sets-append old (part at n l) (part (at + n) m l) 0)
       ∙ ap (sets old 0) (sym (take-add n m (drop at l) ∙ ap (λ (k : List A). part at n l ++ take m k) (drop-drop n at l)))
 
--- the elements from `start` up to `end` stand in `numbers` from 2,048 on, and have room in the run from `start` on
+-- the elements from `start` up to `end` stand in `numbers` from 2,048 on, and have room in the run from `start` on, or from any place before
 pub record RowFits (numbers run : List Float) (start end : ℕ) : Type 0 where
   pub rises : 2048 + start ≤ 2048 + end
   pub held : 2048 + end ≤ length numbers
   pub within : start ≤ length run
-  pub room : length (midOf (2048 + start) (2048 + end - (2048 + start)) numbers) ≤ length (midOf start (length run - start) run)
+  pub room : (a : ℕ) → a ≤ start → length (midOf (2048 + start) (2048 + end - (2048 + start)) numbers) ≤ length (midOf a (length run - a) run)
 
 -- the first r rows are written
 pub record Written (rows : ℕ) (words : List ℕ) (numbers old new : List Float) (r : ℕ) : Type 0 where
@@ -71,7 +71,7 @@ module _ (z : Sizes) (words : List ℕ) (s : RowStarts z words) where
         rises = omega arith;
         held = omega arith;
         within = omega arith;
-        room = omega (arith, mid-len (2048 + start) (2048 + end) numbers (omega arith), mid-len start (length new) new (omega arith));
+        room = λ a h. omega (arith, mid-len (2048 + start) (2048 + end) numbers (omega arith), mid-len a (length new) new (omega arith));
       }
 
   module _ (numbers old : List Float) where
@@ -94,7 +94,7 @@ module _ (z : Sizes) (words : List ℕ) (s : RowStarts z words) where
           few = omega arith;
           run =
               ap (putMid start (length new - start) new) ey
-              ∙ tail-put start new row (omega (arith, tail, fits .within, fits .room))
+              ∙ tail-put start new row (omega (arith, tail, fits .within, fits .room start (omega arith)))
               ∙ ap (λ (l : List Float). sets l start row) (w .run ∙ ap (λ (k : ℕ). sets old 0 (part 2048 k numbers)) (sym es))
               ∙ part-then old numbers 2048 start n (omega (arith, fits .rises, fits .held))
               ∙ ap (λ (k : ℕ). sets old 0 (part 2048 k numbers)) (sum ∙ ee ∙ sym (next-start r));

@@ -1,5 +1,6 @@
 -- `lp::write_elements` meets its contract. The loop's invariant: the first r rows are written. Assumes nothing.
 use Prim.Native.Nat.{_-_}
+use native.Mathlib.Omega.{arith}
 use Rattle.lp.proofs.RowByRow.{Written, none, more, all, row-fits}
 use borrow.Author.Needs.{needs}
 use Rattle.lp.proofs.write_elements.Statement.{statement}
@@ -38,7 +39,8 @@ sub-write-row c =
     let c6 = c3 .before .before .before in
     let c9 = c6 .before .before .before in
     let p = c9 .before .pre in
-    row-fits (c9 .before .args .z) _ (p .1) _ _ _ (c6 .loop .r) _ _ (p .0) (p .3) (p .4) (c3 .before .before .loop-test .taken) (c3 .wide16 .ensures .0) (c .before .wide162 .ensures .0) (c6 .loop .inv) .within
+    let fits = row-fits (c9 .before .args .z) _ (p .1) _ _ _ (c6 .loop .r) _ _ (p .0) (p .3) (p .4) (c3 .before .before .loop-test .taken) (c3 .wide16 .ensures .0) (c .before .wide162 .ensures .0) (c6 .loop .inv) in
+    omega (arith, fits .within)
 
 write-row-requires : tie.Need-write-row-requires Inv-loop μ-loop
 write-row-requires c κs =
@@ -47,7 +49,7 @@ write-row-requires c κs =
     let c7 = c4 .before .before .before in
     let c10 = c7 .before .before .before in
     let p = c10 .before .pre in
-    row-fits (c10 .before .args .z) _ (p .1) _ _ _ (c7 .loop .r) _ _ (p .0) (p .3) (p .4) (c4 .before .before .loop-test .taken) (c4 .wide16 .ensures .0) (c2 .wide162 .ensures .0) (c7 .loop .inv) .room
+    row-fits (c10 .before .args .z) _ (p .1) _ _ _ (c7 .loop .r) _ _ (p .0) (p .3) (p .4) (c4 .before .before .loop-test .taken) (c4 .wide16 .ensures .0) (c2 .wide162 .ensures .0) (c7 .loop .inv) .room _ (omega arith)
 
 loop-again : tie.Need-loop-again Inv-loop μ-loop
 loop-again c =
