@@ -1,2 +1,3 @@
 pub mod Finish
+mod Starts
 pub mod Written

@@ -59,10 +59,6 @@ pub fn build(
     }
     let a = assembly::assemble(file, sentinel, words, numbers);
     match a {
-        Assembled::Refused(n, p) => {
-            work_area::clear(words, numbers);
-            Answer::Refused(n, p)
-        }
         Assembled::Done(z) => {
             lp::write_columns(z, sentinel, col_lower, col_upper, col_obj_coef);
             lp::write_rows(z, numbers, row_lower, row_upper);
@@ -70,6 +66,10 @@ pub fn build(
             lp::write_shape(z, words, shape);
             work_area::clear(words, numbers);
             Answer::Accepted
+        }
+        Assembled::Refused(n, p) => {
+            work_area::clear(words, numbers);
+            Answer::Refused(n, p)
         }
     }
 }

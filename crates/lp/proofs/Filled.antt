@@ -15,7 +15,7 @@ use Rattle.lp.specs.declared.Sizes.{Sizes}
 use Rattle.lp.specs.Lp.{columnsOf}
 
 module _ {A : Type 0} where
-  sets-append : (l xs ys : List A) (at : ℕ) → sets l at (xs ++ ys) ≡ sets (sets l at xs) (at + length xs) ys
+  pub sets-append : (l xs ys : List A) (at : ℕ) → sets l at (xs ++ ys) ≡ sets (sets l at xs) (at + length xs) ys
   sets-append l [] ys at = rw (add-zero at)
   sets-append l (x ∷ xs) ys at =
       let e : suc at + length xs ≡ at + suc (length xs) = omega arith in

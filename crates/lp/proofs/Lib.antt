@@ -1,2 +1,3 @@
 pub mod Filled
+mod RowByRow
 mod ShapeLaws

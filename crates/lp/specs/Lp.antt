@@ -1,9 +1,9 @@
 -- What is written from a build's work runs into the store's runs. In `words` the columns of the elements stand from 0, the row starts from 4,096 and the shape run's words from 5,121;
 -- in `numbers` the lower bounds of the rows stand from 0, the upper from 1,024 and the elements from 2,048. Assumes nothing.
 use mathlib.Core.Path.{_≡_}
-use Prim.Native.Nat.{ℕ, _+_, _*_, _≤_}
+use Prim.Native.Nat.{ℕ, _+_, _*_, _<_, _≤_}
 use mathlib.Core.List.{List, _++_, map}
-use lib.ListN.{length, replicate}
+use lib.ListN.{length, getD, replicate}
 use lib.Seq.{sets}
 use lib.Ieee.{Float}
 use Rattle.laws.specs.Part.{part}
@@ -23,6 +23,12 @@ pub record Few (z : Sizes) : Type 0 where
   pub nodeRows : z .«node_rows» ≤ 4352
   pub aggregates : z .aggregates ≤ 64
   pub storages : z .storages ≤ 32
+
+-- the row starts that `words` holds begin at 0, do not fall, and end at the element count
+pub record RowStarts (z : Sizes) (words : List ℕ) : Type 0 where
+  pub first : getD words 4096 0 ≡ 0
+  pub rise : (r : ℕ) → r < z .rows → getD words (4096 + r) 0 ≤ getD words (4096 + r + 1) 0
+  pub last : getD words (4096 + z .rows) 0 ≡ z .elements
 
 -- "edges, lower 0, upper the high sentinel; then one 0..1 integer column per distinct exclusive set"
 abbrev pub columnsOf : Sentinel → Sizes → List Column

@@ -2,8 +2,9 @@
 ghost use mathlib.Core.Path.{_≡_};
 ghost use Prim.Native.Nat.{ℕ, _+_, _*_, _≤_};
 ghost use lib.ListN.{length};
+ghost use lib.Seq.{sets};
 ghost use Rattle.laws.specs.Part.{part};
-ghost use Rattle.lp.specs.Lp.{Few, ColumnsWritten, RowsWritten, MatrixWritten, shapeWritten};
+ghost use Rattle.lp.specs.Lp.{Few, RowStarts, ColumnsWritten, RowsWritten, MatrixWritten, shapeWritten};
 use pywr::Sentinel;
 
 // How much an assembled programme holds.
@@ -49,6 +50,30 @@ pub fn write_rows(z: Sizes, numbers: &[f64], row_lower: &mut [f64], row_upper: &
     runs::copy_f64(row_upper, 0, numbers, 1024, k);
 }
 
+// One row's elements, written at the front of the run lent.
+fn write_row(elements: &mut [f64], row: &[f64])
+    requires { ⌜ length (now row) ≤ length (now elements) ⌝ }
+    ensures { λ _. ⌜ now (elements .exit) ≡ sets (now (elements .entry)) 0 (now (row .entry)) ⌝ }
+{
+    runs::copy_f64(elements, 0, row, 0, row.len());
+}
+
+// The elements row by row: each row is written into the element run from its start.
+fn write_elements(z: Sizes, words: &[u16], numbers: &[f64], elements: &mut [f64])
+    requires { ⌜ Few z × RowStarts z (now words) × (24844 ≤ length (now words)) × (6784 ≤ length (now numbers)) × (4096 ≤ length (now elements)) ⌝ }
+    ensures { λ _. ⌜ now (elements .exit) ≡ sets (now (elements .entry)) 0 (part 2048 (z .elements) (now (numbers .entry))) ⌝ }
+{
+    let rows = z.rows;
+    let mut r: usize = 0;
+    while r < rows {
+        let start = fields::wide16(words[4096 + r]);
+        let end = fields::wide16(words[4096 + r + 1]);
+        let row = &numbers[2048 + start..2048 + end];
+        write_row(&mut elements[start..], row);
+        r += 1;
+    }
+}
+
 // Elements, their columns, and the row starts.
 pub fn write_matrix(
     z: Sizes,
@@ -58,14 +83,14 @@ pub fn write_matrix(
     columns: &mut [u16],
     row_starts: &mut [u32],
 )
-    requires { ⌜ Few z × (24844 ≤ length (now words)) × (6784 ≤ length (now numbers))
+    requires { ⌜ Few z × RowStarts z (now words) × (24844 ≤ length (now words)) × (6784 ≤ length (now numbers))
         × (4096 ≤ length (now elements)) × (4096 ≤ length (now columns)) × (1025 ≤ length (now «row_starts»)) ⌝ }
     ensures { λ _. ⌜ MatrixWritten z (now (words .entry)) (now (numbers .entry)) (now (elements .entry)) (now (columns .entry)) (now («row_starts» .entry))
         (now (elements .exit)) (now (columns .exit)) (now («row_starts» .exit)) ⌝ }
 {
     let k = z.elements;
     let n = z.rows + 1;
-    runs::copy_f64(elements, 0, numbers, 2048, k);
+    write_elements(z, words, numbers, elements);
     runs::copy_u16(columns, 0, words, 0, k);
     runs::widen_u16(row_starts, 0, words, 4096, n);
 }

@@ -5,6 +5,7 @@ use borrow.Author.Tests.{not-true, not-false}
 use Rattle.pywr.specs.Store.{Store}
 use Rattle.store.proofs.Passed.{lengths}
 use Rattle.builder.proofs.Finish.{room, short, refuse, finish}
+use Rattle.builder.proofs.Starts.{row-starts}
 use borrow.Author.Needs.{needs}
 use Rattle.builder.proofs.build.Statement.{statement}
 use Rattle.builder.proofs.build.Tie as tie
@@ -39,7 +40,7 @@ write-columns-requires c κs =
     let told = c14 .build-has-room .ensures old (c27 .args .words .now) (c27 .args .numbers .now) (lengths old) refl refl in
     let ok = sym told ∙ not-false (c14 .build-has-room .result) (c13 .if1 .left) in
     let h = room old (c27 .args .words .now) (c27 .args .numbers .now) ok in
-    let few = c10 .assemble .ensures .made _ (c4 .a2 .given .1) .laid .few in
+    let few = c10 .assemble .ensures .made _ (c4 .a .given .1) .laid .few in
     (few, h .store .colLower, h .store .colUpper, h .store .colObjCoef)
 
 write-rows-requires : tie.Need-write-rows-requires
@@ -53,7 +54,7 @@ write-rows-requires c κs =
     let told = c24 .build-has-room .ensures old (c37 .args .words .now) (c37 .args .numbers .now) (lengths old) refl refl in
     let ok = sym told ∙ not-false (c24 .build-has-room .result) (c23 .if1 .left) in
     let h = room old (c37 .args .words .now) (c37 .args .numbers .now) ok in
-    let few = c20 .assemble .ensures .made _ (c14 .a2 .given .1) .laid .few in
+    let few = c20 .assemble .ensures .made _ (c14 .a .given .1) .laid .few in
     (few, omega (arith, c20 .assemble .kept .1 .1 .1 .0, h .numbers-room), h .store .rowLower, h .store .rowUpper)
 
 write-matrix-requires : tie.Need-write-matrix-requires
@@ -67,8 +68,8 @@ write-matrix-requires c κs =
     let told = c34 .build-has-room .ensures old (c47 .args .words .now) (c47 .args .numbers .now) (lengths old) refl refl in
     let ok = sym told ∙ not-false (c34 .build-has-room .result) (c33 .if1 .left) in
     let h = room old (c47 .args .words .now) (c47 .args .numbers .now) ok in
-    let few = c30 .assemble .ensures .made _ (c24 .a2 .given .1) .laid .few in
-    (few, omega (arith, c30 .assemble .kept .1 .1 .0, h .words-room), omega (arith, c30 .assemble .kept .1 .1 .1 .0, h .numbers-room), h .store .elements, h .store .columns, h .store .rowStarts)
+    let laid = c30 .assemble .ensures .made _ (c24 .a .given .1) .laid in
+    (laid .few, row-starts _ _ _ _ _ laid, omega (arith, c30 .assemble .kept .1 .1 .0, h .words-room), omega (arith, c30 .assemble .kept .1 .1 .1 .0, h .numbers-room), h .store .elements, h .store .columns, h .store .rowStarts)
 
 write-shape-requires : tie.Need-write-shape-requires
 write-shape-requires c κs =
@@ -81,83 +82,66 @@ write-shape-requires c κs =
     let told = c43 .build-has-room .ensures old (c56 .args .words .now) (c56 .args .numbers .now) (lengths old) refl refl in
     let ok = sym told ∙ not-false (c43 .build-has-room .result) (c42 .if1 .left) in
     let h = room old (c56 .args .words .now) (c56 .args .numbers .now) ok in
-    let few = c39 .assemble .ensures .made _ (c33 .a2 .given .1) .laid .few in
+    let few = c39 .assemble .ensures .made _ (c33 .a .given .1) .laid .few in
     (few, omega (arith, c39 .assemble .kept .1 .1 .0, h .words-room), h .store .shape)
+
+clear-requires-2 : tie.Need-clear-requires-2
+clear-requires-2 c κs =
+    search needs
 
 same-length : tie.Need-same-length
 same-length c =
-    c .before .before .before .before .clear .kept .0 ∙ c .before .before .before .before .before .before .before .before .before .before .before .before .before .before .assemble .kept .1 .1 .0
+    let c38 = c .before .before .before .before .before .before .before .before .before .before .before .before .before .before .before .before .before .before .before .before .before .before .before .before .before .before .before .before .before .before .before .before .before .before .before .before .before .before in
+    c38 .write-columns .kept .1 .1 .0
 
 same-length-2 : tie.Need-same-length-2
 same-length-2 c =
-    c .before .before .before .before .clear .kept .1 .0 ∙ c .before .before .before .before .before .before .before .before .before .before .before .before .before .before .assemble .kept .1 .1 .1 .0
-
-returns-2 : tie.Need-returns-2
-returns-2 c =
-    let c4 = c .before .before .before .before in
-    let c8 = c4 .before .before .before .before in
-    let c14 = c8 .before .before .before .before .before .before in
-    let c17 = c14 .before .before .before in
-    let c18 = c17 .before in
-    let c31 = c18 .before .before .before .before .before .before .before .before .before .before .before .before .before in
-    let old : Store = record { colLower = c31 .args .col-lower .now; colUpper = c31 .args .col-upper .now; colObjCoef = c31 .args .col-obj-coef .now; rowLower = c31 .args .row-lower .now; rowUpper = c31 .args .row-upper .now; elements = c31 .args .elements .now; columns = c31 .args .columns .now; rowStarts = c31 .args .row-starts .now; shape = c31 .args .shape .now } in
-    let told = c18 .build-has-room .ensures old (c31 .args .words .now) (c31 .args .numbers .now) (lengths old) refl refl in
-    let ok = sym told ∙ not-false (c18 .build-has-room .result) (c17 .if1 .left) in
-    refuse (c31 .args .sentinel) (c31 .args .file .now) old (c31 .args .words .now) (c31 .args .numbers .now) ok _ _ _ (c14 .assemble .ensures) _ (c4 .clear .ensures .0) (c14 .assemble .kept .1 .1 .0) _ (c4 .clear .ensures .1) (c14 .assemble .kept .1 .1 .1 .0) (c8 .a .given .1)
+    let c38 = c .before .before .before .before .before .before .before .before .before .before .before .before .before .before .before .before .before .before .before .before .before .before .before .before .before .before .before .before .before .before .before .before .before .before .before .before .before .before in
+    c38 .write-columns .kept .1 .1 .1 .0
 
 same-length-3 : tie.Need-same-length-3
 same-length-3 c =
     let c38 = c .before .before .before .before .before .before .before .before .before .before .before .before .before .before .before .before .before .before .before .before .before .before .before .before .before .before .before .before .before .before .before .before .before .before .before .before .before .before in
-    c38 .write-columns .kept .1 .1 .0
+    c38 .write-columns .kept .1 .1 .1 .1 .0
 
 same-length-4 : tie.Need-same-length-4
 same-length-4 c =
-    let c38 = c .before .before .before .before .before .before .before .before .before .before .before .before .before .before .before .before .before .before .before .before .before .before .before .before .before .before .before .before .before .before .before .before .before .before .before .before .before .before in
-    c38 .write-columns .kept .1 .1 .1 .0
+    c .before .before .before .before .before .before .before .before .before .before .before .before .before .before .before .before .before .before .before .before .before .before .before .before .before .before .before .before .write-rows .kept .1 .1 .0
 
 same-length-5 : tie.Need-same-length-5
 same-length-5 c =
-    let c38 = c .before .before .before .before .before .before .before .before .before .before .before .before .before .before .before .before .before .before .before .before .before .before .before .before .before .before .before .before .before .before .before .before .before .before .before .before .before .before in
-    c38 .write-columns .kept .1 .1 .1 .1 .0
+    c .before .before .before .before .before .before .before .before .before .before .before .before .before .before .before .before .before .before .before .before .before .before .before .before .before .before .before .before .write-rows .kept .1 .1 .1 .0
 
 same-length-6 : tie.Need-same-length-6
 same-length-6 c =
-    c .before .before .before .before .before .before .before .before .before .before .before .before .before .before .before .before .before .before .before .before .before .before .before .before .before .before .before .before .write-rows .kept .1 .1 .0
+    c .before .before .before .before .before .before .before .before .before .before .before .before .before .before .before .before .before .before .write-matrix .kept .1 .1 .1 .0
 
 same-length-7 : tie.Need-same-length-7
 same-length-7 c =
-    c .before .before .before .before .before .before .before .before .before .before .before .before .before .before .before .before .before .before .before .before .before .before .before .before .before .before .before .before .write-rows .kept .1 .1 .1 .0
+    c .before .before .before .before .before .before .before .before .before .before .before .before .before .before .before .before .before .before .write-matrix .kept .1 .1 .1 .1 .0
 
 same-length-8 : tie.Need-same-length-8
 same-length-8 c =
-    c .before .before .before .before .before .before .before .before .before .before .before .before .before .before .before .before .before .before .write-matrix .kept .1 .1 .1 .0
+    c .before .before .before .before .before .before .before .before .before .before .before .before .before .before .before .before .before .before .write-matrix .kept .1 .1 .1 .1 .1 .0
 
 same-length-9 : tie.Need-same-length-9
 same-length-9 c =
-    c .before .before .before .before .before .before .before .before .before .before .before .before .before .before .before .before .before .before .write-matrix .kept .1 .1 .1 .1 .0
+    c .before .before .before .before .before .before .before .before .before .write-shape .kept .1 .1 .0
 
 same-length-10 : tie.Need-same-length-10
 same-length-10 c =
-    c .before .before .before .before .before .before .before .before .before .before .before .before .before .before .before .before .before .before .write-matrix .kept .1 .1 .1 .1 .1 .0
+    let c4 = c .before .before .before .before in
+    let c49 = c4 .before .before .before .before .before .before .before .before .before .before .before .before .before .before .before .before .before .before .before .before .before .before .before .before .before .before .before .before .before .before .before .before .before .before .before .before .before .before .before .before .before .before .before .before .before in
+    c4 .clear .kept .0 ∙ c49 .assemble .kept .1 .1 .0
 
 same-length-11 : tie.Need-same-length-11
 same-length-11 c =
-    c .before .before .before .before .before .before .before .before .before .write-shape .kept .1 .1 .0
-
-same-length-12 : tie.Need-same-length-12
-same-length-12 c =
     let c4 = c .before .before .before .before in
     let c49 = c4 .before .before .before .before .before .before .before .before .before .before .before .before .before .before .before .before .before .before .before .before .before .before .before .before .before .before .before .before .before .before .before .before .before .before .before .before .before .before .before .before .before .before .before .before .before in
-    c4 .clear2 .kept .0 ∙ c49 .assemble .kept .1 .1 .0
+    c4 .clear .kept .1 .0 ∙ c49 .assemble .kept .1 .1 .1 .0
 
-same-length-13 : tie.Need-same-length-13
-same-length-13 c =
-    let c4 = c .before .before .before .before in
-    let c49 = c4 .before .before .before .before .before .before .before .before .before .before .before .before .before .before .before .before .before .before .before .before .before .before .before .before .before .before .before .before .before .before .before .before .before .before .before .before .before .before .before .before .before .before .before .before .before in
-    c4 .clear2 .kept .1 .0 ∙ c49 .assemble .kept .1 .1 .1 .0
-
-returns-3 : tie.Need-returns-3
-returns-3 c =
+returns-2 : tie.Need-returns-2
+returns-2 c =
     let c4 = c .before .before .before .before in
     let c9 = c4 .before .before .before .before .before in
     let c18 = c9 .before .before .before .before .before .before .before .before .before in
@@ -171,7 +155,21 @@ returns-3 c =
     let old : Store = record { colLower = c66 .args .col-lower .now; colUpper = c66 .args .col-upper .now; colObjCoef = c66 .args .col-obj-coef .now; rowLower = c66 .args .row-lower .now; rowUpper = c66 .args .row-upper .now; elements = c66 .args .elements .now; columns = c66 .args .columns .now; rowStarts = c66 .args .row-starts .now; shape = c66 .args .shape .now } in
     let told = c53 .build-has-room .ensures old (c66 .args .words .now) (c66 .args .numbers .now) (lengths old) refl refl in
     let ok = sym told ∙ not-false (c53 .build-has-room .result) (c52 .if1 .left) in
-    finish (c66 .args .sentinel) (c66 .args .file .now) old (c66 .args .words .now) (c66 .args .numbers .now) ok _ _ _ (c49 .assemble .ensures) _ (c4 .clear2 .ensures .0) (c49 .assemble .kept .1 .1 .0) _ (c4 .clear2 .ensures .1) (c49 .assemble .kept .1 .1 .1 .0) (c43 .a2 .given .1) (c38 .write-columns .ensures) (c28 .write-rows .ensures) (c18 .write-matrix .ensures) (c9 .write-shape .ensures)
+    finish (c66 .args .sentinel) (c66 .args .file .now) old (c66 .args .words .now) (c66 .args .numbers .now) ok _ _ _ (c49 .assemble .ensures) _ (c4 .clear .ensures .0) (c49 .assemble .kept .1 .1 .0) _ (c4 .clear .ensures .1) (c49 .assemble .kept .1 .1 .1 .0) (c43 .a .given .1) (c38 .write-columns .ensures) (c28 .write-rows .ensures) (c18 .write-matrix .ensures) (c9 .write-shape .ensures)
+
+returns-3 : tie.Need-returns-3
+returns-3 c =
+    let c2 = c .before .before in
+    let cleared = c2 .before .before in
+    let c8 = cleared .before .before .before .before in
+    let c14 = c8 .before .before .before .before .before .before in
+    let c17 = c14 .before .before .before in
+    let c18 = c17 .before in
+    let c31 = c18 .before .before .before .before .before .before .before .before .before .before .before .before .before in
+    let old : Store = record { colLower = c31 .args .col-lower .now; colUpper = c31 .args .col-upper .now; colObjCoef = c31 .args .col-obj-coef .now; rowLower = c31 .args .row-lower .now; rowUpper = c31 .args .row-upper .now; elements = c31 .args .elements .now; columns = c31 .args .columns .now; rowStarts = c31 .args .row-starts .now; shape = c31 .args .shape .now } in
+    let told = c18 .build-has-room .ensures old (c31 .args .words .now) (c31 .args .numbers .now) (lengths old) refl refl in
+    let ok = sym told ∙ not-false (c18 .build-has-room .result) (c17 .if1 .left) in
+    refuse (c31 .args .sentinel) (c31 .args .file .now) old (c31 .args .words .now) (c31 .args .numbers .now) ok _ _ _ (c14 .assemble .ensures) _ (cleared .clear2 .ensures .0) (c14 .assemble .kept .1 .1 .0) _ (cleared .clear2 .ensures .1) (c14 .assemble .kept .1 .1 .1 .0) (c8 .a2 .given .1)
 
 pub build-spec : {M : Type 1} → statement M
 build-spec =
@@ -181,16 +179,15 @@ build-spec =
     returns
     assemble-requires
     (λ c. search needs)
-    (λ c κs. search needs)
-    (λ c. search needs)
     write-columns-requires
     write-rows-requires
     write-matrix-requires
     write-shape-requires
     (λ c κs. search needs)
+    (λ c. search needs)
+    clear-requires-2
     same-length
     same-length-2
-    returns-2
     same-length-3
     same-length-4
     same-length-5
@@ -200,6 +197,7 @@ build-spec =
     same-length-9
     same-length-10
     same-length-11
-    same-length-12
-    same-length-13
+    returns-2
+    (λ c. search needs)
+    (λ c. search needs)
     returns-3)
