@@ -27,14 +27,7 @@ pub enum NodeRowsAdded {
 }
 
 // Node row i of the table: the node, its row, the row's type and the set's number.
-fn put_node_row(
-    words: &mut [u16],
-    i: usize,
-    node: NodeIndex,
-    row: u16,
-    row_type: u16,
-    set: u16,
-)
+fn put_node_row(words: &mut [u16], i: usize, node: NodeIndex, row: u16, row_type: u16, set: u16)
     requires { ⌜ 7180 + 4 * i + 4 ≤ length (now words) ⌝ }
     ensures { λ _. ⌜ now (words .exit) ≡ sets (now (words .entry)) (7180 + 4 * i) (node .0 ∷ row ∷ «row_type» ∷ set ∷ []) ⌝ }
 {

@@ -44,9 +44,11 @@ loop-again c =
     let c1 = c .before in
     let c3 = c1 .before .before in
     let c5 = c3 .before .before in
-    let c7 = c5 .before .before in
-    (search needs, c5 .loop .inv .1 ∙ refused-later _ (c7 .args .s .now) _ _ (c3 .if1 .taken)
-    (connected _ _ _ _ _ (c7 .pre .2 _ (c3 .if1 .taken)) (c7 .pre .3 _ (c3 .if1 .taken)) (sym (rw (c1 .before .narrow16 .ensures) at (c1 .is-unconnected .ensures)) ∙ c .if2 .left)))
+    let c7 = c5 .before .before in (
+      search needs,
+      c5 .loop .inv .1 ∙ refused-later _ (c7 .args .s .now) _ _ (c3 .if1 .taken)
+          (connected _ _ _ _ _ (c7 .pre .2 _ (c3 .if1 .taken)) (c7 .pre .3 _ (c3 .if1 .taken)) (sym (rw (c1 .before .narrow16 .ensures) at (c1 .is-unconnected .ensures)) ∙ c .if2 .left)),
+    )
 
 returns-2 : tie.Need-returns-2 Inv-loop μ-loop
 returns-2 c =
