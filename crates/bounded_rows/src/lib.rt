@@ -102,7 +102,7 @@ pub fn add_bounded_rows(
 {
     let min = node::min(s, node);
     let max = node::max(s, node);
-    let column = gathered_rows::column_index(edge_columns + set);
+    let column = ColumnIndex(fields::narrow16(edge_columns + set));
     let r = add_bounded_row(
         s,
         c,

@@ -13,13 +13,6 @@ ghost use Rattle.col_edge_map.specs.Mapped.{code, Mapped, only, sharesAc
 use pywr::EdgeIndex;
 use pywr::NodeIndex;
 
-fn narrow(x: usize) -> u16
-    requires { ⌜ x < 65536 ⌝ }
-    ensures { λ r. ⌜ r ≡ x ⌝ }
-{
-    x as u16
-}
-
 // The edge takes a new column unless it has one. Answers the count of columns.
 pub fn add_simple_edge(edge_to_col: &mut [u16; 512], count: usize, edge: EdgeIndex) -> usize
     requires { ⌜ (edge .0 < 512) × (count < 512) ⌝ }
@@ -28,7 +21,7 @@ pub fn add_simple_edge(edge_to_col: &mut [u16; 512], count: usize, edge: EdgeInd
 {
     let e = fields::wide16(edge.0);
     if edge_to_col[e] == 0 {
-        edge_to_col[e] = narrow(count + 1);
+        edge_to_col[e] = fields::narrow16(count + 1);
         return count + 1;
     }
     count
@@ -51,7 +44,7 @@ pub fn add_equal_edges(
     let other = edge_to_col[b];
     if column == 0 {
         if other == 0 {
-            let new = narrow(count + 1);
+            let new = fields::narrow16(count + 1);
             edge_to_col[e] = new;
             edge_to_col[b] = new;
             return count + 1;
@@ -66,11 +59,12 @@ pub fn add_equal_edges(
 }
 
 // The one edge of a node's list plus 1, or 0 where it has no edge or several.
-fn only_edge(first: &[u16; 256], next: &[u16; 512], node: usize) -> u16
-    requires { ⌜ (node < 256) × (getD (now first) node 0 ≤ 512) ⌝ }
-    ensures { λ r. ⌜ ((size : ℕ) (js : List ℕ) → Linked size (now (next .entry)) (getD (now (first .entry)) node 0) js → r ≡ code (only js)) ⌝ }
+fn only_edge(first: &[u16; 256], next: &[u16; 512], node: NodeIndex) -> u16
+    requires { ⌜ (node .0 < 256) × (getD (now first) (node .0) 0 ≤ 512) ⌝ }
+    ensures { λ r. ⌜ ((size : ℕ) (js : List ℕ) → Linked size (now (next .entry)) (getD (now (first .entry)) (node .0) 0) js → r ≡ code (only js)) ⌝ }
 {
-    let entry = first[node];
+    let k = fields::wide16(node.0);
+    let entry = first[k];
     if entry == 0 {
         return 0;
     }
@@ -98,11 +92,10 @@ pub fn shares_with(
     if node::kind(s, from) != 2 {
         return 0;
     }
-    let node = fields::wide16(from.0);
-    if only_edge(first_out, next_out, node) == 0 {
+    if only_edge(first_out, next_out, from) == 0 {
         return 0;
     }
-    only_edge(first_in, next_in, node)
+    only_edge(first_in, next_in, from)
 }
 
 // The columns of the edges, in index order: answers how many there are.
@@ -125,7 +118,7 @@ pub fn map_edges(
     let mut count: usize = 0;
     let mut e: usize = 0;
     while e < edges {
-        let edge = EdgeIndex(narrow(e));
+        let edge = EdgeIndex(fields::narrow16(e));
         let from = edge::from_node_index(s, nodes, edge);
         let before = shares_with(s, first_in, next_in, first_out, next_out, from);
         if before == 0 {

@@ -10,11 +10,13 @@ use pywr::EdgeIndex;
 use pywr::NodeIndex;
 
 // Whether one of the `count` edges from `start` has these ends. An edge's two ends are compared as one number.
-fn pair_among(s: &[u8], count: usize, start: usize, from: usize, to: usize) -> bool
-    requires { ⌜ (start + 6 * count ≤ length (now s)) × (from < 65536) × (to < 65536) ⌝ }
-    ensures { λ r. ⌜ r ≡ pairAmong (now (s .entry)) count start from to ⌝ }
+fn pair_among(s: &[u8], count: usize, start: usize, from: NodeIndex, to: NodeIndex) -> bool
+    requires { ⌜ start + 6 * count ≤ length (now s) ⌝ }
+    ensures { λ r. ⌜ r ≡ pairAmong (now (s .entry)) count start (from .0) (to .0) ⌝ }
 {
-    let pair = from + 65536 * to;
+    let f = fields::wide16(from.0);
+    let t = fields::wide16(to.0);
+    let pair = f + 65536 * t;
     let mut at = start;
     let mut i: usize = 0;
     while i < count {
@@ -28,17 +30,19 @@ fn pair_among(s: &[u8], count: usize, start: usize, from: usize, to: usize) -> b
 }
 
 // 5 of an edge whose ends are nodes: into an input, out of an output, to itself, or repeating a pair.
-fn bad_edge(s: &[u8], nodes: usize, edges: usize, from: usize, to: usize) -> bool
-    requires { ⌜ (20 * nodes + 6 * edges ≤ length (now s)) × (from < nodes) × (to < nodes) × (nodes ≤ 65536) ⌝ }
-    ensures { λ r. ⌜ r ≡ badEdgeAt (now (s .entry)) nodes edges from to ⌝ }
+fn bad_edge(s: &[u8], nodes: usize, edges: usize, from: NodeIndex, to: NodeIndex) -> bool
+    requires { ⌜ (20 * nodes + 6 * edges ≤ length (now s)) × (from .0 < nodes) × (to .0 < nodes) × (nodes ≤ 65536) ⌝ }
+    ensures { λ r. ⌜ r ≡ badEdgeAt (now (s .entry)) nodes edges (from .0) (to .0) ⌝ }
 {
-    if s[20 * to + 2] == 0 {
+    let f = fields::wide16(from.0);
+    let t = fields::wide16(to.0);
+    if s[20 * t + 2] == 0 {
         return true;
     }
-    if s[20 * from + 2] == 1 {
+    if s[20 * f + 2] == 1 {
         return true;
     }
-    if from == to {
+    if f == t {
         return true;
     }
     pair_among(s, edges, 20 * nodes, from, to)
@@ -57,7 +61,9 @@ pub fn check_edge(s: &[u8], nodes: usize, edges: usize, at: usize) -> Checked
             match t {
                 Field::Refused(n, p) => Checked::Refused(n, p),
                 Field::Value(to) => {
-                    if bad_edge(s, nodes, edges, from, to) {
+                    let from_node = NodeIndex(fields::narrow16(from));
+                    let to_node = NodeIndex(fields::narrow16(to));
+                    if bad_edge(s, nodes, edges, from_node, to_node) {
                         return Checked::Refused(5, at);
                     }
                     Checked::Next(at + 6)

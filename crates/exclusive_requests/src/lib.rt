@@ -11,6 +11,7 @@ ghost use Rattle.node_row_table.specs.NodeRows.{NodeRowsHeld, NodeRowsHolding, 
 use network_record::Counts;
 use node_row_table::NodeRows;
 use node_row_table::NodeRowsAdded;
+use pywr::ColumnIndex;
 use pywr::NodeIndex;
 use pywr::Sentinel;
 
@@ -43,7 +44,7 @@ fn request_bounded_rows(
     ensures { λ r. ⌜ ((asks : List RowRequest) → NodeRowsHeld sentinel asks (now (words .entry)) (now (numbers .entry)) rows
         → AfterRequests sentinel (asks ++ exclusiveRequests (columnMap (networkOf (now (s .entry)) c)) (node .0) (set ∷ [])) r (now (words .exit)) (now (numbers .exit))) ⌝ }
 {
-    let column = gathered_rows::column_index(edge_columns + fields::wide16(set));
+    let column = ColumnIndex(fields::narrow16(edge_columns + fields::wide16(set)));
     let r = node_requests::request_bounded_row(
         s,
         c,

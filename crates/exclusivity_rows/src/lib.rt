@@ -22,13 +22,6 @@ use network_record::Counts;
 use pywr::ColumnIndex;
 use pywr::Interval;
 
-fn column_index(column: usize) -> ColumnIndex
-    requires { ⌜ column < 65536 ⌝ }
-    ensures { λ r. ⌜ r .0 ≡ column ⌝ }
-{
-    ColumnIndex(column as u16)
-}
-
 fn active_bound(active: u32) -> f64
     ensures { λ r. ⌜ r ≡ double active ⌝ }
 {
@@ -55,7 +48,7 @@ fn exclusivity_row(
     let mut i: usize = 0;
     while i < count {
         let k = exclusive_sets::set_number(s, set_at, sets, here);
-        let column = column_index(edge_columns + k);
+        let column = ColumnIndex(fields::narrow16(edge_columns + k));
         n = row_builder::add_element(columns, elements, n, column, 1.0);
         here = aggregated_node::set_end(s, here);
         i += 1;

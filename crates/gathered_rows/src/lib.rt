@@ -1,4 +1,4 @@
-// Rows gathered from the tables of a network, and the numbers of nodes and columns in their width.
+// Rows gathered from the tables of a network.
 ghost use mathlib.Core.Path.{_≡_};
 ghost use Prim.Native.Nat.{_<_, _≤_};
 ghost use mathlib.Core.List.{[]};
@@ -9,20 +9,6 @@ ghost use Rattle.gathered_rows.specs.Gathered.{Gathered};
 use network_record::Counts;
 use pywr::ColumnIndex;
 use pywr::NodeIndex;
-
-pub fn node_index(node: usize) -> NodeIndex
-    requires { ⌜ node < 65536 ⌝ }
-    ensures { λ r. ⌜ r .0 ≡ node ⌝ }
-{
-    NodeIndex(node as u16)
-}
-
-pub fn column_index(column: usize) -> ColumnIndex
-    requires { ⌜ column < 65536 ⌝ }
-    ensures { λ r. ⌜ r .0 ≡ column ⌝ }
-{
-    ColumnIndex(column as u16)
-}
 
 // The row of a node with a coefficient on a set's column.
 pub fn bounded_row(

@@ -6,13 +6,6 @@ ghost use lib.ListN.{length, getD};
 ghost use Rattle.pywr.specs.Bytes.{le16};
 ghost use Rattle.incident_edges.specs.IncidentEdges.{endAt, EdgesListed};
 
-fn number_plus_one(x: usize) -> u16
-    requires { ⌜ x < 512 ⌝ }
-    ensures { λ r. ⌜ r ≡ x + 1 ⌝ }
-{
-    x as u16 + 1
-}
-
 // Edge 0 up to edge `edges - 1` stand behind `nodes` nodes; `end` is the byte of an edge's record where the end stands by which the edges are listed.
 pub fn list_edges(
     s: &[u8],
@@ -33,6 +26,6 @@ pub fn list_edges(
         e -= 1;
         let node = fields::wide16(fields::u16_at(s, 20 * nodes + 6 * e + end));
         next[e] = first[node];
-        first[node] = number_plus_one(e);
+        first[node] = fields::narrow16(e + 1);
     }
 }

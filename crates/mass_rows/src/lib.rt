@@ -124,7 +124,7 @@ pub fn create_mass_balance_constraints(
             first_out,
             next_out,
             edge_to_col,
-            gathered_rows::node_index(i),
+            NodeIndex(fields::narrow16(i)),
             words,
             numbers,
             columns,

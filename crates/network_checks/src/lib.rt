@@ -46,13 +46,14 @@ fn mark_ends(s: &[u8], n: usize, e: usize, into: &mut [bool; 256], out: &mut [bo
 }
 
 // 8 of node i: a link that no edge goes to, or that none comes from.
-fn is_unconnected(s: &[u8], i: usize, into: &[bool; 256], out: &[bool; 256]) -> bool
-    requires { ⌜ (i < 256) × (20 * i + 20 ≤ length (now s)) ⌝ }
-    ensures { λ r. ⌜ r ≡ (eqb (nodeAt (now (s .entry)) (20 * i) .kind) link && (not (getD (now (into .entry)) i false) || not (getD (now (out .entry)) i false))) ⌝ }
+fn is_unconnected(s: &[u8], i: NodeIndex, into: &[bool; 256], out: &[bool; 256]) -> bool
+    requires { ⌜ (i .0 < 256) × (20 * i .0 + 20 ≤ length (now s)) ⌝ }
+    ensures { λ r. ⌜ r ≡ (eqb (nodeAt (now (s .entry)) (20 * i .0) .kind) link && (not (getD (now (into .entry)) (i .0) false) || not (getD (now (out .entry)) (i .0) false))) ⌝ }
 {
-    if node::kind(s, NodeIndex(fields::narrow16(i))) == 2 {
-        if into[i] {
-            if out[i] {
+    let k = fields::wide16(i.0);
+    if node::kind(s, i) == 2 {
+        if into[k] {
+            if out[k] {
                 return false;
             }
             return true;
@@ -71,7 +72,7 @@ fn first_unconnected(s: &[u8], c: Counts, into: &[bool; 256], out: &[bool; 256])
 {
     let mut i: usize = 0;
     while i < c.nodes {
-        if is_unconnected(s, i, into, out) {
+        if is_unconnected(s, NodeIndex(fields::narrow16(i)), into, out) {
             return Refusal::At(8, i);
         }
         i += 1;
@@ -140,32 +141,31 @@ fn mark_exclusive(s: &[u8], start: usize, a: usize, marks: &mut [bool; 256])
 }
 
 // 9 of node i: a constant's min over its max.
-fn is_crossed(s: &[u8], i: usize) -> bool
-    requires { ⌜ (i < 256) × NodePassed (now s) (20 * i) ⌝ }
-    ensures { λ r. ⌜ r ≡ (nodeAt (now (s .entry)) (20 * i) .constant && lt (nodeAt (now (s .entry)) (20 * i) .max) (nodeAt (now (s .entry)) (20 * i) .min)) ⌝ }
+fn is_crossed(s: &[u8], i: NodeIndex) -> bool
+    requires { ⌜ NodePassed (now s) (20 * i .0) ⌝ }
+    ensures { λ r. ⌜ r ≡ (nodeAt (now (s .entry)) (20 * i .0) .constant && lt (nodeAt (now (s .entry)) (20 * i .0) .max) (nodeAt (now (s .entry)) (20 * i .0) .min)) ⌝ }
 {
-    let k = NodeIndex(fields::narrow16(i));
-    if node::is_constant(s, k) {
-        let max = node::max(s, k);
-        let min = node::min(s, k);
+    if node::is_constant(s, i) {
+        let max = node::max(s, i);
+        let min = node::min(s, i);
         return max < min;
     }
     false
 }
 
 // 10 of node i: an exclusive constant's max −infinity or min +infinity.
-fn is_unbounded(s: &[u8], i: usize, exclusive: &[bool; 256]) -> bool
-    requires { ⌜ (i < 256) × NodePassed (now s) (20 * i) ⌝ }
-    ensures { λ r. ⌜ r ≡ (nodeAt (now (s .entry)) (20 * i) .constant && getD (now (exclusive .entry)) i false
-        && (eq (nodeAt (now (s .entry)) (20 * i) .max) (inf true) || eq (nodeAt (now (s .entry)) (20 * i) .min) (inf false))) ⌝ }
+fn is_unbounded(s: &[u8], i: NodeIndex, exclusive: &[bool; 256]) -> bool
+    requires { ⌜ (i .0 < 256) × NodePassed (now s) (20 * i .0) ⌝ }
+    ensures { λ r. ⌜ r ≡ (nodeAt (now (s .entry)) (20 * i .0) .constant && getD (now (exclusive .entry)) (i .0) false
+        && (eq (nodeAt (now (s .entry)) (20 * i .0) .max) (inf true) || eq (nodeAt (now (s .entry)) (20 * i .0) .min) (inf false))) ⌝ }
 {
-    let k = NodeIndex(fields::narrow16(i));
-    if node::is_constant(s, k) {
-        if exclusive[i] {
-            if node::max(s, k) == f64::from_bits(0xfff0000000000000) {
+    let k = fields::wide16(i.0);
+    if node::is_constant(s, i) {
+        if exclusive[k] {
+            if node::max(s, i) == f64::from_bits(0xfff0000000000000) {
                 return true;
             }
-            return node::min(s, k) == f64::from_bits(0x7ff0000000000000);
+            return node::min(s, i) == f64::from_bits(0x7ff0000000000000);
         }
         return false;
     }
@@ -180,10 +180,11 @@ fn first_bad_constant(s: &[u8], c: Counts, exclusive: &[bool; 256]) -> Refusal
 {
     let mut i: usize = 0;
     while i < c.nodes {
-        if is_crossed(s, i) {
+        let node = NodeIndex(fields::narrow16(i));
+        if is_crossed(s, node) {
             return Refusal::At(9, i);
         }
-        if is_unbounded(s, i, exclusive) {
+        if is_unbounded(s, node, exclusive) {
             return Refusal::At(10, i);
         }
         i += 1;

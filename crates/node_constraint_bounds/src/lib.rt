@@ -1,4 +1,5 @@
 // The node rows of a step: bounds of continuous rows, coefficients of the others (update_node_constraint_bounds of builder.rs).
+use pywr::ColumnIndex;
 use row_bounds::apply_row_bounds;
 use row_bounds::held_interval;
 use row_coefficients::set_coefficient;
@@ -41,7 +42,7 @@ fn update_node_row(
         apply_row_bounds(row_lower, row_upper, row, by);
         return;
     }
-    let column = shape[EDGE_COLUMN_COUNT] + shape[at + 3];
+    let column = ColumnIndex(shape[EDGE_COLUMN_COUNT] + shape[at + 3]);
     if row_type == 1 {
         set_coefficient(elements, columns, row_starts, row, column, by.upper);
         return;

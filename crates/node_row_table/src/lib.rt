@@ -27,12 +27,12 @@ pub enum NodeRowsAdded {
 }
 
 // Node row i of the table: the node, its row, the row's type and the set's number.
-fn put_node_row(words: &mut [u16], i: usize, node: u16, row: u16, row_type: u16, set: u16)
+fn put_node_row(words: &mut [u16], i: usize, node: NodeIndex, row: u16, row_type: u16, set: u16)
     requires { ⌜ 7180 + 4 * i + 4 ≤ length (now words) ⌝ }
-    ensures { λ _. ⌜ now (words .exit) ≡ sets (now (words .entry)) (7180 + 4 * i) (node ∷ row ∷ «row_type» ∷ set ∷ []) ⌝ }
+    ensures { λ _. ⌜ now (words .exit) ≡ sets (now (words .entry)) (7180 + 4 * i) (node .0 ∷ row ∷ «row_type» ∷ set ∷ []) ⌝ }
 {
     let at = 7180 + 4 * i;
-    words[at] = node;
+    words[at] = node.0;
     words[at + 1] = row;
     words[at + 2] = row_type;
     words[at + 3] = set;
@@ -65,7 +65,7 @@ pub fn add_node_row(
             put_node_row(
                 words,
                 count,
-                node.0,
+                node,
                 joined_rows::row_word(row),
                 row_type,
                 set,

@@ -123,7 +123,7 @@ pub fn create_node_constraints(
             edge_columns,
             first_listing,
             next_listing,
-            gathered_rows::node_index(i),
+            NodeIndex(fields::narrow16(i)),
             sentinel,
             words,
             numbers,

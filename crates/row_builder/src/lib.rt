@@ -4,21 +4,24 @@ ghost use Prim.Native.Nat.{_<_, _≤_};
 ghost use lib.ListN.{length};
 ghost use Rattle.row_builder.specs.RowBuilder.{Rising, Place, insertAt, ElementAdded};
 ghost use Rattle.row_builder.specs.EdgeList.{ListedEdges, ColumnsAdded};
+use pywr::ColumnIndex;
+use pywr::EdgeIndex;
 
 // The width of a column's number in the array.
 pub type ColumnNumber = u32;
 
-fn wide(x: u16) -> ColumnNumber
-    ensures { λ r. ⌜ (r ≡ x) × (r < 65536) ⌝ }
+fn wide(column: ColumnIndex) -> ColumnNumber
+    ensures { λ r. ⌜ (r ≡ column .0) × (r < 65536) ⌝ }
 {
-    x as ColumnNumber
+    column.0 as ColumnNumber
 }
 
-// The first place, of n, whose column is not under c.
-fn place_of(columns: &[ColumnNumber], n: usize, c: ColumnNumber) -> usize
+// The first place, of n, whose column is not under the one given.
+fn place_of(columns: &[ColumnNumber], n: usize, column: ColumnIndex) -> usize
     requires { ⌜ (n ≤ length (now columns)) × Rising (now columns) n ⌝ }
-    ensures { λ r. ⌜ Place (now (columns .entry)) n c r ⌝ }
+    ensures { λ r. ⌜ Place (now (columns .entry)) n (column .0) r ⌝ }
 {
+    let c = wide(column);
     if n == 0 {
         return 0;
     }
@@ -38,17 +41,17 @@ fn place_of(columns: &[ColumnNumber], n: usize, c: ColumnNumber) -> usize
     lo
 }
 
-// c put at place p: the columns from there up to place n move up by one.
-fn insert_column(columns: &mut [ColumnNumber], n: usize, p: usize, c: ColumnNumber)
+// The column put at place p: the columns from there up to place n move up by one.
+fn insert_column(columns: &mut [ColumnNumber], n: usize, p: usize, column: ColumnIndex)
     requires { ⌜ (p ≤ n) × (n < length (now columns)) ⌝ }
-    ensures { λ _. ⌜ now (columns .exit) ≡ insertAt n p c (now (columns .entry)) ⌝ }
+    ensures { λ _. ⌜ now (columns .exit) ≡ insertAt n p (column .0) (now (columns .entry)) ⌝ }
 {
     let mut i = n;
     while p < i {
         columns[i] = columns[i - 1];
         i -= 1;
     }
-    columns[p] = c;
+    columns[p] = wide(column);
 }
 
 // The same of an element.
@@ -69,29 +72,29 @@ pub fn add_element(
     columns: &mut [ColumnNumber; 640],
     elements: &mut [f64],
     n: usize,
-    column: pywr::ColumnIndex,
+    column: ColumnIndex,
     value: f64,
 ) -> usize
     requires { ⌜ (n ≤ 640) × (640 ≤ length (now elements)) × (column .0 < 640) × Rising (now columns) n ⌝ }
     ensures { λ r. ⌜ ElementAdded (now (columns .entry)) (now (elements .entry)) n (column .0) value (now (columns .exit)) (now (elements .exit)) r ⌝ }
 {
-    let c = wide(column.0);
-    let p = place_of(columns, n, c);
+    let c = wide(column);
+    let p = place_of(columns, n, column);
     if p < n {
         if columns[p] == c {
             elements[p] = elements[p] + value;
             return n;
         }
     }
-    insert_column(columns, n, p, c);
+    insert_column(columns, n, p, column);
     insert_element(elements, n, p, 0.0 + value);
     n + 1
 }
 
-fn index(x: u16) -> usize
-    ensures { λ r. ⌜ (r ≡ x) × (r < 65536) ⌝ }
+fn index(edge: EdgeIndex) -> usize
+    ensures { λ r. ⌜ (r ≡ edge .0) × (r < 65536) ⌝ }
 {
-    x as usize
+    edge.0 as usize
 }
 
 // Adds the factor on the column of each edge of a list. `first` is 0 or an edge's number plus 1, and so is each entry of `next`;
@@ -111,12 +114,12 @@ pub fn add_columns(
     let mut count = n;
     let mut link = first;
     while link != 0 {
-        let e = index(link - 1);
+        let e = index(EdgeIndex(link - 1));
         count = add_element(
             columns,
             elements,
             count,
-            pywr::ColumnIndex(edge_to_col[e] - 1),
+            ColumnIndex(edge_to_col[e] - 1),
             factor,
         );
         link = next[e];

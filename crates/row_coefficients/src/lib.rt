@@ -1,4 +1,5 @@
 // The coefficients of a step: one element of a row set (apply_updated_coefficients of builder.rs).
+use pywr::ColumnIndex;
 use store_rows::wide_start;
 ghost use mathlib.Core.Path.{_≡_};
 ghost use mathlib.Core.Bool.{true};
@@ -9,12 +10,12 @@ ghost use Rattle.pywr.specs.Network.{listed};
 ghost use Rattle.row_coefficients.specs.RowCoefficients.{CoefficientSet};
 
 // The place of a column in the row from `start` up to `end`, looked for from the end, where a row's integer columns stand.
-fn column_place(columns: &[u16], start: usize, end: usize, column: u16) -> usize
-    requires { ⌜ (end ≤ length (now columns)) × (listed column (slice start end (now columns)) ≡ true) ⌝ }
-    ensures { λ r. ⌜ (start ≤ r) × (r < end) × (getD (now (columns .entry)) r 0 ≡ column) ⌝ }
+fn column_place(columns: &[u16], start: usize, end: usize, column: ColumnIndex) -> usize
+    requires { ⌜ (end ≤ length (now columns)) × (listed (column .0) (slice start end (now columns)) ≡ true) ⌝ }
+    ensures { λ r. ⌜ (start ≤ r) × (r < end) × (getD (now (columns .entry)) r 0 ≡ column .0) ⌝ }
 {
     let mut k = end - 1;
-    while columns[k] != column {
+    while columns[k] != column.0 {
         k -= 1;
     }
     k
@@ -26,12 +27,12 @@ pub fn set_coefficient(
     columns: &[u16],
     row_starts: &[u32],
     row: usize,
-    column: u16,
+    column: ColumnIndex,
     value: f64,
 )
     requires { ⌜ (row + 1 < length (now «row_starts»)) × (getD (now «row_starts») (row + 1) 0 ≤ 4096) × (4096 ≤ length (now columns)) × (4096 ≤ length (now elements))
-        × (listed column (slice (getD (now «row_starts») row 0) (getD (now «row_starts») (row + 1) 0) (now columns)) ≡ true) ⌝ }
-    ensures { λ _. ⌜ CoefficientSet (now (columns .entry)) (now («row_starts» .entry)) row column value (now (elements .entry)) (now (elements .exit)) ⌝ }
+        × (listed (column .0) (slice (getD (now «row_starts») row 0) (getD (now «row_starts») (row + 1) 0) (now columns)) ≡ true) ⌝ }
+    ensures { λ _. ⌜ CoefficientSet (now (columns .entry)) (now («row_starts» .entry)) row (column .0) value (now (elements .entry)) (now (elements .exit)) ⌝ }
 {
     let start = wide_start(row_starts[row]);
     let end = wide_start(row_starts[row + 1]);

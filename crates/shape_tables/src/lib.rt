@@ -14,13 +14,6 @@ use pywr::EdgeIndex;
 use pywr::NodeIndex;
 use pywr::Sentinel;
 
-fn narrow(x: usize) -> u16
-    requires { ⌜ x < 65536 ⌝ }
-    ensures { λ r. ⌜ r ≡ x ⌝ }
-{
-    x as u16
-}
-
 fn word(x: u8) -> u16
     ensures { λ r. ⌜ r ≡ x ⌝ }
 {
@@ -34,7 +27,7 @@ pub fn write_nodes(s: &[u8], nodes: usize, words: &mut [u16])
 {
     let mut i: usize = 0;
     while i < nodes {
-        let n = NodeIndex(narrow(i));
+        let n = NodeIndex(fields::narrow16(i));
         words[5132 + 2 * i] = word(node::kind(s, n));
         if node::is_constant(s, n) {
             words[5132 + 2 * i + 1] = 1;
@@ -60,7 +53,7 @@ pub fn write_edges(
 {
     let mut i: usize = 0;
     while i < edges {
-        let e = EdgeIndex(narrow(i));
+        let e = EdgeIndex(fields::narrow16(i));
         let from = edge::from_node_index(s, nodes, e);
         let to = edge::to_node_index(s, nodes, e);
         words[5644 + 3 * i] = from.0;
@@ -85,14 +78,14 @@ pub fn write_counts(words: &mut [u16], sentinel: Sentinel, z: Sizes, varying: us
     ensures { λ _. ⌜ now (words .exit) ≡ sets (now (words .entry)) 5121 (counts sentinel z varying) ⌝ }
 {
     words[5121] = sentinel_word(sentinel);
-    words[5122] = narrow(z.nodes);
-    words[5123] = narrow(z.edges);
-    words[5124] = narrow(z.edge_columns);
-    words[5125] = narrow(z.sets);
-    words[5126] = narrow(varying);
-    words[5127] = narrow(z.rows - varying);
-    words[5128] = narrow(z.elements);
-    words[5129] = narrow(z.node_rows);
-    words[5130] = narrow(z.aggregates);
-    words[5131] = narrow(z.storages);
+    words[5122] = fields::narrow16(z.nodes);
+    words[5123] = fields::narrow16(z.edges);
+    words[5124] = fields::narrow16(z.edge_columns);
+    words[5125] = fields::narrow16(z.sets);
+    words[5126] = fields::narrow16(varying);
+    words[5127] = fields::narrow16(z.rows - varying);
+    words[5128] = fields::narrow16(z.elements);
+    words[5129] = fields::narrow16(z.node_rows);
+    words[5130] = fields::narrow16(z.aggregates);
+    words[5131] = fields::narrow16(z.storages);
 }

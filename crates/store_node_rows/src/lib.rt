@@ -1,4 +1,5 @@
 // The node rows of a store: the part of refusal 17 on the node-row table, with "an integer column absent from its row".
+use pywr::ColumnIndex;
 use store_rows::wide_start;
 use store_shape::EDGE_COLUMN_COUNT;
 use store_shape::NODE_COUNT;
@@ -17,13 +18,13 @@ ghost use Rattle.pywr.specs.Misshapen.{nodeRowFits, allEntries};
 ghost use Rattle.store_rows.specs.Starts.{RowsWithin};
 
 // Whether the row from `start` up to `end` has the column, looked for from the end, where a row's integer columns stand.
-fn row_holds(columns: &[u16], start: usize, end: usize, column: u16) -> bool
+fn row_holds(columns: &[u16], start: usize, end: usize, column: ColumnIndex) -> bool
     requires { ⌜ end ≤ length (now columns) ⌝ }
-    ensures { λ r. ⌜ r ≡ listed column (slice start end (now (columns .entry))) ⌝ }
+    ensures { λ r. ⌜ r ≡ listed (column .0) (slice start end (now (columns .entry))) ⌝ }
 {
     let mut k = end;
     while start < k {
-        if column == columns[k - 1] {
+        if column.0 == columns[k - 1] {
             return true;
         }
         k -= 1;
@@ -60,7 +61,7 @@ fn node_row_fits(columns: &[u16], row_starts: &[u32], shape: &[u16], at: usize) 
         columns,
         wide_start(row_starts[r]),
         wide_start(row_starts[r + 1]),
-        shape[EDGE_COLUMN_COUNT] + set,
+        ColumnIndex(shape[EDGE_COLUMN_COUNT] + set),
     )
 }
 

@@ -1,4 +1,5 @@
 // The rows of a store: the parts of refusal 17 on row starts and columns.
+use pywr::ColumnIndex;
 use store_shape::EDGE_COLUMN_COUNT;
 use store_shape::ELEMENTS_KEPT;
 use store_shape::SET_COUNT;
@@ -51,10 +52,10 @@ fn columns_under(columns: &[u16], n: usize, count: u16) -> bool
 }
 
 // A column falls where it is not over the one before it: 1 there.
-fn fall_of(before: u16, column: u16) -> u16
-    ensures { λ r. ⌜ (r ≡ fall before column) × (r ≤ 1) ⌝ }
+fn fall_of(before: ColumnIndex, column: ColumnIndex) -> u16
+    ensures { λ r. ⌜ (r ≡ fall (before .0) (column .0)) × (r ≤ 1) ⌝ }
 {
-    if before < column { 0 } else { 1 }
+    if before.0 < column.0 { 0 } else { 1 }
 }
 
 // How often the first n columns fall.
@@ -65,7 +66,7 @@ fn falls(columns: &[u16], n: usize) -> u16
     let mut sum: u16 = 0;
     let mut i: usize = 1;
     while i < n {
-        sum += fall_of(columns[i - 1], columns[i]);
+        sum += fall_of(ColumnIndex(columns[i - 1]), ColumnIndex(columns[i]));
         i += 1;
     }
     sum
@@ -82,7 +83,7 @@ fn start_fall(columns: &[u16], start: usize, end: usize) -> u16
     if start == 0 {
         return 0;
     }
-    fall_of(columns[start - 1], columns[start])
+    fall_of(ColumnIndex(columns[start - 1]), ColumnIndex(columns[start]))
 }
 
 // How many rows start with a fall.

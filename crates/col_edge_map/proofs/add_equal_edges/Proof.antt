@@ -8,7 +8,7 @@ returns : tie.Need-returns
 returns c =
     let e = c .before .before .before .before .before .before .wide16 .ensures .0 in
     let b = c .before .before .before .before .before .wide162 .ensures .0 in
-    (search needs, λ k m u w. rw (e, b, c .narrow .ensures) (equal-new k _ _ m _ u _ w (rw e at (c .before .before .if1 .taken)) (rw b at (c .before .if2 .taken))))
+    (search needs, λ k m u w. rw (e, b, c .narrow16 .ensures) (equal-new k _ _ m _ u _ w (rw e at (c .before .before .if1 .taken)) (rw b at (c .before .if2 .taken))))
 
 returns-2 : tie.Need-returns-2
 returns-2 c =

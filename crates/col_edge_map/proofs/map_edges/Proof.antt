@@ -22,7 +22,7 @@ loop-holds c =
 
 shares-with-requires : tie.Need-shares-with-requires Inv-loop μ-loop
 shares-with-requires c κs =
-    let q = rw (c .before .narrow .ensures) at (c .from-node-index .ensures) in
+    let q = rw (c .before .narrow16 .ensures) at (c .from-node-index .ensures) in
     let under = c .before .before .before .before .before .before .pre .3 (c .before .before .before .loop .e) (c .before .before .loop-test .taken) in (
       omega (arith, c .before .before .before .before .before .before .pre .0),
       omega (arith, c .before .before .before .before .before .before .pre .2),
@@ -34,7 +34,7 @@ add-simple-edge-requires : tie.Need-add-simple-edge-requires Inv-loop μ-loop
 add-simple-edge-requires c κs =
     let few = c .before .before .before .before .before .before .loop .inv .few-columns in
     let most = c .before .before .before .before .before .before .before .before .before .pre .1 in
-    let q = c .before .before .before .before .narrow .ensures in
+    let q = c .before .before .before .before .narrow16 .ensures in
     (omega arith, omega arith)
 
 loop-again : tie.Need-loop-again Inv-loop μ-loop
@@ -46,10 +46,10 @@ loop-again c =
     let c6 = c5 .before in
     let c7 = c6 .before in
     let c10 = c7 .before .before .before in
-    let k = shared-read _ _ _ (c10 .pre .4) (c10 .pre .5) (c7 .loop .e) _ _ (rw (c5 .narrow .ensures) at (c4 .from-node-index .ensures)) (c3 .shares-with .ensures) in
+    let k = shared-read _ _ _ (c10 .pre .4) (c10 .pre .5) (c7 .loop .e) _ _ (rw (c5 .narrow16 .ensures) at (c4 .from-node-index .ensures)) (c3 .shares-with .ensures) in
     let under = c10 .pre .3 (c7 .loop .e) (c6 .loop-test .taken) in
     simple-placed _ _ _ _ _ _ _ _ (c7 .loop .inv) (c6 .loop-test .taken) under (c .add-simple-edge .ensures .0) (sym k ∙ c2 .if1 .taken)
-    (rw (c5 .narrow .ensures) at (c .add-simple-edge .ensures .1 (c7 .loop .inv .now-columns) (c7 .loop .inv .mapped) (omega (arith, c7 .loop .inv .long, c5 .narrow .ensures))))
+    (rw (c5 .narrow16 .ensures) at (c .add-simple-edge .ensures .1 (c7 .loop .inv .now-columns) (c7 .loop .inv .mapped) (omega (arith, c7 .loop .inv .long, c5 .narrow16 .ensures))))
 
 add-equal-edges-requires : tie.Need-add-equal-edges-requires Inv-loop μ-loop
 add-equal-edges-requires c κs =
@@ -61,8 +61,8 @@ add-equal-edges-requires c κs =
     let c9 = c6 .before .before .before in
     let few = c6 .loop .inv .few-columns in
     let most = c9 .pre .1 in
-    let q = c4 .narrow .ensures in
-    let k = shared-read _ _ _ (c9 .pre .4) (c9 .pre .5) (c6 .loop .e) _ _ (rw (c4 .narrow .ensures) at (c3 .from-node-index .ensures)) (c2 .shares-with .ensures) in
+    let q = c4 .narrow16 .ensures in
+    let k = shared-read _ _ _ (c9 .pre .4) (c9 .pre .5) (c6 .loop .e) _ _ (rw (c4 .narrow16 .ensures) at (c3 .from-node-index .ensures)) (c2 .shares-with .ensures) in
     let under = shared-under _ _ _ (c9 .pre .4) (c6 .loop .e) _ k (c1 .if1 .left) in
     (omega arith, omega arith, omega arith)
 
@@ -75,11 +75,11 @@ loop-again-2 c =
     let c6 = c5 .before in
     let c7 = c6 .before in
     let c10 = c7 .before .before .before in
-    let k = shared-read _ _ _ (c10 .pre .4) (c10 .pre .5) (c7 .loop .e) _ _ (rw (c5 .narrow .ensures) at (c4 .from-node-index .ensures)) (c3 .shares-with .ensures) in
+    let k = shared-read _ _ _ (c10 .pre .4) (c10 .pre .5) (c7 .loop .e) _ _ (rw (c5 .narrow16 .ensures) at (c4 .from-node-index .ensures)) (c3 .shares-with .ensures) in
     let there = shared-under _ _ _ (c10 .pre .4) (c7 .loop .e) _ k (c2 .if1 .left) in
     let under = c10 .pre .3 (c7 .loop .e) (c6 .loop-test .taken) in
     equal-placed _ _ _ _ _ _ _ _ (c7 .loop .inv) (c6 .loop-test .taken) under (c .add-equal-edges .ensures .0) _ k (c2 .if1 .left)
-    (rw (c5 .narrow .ensures) at (c .add-equal-edges .ensures .1 (c7 .loop .inv .now-columns) (c7 .loop .inv .mapped) (omega (arith, c7 .loop .inv .long, c5 .narrow .ensures)) (omega (arith, c7 .loop .inv .long))))
+    (rw (c5 .narrow16 .ensures) at (c .add-equal-edges .ensures .1 (c7 .loop .inv .now-columns) (c7 .loop .inv .mapped) (omega (arith, c7 .loop .inv .long, c5 .narrow16 .ensures)) (omega (arith, c7 .loop .inv .long))))
 
 returns : tie.Need-returns Inv-loop μ-loop
 returns c =

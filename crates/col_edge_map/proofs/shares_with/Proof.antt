@@ -11,26 +11,27 @@ returns c =
 
 only-edge-requires : tie.Need-only-edge-requires
 only-edge-requires c κs =
-    rw (c .wide16 .ensures .0) (c .before .before .before .before .pre .0, c .before .before .before .before .pre .3)
+    let c3 = c .before .before .before in
+    (c3 .pre .0, c3 .pre .3)
 
 returns-2 : tie.Need-returns-2
 returns-2 c =
-    λ size into out i o. not-one-out _ into out (sym (c .before .before .before .before .kind .ensures) ∙ c .before .before .before .if1 .left) (sym (c .before .only-edge .ensures size out (rw (c .before .before .wide16 .ensures .0) o)) ∙ c .if2 .taken)
+    let c2 = c .before .before in
+    λ size into out i o. not-one-out _ into out (sym (c2 .before .kind .ensures) ∙ c2 .if1 .left) (sym (c .before .only-edge .ensures size out o) ∙ c .if2 .taken)
 
 only-edge-requires-2 : tie.Need-only-edge-requires-2
 only-edge-requires-2 c κs =
-    rw (c .before .before .wide16 .ensures .0) (c .before .before .before .before .before .before .pre .0, c .before .before .before .before .before .before .pre .2)
+    let c2 = c .before .before in
+    let c5 = c2 .before .before .before in
+    (c5 .pre .0, c5 .pre .2)
 
 returns-3 : tie.Need-returns-3
 returns-3 c =
-    let c1 = c .before in
-    let c2 = c1 .before in
+    let c2 = c .before .before in
     let c3 = c2 .before in
-    let c4 = c3 .before in
-    let c5 = c4 .before in
     λ size into out i o.
-    c .only-edge2 .ensures size into (rw (c3 .wide16 .ensures .0) i)
-    ∙ across _ into out (sym (c5 .kind .ensures) ∙ c4 .if1 .left) (λ z. c1 .if2 .left (c2 .only-edge .ensures size out (rw (c3 .wide16 .ensures .0) o) ∙ z))
+    c .only-edge2 .ensures size into i
+    ∙ across _ into out (sym (c3 .before .kind .ensures) ∙ c3 .if1 .left) (λ z. c .before .if2 .left (c2 .only-edge .ensures size out o ∙ z))
 
 pub shares-with-spec : {M : Type 1} → statement M
 shares-with-spec =
@@ -38,7 +39,6 @@ shares-with-spec =
     (tie.spec
     (λ c κs. search needs)
     returns
-    (λ c κs. search needs)
     only-edge-requires
     returns-2
     only-edge-requires-2

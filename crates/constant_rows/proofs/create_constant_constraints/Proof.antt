@@ -29,8 +29,8 @@ loop-holds : tie.Need-loop-holds Inv-loop μ-loop
 loop-holds c =
     (search needs, (λ rows h. adding-first rows _ _ _ _ h), refl, refl)
 
-node-index-requires : tie.Need-node-index-requires Inv-loop μ-loop
-node-index-requires c κs =
+narrow16-requires : tie.Need-narrow16-requires Inv-loop μ-loop
+narrow16-requires c κs =
     omega (arith, c .loop-test .taken, c .before .before .before .before .before .pre .0 .sections .few-nodes)
 
 add-constant-rows-requires : tie.Need-add-constant-rows-requires Inv-loop μ-loop
@@ -40,7 +40,7 @@ add-constant-rows-requires c κs =
     let c5 = c4 .before in
     let c9 = c5 .before .before .before .before in
     let l = c5 .loop .inv in
-    (c9 .pre .0, omega (arith, c3 .node-index .ensures, c4 .loop-test .taken), c9 .pre .1, c9 .pre .2, omega (arith, l .2, c9 .pre .3), omega (arith, l .3, c9 .pre .4), adding-holding _ _ _ _ _ _ (l .1 (c9 .pre .5 .rows) (c9 .pre .5 .held)))
+    (c9 .pre .0, omega (arith, c3 .narrow16 .ensures, c4 .loop-test .taken), c9 .pre .1, c9 .pre .2, omega (arith, l .2, c9 .pre .3), omega (arith, l .3, c9 .pre .4), adding-holding _ _ _ _ _ _ (l .1 (c9 .pre .5 .rows) (c9 .pre .5 .held)))
 
 same-length : tie.Need-same-length Inv-loop μ-loop
 same-length c =
@@ -57,12 +57,12 @@ returns c =
     let c11 = c10 .before in
     let c12 = c11 .before in
     let c16 = c12 .before .before .before .before in
-    λ rows h. node-over (constantRowsFrom (c16 .args .sentinel) (columnMap (networkOf (c16 .args .s .now) (c16 .args .c)))) (by-node _ _) _ _ _ _ _ _ _ _ _ _ _ (c12 .loop .inv .1 rows h) (c11 .loop-test .taken) _ (c10 .node-index .ensures) _ _ _ (c6 .add-constant-rows .ensures) (c .enum-told .given .1)
+    λ rows h. node-over (constantRowsFrom (c16 .args .sentinel) (columnMap (networkOf (c16 .args .s .now) (c16 .args .c)))) (by-node _ _) _ _ _ _ _ _ _ _ _ _ _ (c12 .loop .inv .1 rows h) (c11 .loop-test .taken) _ (c10 .narrow16 .ensures) _ _ _ (c6 .add-constant-rows .ensures) (c .enum-told .given .1)
 
 loop-again : tie.Need-loop-again Inv-loop μ-loop
 loop-again c = (
   search needs,
-  (λ rows h. node-more (constantRowsFrom (c .before .before .before .before .before .before .before .before .before .before .before .before .before .before .before .before .before .args .sentinel) (columnMap (networkOf (c .before .before .before .before .before .before .before .before .before .before .before .before .before .before .before .before .before .args .s .now) (c .before .before .before .before .before .before .before .before .before .before .before .before .before .before .before .before .before .args .c)))) (by-node _ _) _ _ _ _ _ _ _ _ _ _ _ (c .before .before .before .before .before .before .before .before .before .before .before .before .before .loop .inv .1 rows h) (c .before .before .before .before .before .before .before .before .before .before .before .before .loop-test .taken) _ (c .before .before .before .before .before .before .before .before .before .before .before .node-index .ensures) _ _ _ (c .before .before .before .before .before .before .before .add-constant-rows .ensures) _ (c .before .r .given .1)),
+  (λ rows h. node-more (constantRowsFrom (c .before .before .before .before .before .before .before .before .before .before .before .before .before .before .before .before .before .args .sentinel) (columnMap (networkOf (c .before .before .before .before .before .before .before .before .before .before .before .before .before .before .before .before .before .args .s .now) (c .before .before .before .before .before .before .before .before .before .before .before .before .before .before .before .before .before .args .c)))) (by-node _ _) _ _ _ _ _ _ _ _ _ _ _ (c .before .before .before .before .before .before .before .before .before .before .before .before .before .loop .inv .1 rows h) (c .before .before .before .before .before .before .before .before .before .before .before .before .loop-test .taken) _ (c .before .before .before .before .before .before .before .before .before .before .before .narrow16 .ensures) _ _ _ (c .before .before .before .before .before .before .before .add-constant-rows .ensures) _ (c .before .r .given .1)),
   c .before .before .before .before .before .before .before .add-constant-rows .kept .1 .1 .1 .1 .1 .1 .1 .1 .1 .1 .1 .1 .0 ∙ c .before .before .before .before .before .before .before .before .before .before .before .before .before .loop .inv .2,
   c .before .before .before .before .before .before .before .add-constant-rows .kept .1 .1 .1 .1 .1 .1 .1 .1 .1 .1 .1 .1 .1 .0 ∙ c .before .before .before .before .before .before .before .before .before .before .before .before .before .loop .inv .3,
 )
@@ -88,7 +88,7 @@ create-constant-constraints-spec =
     Inv-loop
     μ-loop
     loop-holds
-    node-index-requires
+    narrow16-requires
     add-constant-rows-requires
     (λ c. search needs)
     same-length

@@ -11,11 +11,11 @@ use Rattle.edge.proofs.pair_among.Statement.{statement}
 use Rattle.edge.proofs.pair_among.Tie as tie
 
 abbrev Inv-loop : tie.InvT-loop
-Inv-loop s count start from to pair at₀ i₀ at i =
-    (i ≤ count) × (at ≡ start + 6 * i) × (pairAmong s count start from to ≡ pairAmong s (count - i) at from to)
+Inv-loop s count start f t pair at₀ i₀ at i =
+    (i ≤ count) × (at ≡ start + 6 * i) × (pairAmong s count start f t ≡ pairAmong s (count - i) at f t)
 
 abbrev μ-loop : tie.MeasureT-loop
-μ-loop s count start from to pair at₀ i₀ at i = count - i
+μ-loop s count start f t pair at₀ i₀ at i = count - i
 
 loop-holds : tie.Need-loop-holds Inv-loop μ-loop
 loop-holds c =
@@ -29,9 +29,11 @@ returns c =
     let c4 = c3 .before in
     let c5 = c4 .before in
     let c6 = c5 .before in
+    let c7 = c6 .before in
     let k = c4 .loop .at + 2 in
-    let h : le16 (c6 .args .s .now) k < 65536 = omega (arith, c5 .shared-slice-known .given k, c5 .shared-slice-known .given (k + 1)) in
-    sym (c4 .loop .inv .2 ∙ pair-here _ _ _ _ _ _ (c3 .loop-test .taken) h (c6 .pre .1) (sym (c1 .wide32 .ensures .0 ∙ c2 .u32-at .ensures) ∙ c .if1 .taken))
+    let h : le16 (c7 .before .args .s .now) k < 65536 = omega (arith, c7 .shared-slice-known .given k, c7 .shared-slice-known .given (k + 1)) in
+    rw (← (c6 .wide16 .ensures .0), ← (c5 .wide162 .ensures .0))
+    (sym (c4 .loop .inv .2 ∙ pair-here _ _ _ _ _ _ (c3 .loop-test .taken) h (c6 .wide16 .ensures .1) (sym (c1 .wide32 .ensures .0 ∙ c2 .u32-at .ensures) ∙ c .if1 .taken)))
 
 loop-again : tie.Need-loop-again Inv-loop μ-loop
 loop-again c =
@@ -39,7 +41,8 @@ loop-again c =
 
 returns-2 : tie.Need-returns-2 Inv-loop μ-loop
 returns-2 c =
-    sym (c .before .loop .inv .2 ∙ pair-end _ _ _ _ _ _ (c .loop-test .left))
+    let c2 = c .before .before in
+    rw (← (c2 .before .wide16 .ensures .0), ← (c2 .wide162 .ensures .0)) (sym (c .before .loop .inv .2 ∙ pair-end _ _ _ _ _ _ (c .loop-test .left)))
 
 pub pair-among-spec : {M : Type 1} → statement M
 pair-among-spec =
@@ -47,6 +50,8 @@ pair-among-spec =
     (tie.spec
     Inv-loop
     μ-loop
+    (λ c κs. search needs)
+    (λ c κs. search needs)
     (λ c. search needs)
     (λ c. search needs)
     loop-holds

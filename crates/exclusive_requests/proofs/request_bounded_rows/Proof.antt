@@ -11,13 +11,13 @@ use borrow.Author.Needs.{needs}
 use Rattle.exclusive_requests.proofs.request_bounded_rows.Statement.{statement}
 use Rattle.exclusive_requests.proofs.request_bounded_rows.Tie as tie
 
-add-column-index : tie.Need-add-column-index
-add-column-index c =
+add-narrow16 : tie.Need-add-narrow16
+add-narrow16 c =
     let few = edge-columns-few _ _ _ _ _ _ _ (c .before .before .before .before .pre .0) in
     omega (arith, c .before .before .before .before .pre .2)
 
-column-index-requires : tie.Need-column-index-requires
-column-index-requires c κs =
+narrow16-requires : tie.Need-narrow16-requires
+narrow16-requires c κs =
     let few = edge-columns-few _ _ _ _ _ _ _ (c .before .before .before .before .pre .0) in
     omega (arith, c .before .before .before .before .pre .2)
 
@@ -25,7 +25,7 @@ request-bounded-row-requires : tie.Need-request-bounded-row-requires
 request-bounded-row-requires c κs =
     let p = c .before .before .before .before .before .before .before .before .pre in
     let few = edge-columns-few _ _ _ _ _ _ _ (p .0) in
-    let column = c .before .before .before .column-index .ensures in
+    let column = c .before .before .before .narrow16 .ensures in
     let set = c .before .before .before .before .wide16 .ensures .0 in
     (p .0, p .1, omega arith, p .4, p .5, p .6, omega arith)
 
@@ -34,7 +34,7 @@ unfolding rowTypeWord
 request-bounded-row-requires-2 c κs =
     let p = c .before .before .before .before .before .before .before .before .before .before .before .before .before .before .before .before .before .before .before .pre in
     let few = edge-columns-few _ _ _ _ _ _ _ (p .0) in
-    let column = c .before .before .before .before .before .before .before .before .before .before .before .before .before .before .column-index .ensures in
+    let column = c .before .before .before .before .before .before .before .before .before .before .before .before .before .before .narrow16 .ensures in
     let set = c .before .before .before .before .before .before .before .before .before .before .before .before .before .before .before .wide16 .ensures .0 in
     let upper = c .before .before .before .before .before .before .before .before .before .before .request-bounded-row .ensures binaryUpper refl (p .6 .asks) (p .6 .held) .done _ (c .before .before .before .before .r .given .1) in
     let count = count-more _ (p .6 .asks) _ _ _ _ _ _ _ (p .6 .held) upper in
@@ -48,7 +48,7 @@ returns c =
     let c11 = c10 .before in
     let c15 = c11 .before .before .before .before in
     λ asks h.
-    upper-full _ _ _ _ _ _ (set-column _ (c15 .args .c) _ _ _ _ (c15 .pre .2) (c11 .wide16 .ensures .0) (c10 .column-index .ensures)) refl refl _ asks _ _ _ (c6 .request-bounded-row .ensures binaryUpper refl asks h) (c .enum-told .given .1)
+    upper-full _ _ _ _ _ _ (set-column _ (c15 .args .c) _ _ _ _ (c15 .pre .2) (c11 .wide16 .ensures .0) (c10 .narrow16 .ensures)) refl refl _ asks _ _ _ (c6 .request-bounded-row .ensures binaryUpper refl asks h) (c .enum-told .given .1)
 
 returns-2 : tie.Need-returns-2
 unfolding rowTypeWord one64 ofBits
@@ -61,15 +61,15 @@ returns-2 c =
     let c24 = c20 .before .before .before .before in
     λ asks h.
     let upper = c15 .request-bounded-row .ensures binaryUpper refl asks h .done _ (c9 .r .given .1) in
-    both-asked _ _ _ _ _ _ (set-column _ (c24 .args .c) _ _ _ _ (c24 .pre .2) (c20 .wide16 .ensures .0) (c19 .column-index .ensures)) refl refl _ asks _ _ _ (c4 .request-bounded-row2 .ensures binaryLower refl _ upper)
+    both-asked _ _ _ _ _ _ (set-column _ (c24 .args .c) _ _ _ _ (c24 .pre .2) (c20 .wide16 .ensures .0) (c19 .narrow16 .ensures)) refl refl _ asks _ _ _ (c4 .request-bounded-row2 .ensures binaryLower refl _ upper)
 
 pub request-bounded-rows-spec : {M : Type 1} → statement M
 request-bounded-rows-spec =
     tie.close
     (tie.spec
     (λ c κs. search needs)
-    add-column-index
-    column-index-requires
+    add-narrow16
+    narrow16-requires
     request-bounded-row-requires
     (λ c. search needs)
     (λ c. search needs)

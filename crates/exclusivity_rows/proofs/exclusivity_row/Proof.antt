@@ -29,15 +29,15 @@ set-number-requires : tie.Need-set-number-requires Inv-loop μ-loop
 set-number-requires c κs =
     (c .before .before .before .before .before .pre .0, next-known _ _ _ _ _ _ _ _ _ _ _ (c .before .loop .inv .0) (c .loop-test .taken) (c .before .before .before .before .before .pre .3) .0)
 
-add-column-index : tie.Need-add-column-index Inv-loop μ-loop
-add-column-index c =
+add-narrow16 : tie.Need-add-narrow16 Inv-loop μ-loop
+add-narrow16 c =
     let c1 = c .before in
     let c2 = c1 .before in
     let c6 = c2 .before .before .before .before in
     let k = next-known _ _ _ _ _ _ _ _ _ _ _ (c2 .loop .inv .0) (c1 .loop-test .taken) (c6 .pre .3) .1 in omega (arith, k, c .set-number .ensures, c6 .pre .0 .few, c6 .pre .1)
 
-column-index-requires : tie.Need-column-index-requires Inv-loop μ-loop
-column-index-requires c κs =
+narrow16-requires : tie.Need-narrow16-requires Inv-loop μ-loop
+narrow16-requires c κs =
     let c1 = c .before in
     let c2 = c1 .before in
     let c6 = c2 .before .before .before .before in
@@ -51,7 +51,7 @@ add-element-requires c κs =
     let c5 = c4 .before in
     let c9 = c5 .before .before .before .before in
     let k = next-known _ _ _ _ _ _ _ _ _ _ _ (c5 .loop .inv .0) (c4 .loop-test .taken) (c9 .pre .3) .1 in
-    (c5 .loop .inv .0 .few, omega (arith, c5 .loop .inv .1, c9 .pre .4), omega (arith, k, c2 .column-index .ensures, c3 .set-number .ensures, c9 .pre .0 .few, c9 .pre .1), c5 .loop .inv .0 .rising)
+    (c5 .loop .inv .0 .few, omega (arith, c5 .loop .inv .1, c9 .pre .4), omega (arith, k, c2 .narrow16 .ensures, c3 .set-number .ensures, c9 .pre .0 .few, c9 .pre .1), c5 .loop .inv .0 .rising)
 
 set-end-requires : tie.Need-set-end-requires Inv-loop μ-loop
 set-end-requires c κs =
@@ -68,7 +68,7 @@ loop-again c =
     let c7 = c6 .before in
     let c8 = c7 .before in
     let c9 = c8 .before in
-    (rw (c .set-end .ensures) (gathering-next _ _ _ _ _ _ _ _ _ _ _ (c9 .loop .inv .0) (c8 .loop-test .taken) _ _ _ _ _ _ (c7 .set-number .ensures) (c6 .column-index .ensures) refl (c3 .add-element .ensures)), c3 .add-element .kept .1 .0 ∙ c9 .loop .inv .1)
+    (rw (c .set-end .ensures) (gathering-next _ _ _ _ _ _ _ _ _ _ _ (c9 .loop .inv .0) (c8 .loop-test .taken) _ _ _ _ _ _ (c7 .set-number .ensures) (c6 .narrow16 .ensures) refl (c3 .add-element .ensures)), c3 .add-element .kept .1 .0 ∙ c9 .loop .inv .1)
 
 same-length : tie.Need-same-length Inv-loop μ-loop
 same-length c =
@@ -88,8 +88,8 @@ exclusivity-row-spec =
     (λ c. search needs)
     loop-holds
     set-number-requires
-    add-column-index
-    column-index-requires
+    add-narrow16
+    narrow16-requires
     add-element-requires
     set-end-requires
     (λ c. search needs)

@@ -46,7 +46,7 @@ loop-again c =
     let c9 = c5 .before .before .before .before in
     let at = c2 .wide16 .ensures .0 ∙ c3 .u16-at .ensures in
     let under : c2 .wide16 .result < 256 = omega (arith, c9 .pre .0, c9 .pre .4 (c5 .loop .e - 1) (omega arith)) in
-    edge-listed _ _ _ _ _ _ _ _ _ _ (c9 .pre .3) (omega arith) (c .number-plus-one .ensures) at under (c9 .pre .1) (c5 .loop .inv)
+    edge-listed _ _ _ _ _ _ _ _ _ _ (c9 .pre .3) (omega arith) (c .narrow16 .ensures) at under (c9 .pre .1) (c5 .loop .inv)
 
 returns : tie.Need-returns Inv-loop μ-loop
 returns c =
@@ -69,6 +69,7 @@ list-edges-spec =
     (λ c κs. search needs)
     (λ c. search needs)
     element-copy-out-next
+    (λ c. search needs)
     (λ c. search needs)
     (λ c. search needs)
     (λ c κs. search needs)

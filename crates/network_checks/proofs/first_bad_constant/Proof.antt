@@ -29,16 +29,24 @@ loop-holds c =
 
 is-crossed-requires : tie.Need-is-crossed-requires Inv-loop μ-loop
 is-crossed-requires c κs =
-    (omega arith, c .before .before .before .before .pre .1 _ (c .if1 .taken))
+    let c5 = c .before .before .before .before .before in
+    rw (c .narrow16 .ensures) (c5 .pre .1 _ (c .before .if1 .taken))
 
 returns : tie.Need-returns Inv-loop μ-loop
 returns c =
-    let bad = crossed (networkOf (c .before .before .before .before .before .before .args .s .now) (c .before .before .before .before .before .before .args .c)) _ _ (sym (c .before .is-crossed .ensures) ∙ c .if2 .taken) in
-    sym (c .before .before .before .before .loop .inv .1 ∙ refused-here _ (c .before .before .before .before .before .before .args .s .now) _ _ _ (c .before .before .if1 .taken) bad)
+    let c1 = c .before in
+    let c3 = c1 .before .before in
+    let c5 = c3 .before .before in
+    let c7 = c5 .before .before in
+    let bad = crossed (networkOf (c7 .args .s .now) (c7 .args .c)) _ _ (sym (rw (c1 .before .narrow16 .ensures) at (c1 .is-crossed .ensures)) ∙ c .if2 .taken) in
+    sym (c5 .loop .inv .1 ∙ refused-here _ (c7 .args .s .now) _ _ _ (c3 .if1 .taken) bad)
 
 is-unbounded-requires : tie.Need-is-unbounded-requires Inv-loop μ-loop
 is-unbounded-requires c κs =
-    (omega arith, c .before .before .before .before .before .before .pre .1 _ (c .before .before .if1 .taken))
+    let c2 = c .before .before in
+    let c5 = c2 .before .before .before in
+    let c7 = c5 .before .before in
+    (omega (arith, c2 .narrow16 .ensures, c7 .pre .0), rw (c2 .narrow16 .ensures) (c7 .pre .1 _ (c2 .before .if1 .taken)))
 
 returns-2 : tie.Need-returns-2 Inv-loop μ-loop
 returns-2 c =
@@ -46,10 +54,11 @@ returns-2 c =
     let c2 = c1 .before in
     let c3 = c2 .before in
     let c4 = c3 .before in
-    let c6 = c4 .before .before in
-    let c8 = c6 .before .before in
-    let bad = unbounded (networkOf (c8 .args .s .now) (c8 .args .c)) _ _ _ (c8 .pre .2 _ (c4 .if1 .taken)) (sym (c3 .is-crossed .ensures) ∙ c2 .if2 .left) (sym (c1 .is-unbounded .ensures) ∙ c .if3 .taken) in
-    sym (c6 .loop .inv .1 ∙ refused-here _ (c8 .args .s .now) _ _ _ (c4 .if1 .taken) bad)
+    let c5 = c4 .before in
+    let c7 = c5 .before .before in
+    let c9 = c7 .before .before in
+    let bad = unbounded (networkOf (c9 .args .s .now) (c9 .args .c)) _ _ _ (c9 .pre .2 _ (c5 .if1 .taken)) (sym (rw (c4 .narrow16 .ensures) at (c3 .is-crossed .ensures)) ∙ c2 .if2 .left) (sym (rw (c4 .narrow16 .ensures) at (c1 .is-unbounded .ensures)) ∙ c .if3 .taken) in
+    sym (c7 .loop .inv .1 ∙ refused-here _ (c9 .args .s .now) _ _ _ (c5 .if1 .taken) bad)
 
 loop-again : tie.Need-loop-again Inv-loop μ-loop
 loop-again c =
@@ -57,10 +66,11 @@ loop-again c =
     let c2 = c1 .before in
     let c3 = c2 .before in
     let c4 = c3 .before in
-    let c6 = c4 .before .before in
-    let c8 = c6 .before .before in
-    let good = bounded (networkOf (c8 .args .s .now) (c8 .args .c)) _ _ _ (c8 .pre .2 _ (c4 .if1 .taken)) (sym (c3 .is-crossed .ensures) ∙ c2 .if2 .left) (sym (c1 .is-unbounded .ensures) ∙ c .if3 .left) in
-    (search needs, c6 .loop .inv .1 ∙ refused-later _ (c8 .args .s .now) _ _ (c4 .if1 .taken) good)
+    let c5 = c4 .before in
+    let c7 = c5 .before .before in
+    let c9 = c7 .before .before in
+    let good = bounded (networkOf (c9 .args .s .now) (c9 .args .c)) _ _ _ (c9 .pre .2 _ (c5 .if1 .taken)) (sym (rw (c4 .narrow16 .ensures) at (c3 .is-crossed .ensures)) ∙ c2 .if2 .left) (sym (rw (c4 .narrow16 .ensures) at (c1 .is-unbounded .ensures)) ∙ c .if3 .left) in
+    (search needs, c7 .loop .inv .1 ∙ refused-later _ (c9 .args .s .now) _ _ (c5 .if1 .taken) good)
 
 returns-3 : tie.Need-returns-3 Inv-loop μ-loop
 returns-3 c =
@@ -73,6 +83,7 @@ first-bad-constant-spec =
     Inv-loop
     μ-loop
     loop-holds
+    (λ c κs. search needs)
     is-crossed-requires
     returns
     is-unbounded-requires

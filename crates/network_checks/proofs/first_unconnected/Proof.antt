@@ -33,18 +33,22 @@ is-unconnected-requires c κs =
 returns : tie.Need-returns Inv-loop μ-loop
 returns c =
     let c1 = c .before in
-    let c2 = c1 .before in
-    let c4 = c2 .before .before in
-    let c6 = c4 .before .before in
-    sym (c4 .loop .inv .1 ∙ refused-here _ (c6 .args .s .now) _ _ _ (c2 .if1 .taken)
-    (unconnected _ _ _ _ _ (c6 .pre .2 _ (c2 .if1 .taken)) (c6 .pre .3 _ (c2 .if1 .taken)) (sym (c1 .is-unconnected .ensures) ∙ c .if2 .taken)))
+    let c3 = c1 .before .before in
+    let c5 = c3 .before .before in
+    let c7 = c5 .before .before in
+    sym (c5 .loop .inv .1 ∙ refused-here _ (c7 .args .s .now) _ _ _ (c3 .if1 .taken)
+    (unconnected _ _ _ _ _ (c7 .pre .2 _ (c3 .if1 .taken)) (c7 .pre .3 _ (c3 .if1 .taken)) (sym (rw (c1 .before .narrow16 .ensures) at (c1 .is-unconnected .ensures)) ∙ c .if2 .taken)))
 
 loop-again : tie.Need-loop-again Inv-loop μ-loop
-loop-again c = (
-  search needs,
-  c .before .before .before .before .loop .inv .1 ∙ refused-later _ (c .before .before .before .before .before .before .args .s .now) _ _ (c .before .before .if1 .taken)
-      (connected _ _ _ _ _ (c .before .before .before .before .before .before .pre .2 _ (c .before .before .if1 .taken)) (c .before .before .before .before .before .before .pre .3 _ (c .before .before .if1 .taken)) (sym (c .before .is-unconnected .ensures) ∙ c .if2 .left)),
-)
+loop-again c =
+    let c1 = c .before in
+    let c3 = c1 .before .before in
+    let c5 = c3 .before .before in
+    let c7 = c5 .before .before in (
+      search needs,
+      c5 .loop .inv .1 ∙ refused-later _ (c7 .args .s .now) _ _ (c3 .if1 .taken)
+          (connected _ _ _ _ _ (c7 .pre .2 _ (c3 .if1 .taken)) (c7 .pre .3 _ (c3 .if1 .taken)) (sym (rw (c1 .before .narrow16 .ensures) at (c1 .is-unconnected .ensures)) ∙ c .if2 .left)),
+    )
 
 returns-2 : tie.Need-returns-2 Inv-loop μ-loop
 returns-2 c =
@@ -57,6 +61,7 @@ first-unconnected-spec =
     Inv-loop
     μ-loop
     loop-holds
+    (λ c κs. search needs)
     is-unconnected-requires
     returns
     (λ c. search needs)

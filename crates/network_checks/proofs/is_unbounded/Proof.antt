@@ -1,24 +1,19 @@
 -- `network_checks::is_unbounded` meets its contract. Assumes nothing.
-use native.Mathlib.Omega.{arith}
-use mathlib.Core.Path.{_≡_, sym, _∙_, subst}
-use mathlib.Core.Bool.{true}
-use Prim.Native.Nat.{ℕ, _+_, _*_}
+use mathlib.Core.Path.{sym, _∙_}
 use lib.Ieee.{ofBits, nanBits}
-use Rattle.pywr.specs.Bytes.{le64}
-use Rattle.pywr.specs.Numbers.{isFlow}
 use borrow.Author.Needs.{needs}
 use Rattle.network_checks.proofs.is_unbounded.Statement.{statement}
 use Rattle.network_checks.proofs.is_unbounded.Tie as tie
 
 is-constant-requires : tie.Need-is-constant-requires
 is-constant-requires c κs =
-    omega (arith, c .narrow16 .ensures, c .before .before .pre .1 .within)
+    c .before .before .pre .1 .within
 
 max-requires : tie.Need-max-requires
 max-requires c κs =
-    let c4 = c .before .before .before .before in
-    let c6 = c4 .before .before in
-    (omega (arith, c4 .narrow16 .ensures, c6 .pre .1 .within), subst (λ (k : ℕ). isFlow (le64 (c6 .args .s .now) (20 * k + 12)) ≡ true) (sym (c4 .narrow16 .ensures)) (c6 .pre .1 .max))
+    let c3 = c .before .before .before in
+    let c6 = c3 .before .before .before in
+    (c6 .pre .1 .within, c6 .pre .1 .max)
 
 float-from-bits-if3 : tie.Need-float-from-bits-if3
 unfolding nanBits
@@ -33,13 +28,14 @@ returns c =
     let c4 = c2 .before .before in
     let c5 = c4 .before in
     let c6 = c5 .before in
-    rw (c2 .if2 .taken, ← (c6 .narrow16 .ensures), sym (c5 .is-constant .ensures) ∙ c4 .if1 .taken, ← (c1 .max .ensures), c .if3 .taken)
+    rw (sym (c5 .is-constant .ensures) ∙ c4 .if1 .taken, ← (c1 .max .ensures), c .if3 .taken, ← (c6 .wide16 .ensures .0), c2 .if2 .taken)
 
 min-requires : tie.Need-min-requires
 min-requires c κs =
-    let c6 = c .before .before .before .before .before .before in
+    let c3 = c .before .before .before in
+    let c6 = c3 .before .before .before in
     let c8 = c6 .before .before in
-    (omega (arith, c6 .narrow16 .ensures, c8 .pre .1 .within), subst (λ (k : ℕ). isFlow (le64 (c8 .args .s .now) (20 * k + 4)) ≡ true) (sym (c6 .narrow16 .ensures)) (c8 .pre .1 .min))
+    (c8 .pre .1 .within, c8 .pre .1 .min)
 
 float-from-bits-result : tie.Need-float-from-bits-result
 unfolding nanBits
@@ -55,15 +51,16 @@ returns-2 c =
     let c5 = c3 .before .before in
     let c6 = c5 .before in
     let c7 = c6 .before in
-    rw (c3 .if2 .taken, ← (c7 .narrow16 .ensures), sym (c6 .is-constant .ensures) ∙ c5 .if1 .taken, ← (c2 .max .ensures), c1 .if3 .left, ← (c .min .ensures))
+    rw (sym (c6 .is-constant .ensures) ∙ c5 .if1 .taken, ← (c2 .max .ensures), c1 .if3 .left, ← (c .min .ensures), ← (c7 .wide16 .ensures .0), c3 .if2 .taken)
 
 returns-3 : tie.Need-returns-3
 returns-3 c =
-    rw (c .if2 .left, ← (c .before .before .before .before .narrow16 .ensures), sym (c .before .before .before .is-constant .ensures) ∙ c .before .before .if1 .taken)
+    let c3 = c .before .before .before in
+    rw (sym (c3 .is-constant .ensures) ∙ c .before .before .if1 .taken, ← (c3 .before .wide16 .ensures .0), c .if2 .left)
 
 returns-4 : tie.Need-returns-4
 returns-4 c =
-    rw (← (c .before .before .narrow16 .ensures), sym (c .before .is-constant .ensures) ∙ c .if1 .left)
+    rw (sym (c .before .is-constant .ensures) ∙ c .if1 .left)
 
 pub is-unbounded-spec : {M : Type 1} → statement M
 is-unbounded-spec =

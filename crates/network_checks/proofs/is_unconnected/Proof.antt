@@ -1,8 +1,5 @@
 -- `network_checks::is_unconnected` meets its contract: at each return, the tests that led there. Assumes nothing.
 use borrow.Author.Tests.{eq-eqb, ne-eqb}
-use mathlib.Core.Path.{sym, _∙_, ap}
-use Prim.Native.Nat.{ℕ, _+_, _*_}
-use Rattle.pywr.specs.Bytes.{byte}
 use borrow.Author.Needs.{needs}
 use Rattle.network_checks.proofs.is_unconnected.Statement.{statement}
 use Rattle.network_checks.proofs.is_unconnected.Tie as tie
@@ -12,30 +9,24 @@ returns c =
     let c2 = c .before .before in
     let c4 = c2 .before .before in
     let c5 = c4 .before in
-    let c6 = c5 .before in
-    let c8 = c6 .before .before in
-    rw (sym (c5 .kind .ensures ∙ ap (λ (k : ℕ). byte (c8 .args .s .now) (20 * k + 2)) (c6 .narrow16 .ensures)), eq-eqb _ _ (c4 .if1 .taken), c2 .if2 .taken, c .if3 .taken)
+    rw (← (c5 .kind .ensures), eq-eqb _ _ (c4 .if1 .taken), ← (c5 .before .wide16 .ensures .0), c2 .if2 .taken, c .if3 .taken)
 
 returns-2 : tie.Need-returns-2
 returns-2 c =
     let c2 = c .before .before in
     let c4 = c2 .before .before in
     let c5 = c4 .before in
-    let c6 = c5 .before in
-    let c8 = c6 .before .before in
-    rw (sym (c5 .kind .ensures ∙ ap (λ (k : ℕ). byte (c8 .args .s .now) (20 * k + 2)) (c6 .narrow16 .ensures)), eq-eqb _ _ (c4 .if1 .taken), c2 .if2 .taken, c .if3 .left)
+    rw (← (c5 .kind .ensures), eq-eqb _ _ (c4 .if1 .taken), ← (c5 .before .wide16 .ensures .0), c2 .if2 .taken, c .if3 .left)
 
 returns-3 : tie.Need-returns-3
 returns-3 c =
     let c2 = c .before .before in
     let c3 = c2 .before in
-    let c4 = c3 .before in
-    let c6 = c4 .before .before in
-    rw (sym (c3 .kind .ensures ∙ ap (λ (k : ℕ). byte (c6 .args .s .now) (20 * k + 2)) (c4 .narrow16 .ensures)), eq-eqb _ _ (c2 .if1 .taken), c .if2 .left)
+    rw (← (c3 .kind .ensures), eq-eqb _ _ (c2 .if1 .taken), ← (c3 .before .wide16 .ensures .0), c .if2 .left)
 
 returns-4 : tie.Need-returns-4
 returns-4 c =
-    rw (sym (c .before .kind .ensures ∙ ap (λ (k : ℕ). byte (c .before .before .before .before .args .s .now) (20 * k + 2)) (c .before .before .narrow16 .ensures)), ne-eqb _ _ (c .if1 .left))
+    rw (← (c .before .kind .ensures), ne-eqb _ _ (c .if1 .left))
 
 pub is-unconnected-spec : {M : Type 1} → statement M
 is-unconnected-spec =

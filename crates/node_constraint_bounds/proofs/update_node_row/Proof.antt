@@ -37,8 +37,8 @@ returns c =
     (c21 .pre .2 .row) (omega (arith, c21 .pre .1 .rows .rows, c21 .pre .0 .lower-long)) (omega (arith, c21 .pre .1 .rows .rows, c21 .pre .0 .upper-long))
     (c4 .apply-row-bounds .ensures)
 
-add-column-2 : tie.Need-add-column-2
-add-column-2 c =
+add-t28 : tie.Need-add-t28
+add-t28 c =
     let c2 = c .before .before in
     let c16 = c2 .before .before .before .before .before .before .before .before .before .before .before .before .before .before in
     let h = c16 .pre .2 .set (c2 .if1 .left) in search needs
@@ -121,7 +121,7 @@ update-node-row-spec =
     (λ c. search needs)
     (λ c. search needs)
     (λ c. search needs)
-    add-column-2
+    add-t28
     set-coefficient-requires
     (λ c. search needs)
     returns-2

@@ -22,7 +22,7 @@ slice-write-words-4 c =
 returns : tie.Need-returns
 returns c =
     let a = c .args in
-    four-words (a .words .now) (7180 + 4 * a .i) (a .node) (a .row) (a .row-type) (a .set)
+    four-words (a .words .now) (7180 + 4 * a .i) (a .node .0) (a .row) (a .row-type) (a .set)
 
 pub put-node-row-spec : {M : Type 1} → statement M
 put-node-row-spec =

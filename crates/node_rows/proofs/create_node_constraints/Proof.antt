@@ -22,8 +22,8 @@ loop-holds : tie.Need-loop-holds Inv-loop μ-loop
 loop-holds c =
     (order-first _ _ _ _ _ _ _ (c .before .before .before .pre .0) _ _ _ _ (c .before .before .before .pre .5), refl, refl)
 
-node-index-requires : tie.Need-node-index-requires Inv-loop μ-loop
-node-index-requires c κs =
+narrow16-requires : tie.Need-narrow16-requires Inv-loop μ-loop
+narrow16-requires c κs =
     let under = node-under _ _ _ _ _ _ _ (c .before .before .before .before .before .pre .0) _ (c .loop-test .taken) in
     omega arith
 
@@ -31,7 +31,7 @@ request-rows-requires : tie.Need-request-rows-requires Inv-loop μ-loop
 request-rows-requires c κs =
     let p = c .before .before .before .before .before .before .before .before .before .pre in
     let l = c .before .before .before .before .before .loop .inv in
-    (p .0, omega (arith, c .before .before .before .node-index .ensures, c .before .before .before .before .loop-test .taken), p .1, p .2, omega (arith, p .3, l .1), omega (arith, p .4, l .2), rw (c .before .before .before .node-index .ensures) (l .0))
+    (p .0, omega (arith, c .before .before .before .narrow16 .ensures, c .before .before .before .before .loop-test .taken), p .1, p .2, omega (arith, p .3, l .1), omega (arith, p .4, l .2), rw (c .before .before .before .narrow16 .ensures) (l .0))
 
 same-length : tie.Need-same-length Inv-loop μ-loop
 same-length c =
@@ -46,7 +46,7 @@ returns c =
     let c6 = c .before .before .before .before .before .before in
     let c10 = c6 .before .before .before .before in
     let c16 = c10 .before .before .before .before .before .before in
-    order-full _ _ _ _ _ _ _ (c16 .pre .0) _ _ _ (c10 .node-index .result .0 + 1) _ (c6 .request-rows .ensures) (c .enum-told .given .1)
+    order-full _ _ _ _ _ _ _ (c16 .pre .0) _ _ _ (c10 .narrow16 .result + 1) _ (c6 .request-rows .ensures) (c .enum-told .given .1)
 
 loop-again : tie.Need-loop-again Inv-loop μ-loop
 loop-again c =
@@ -54,7 +54,7 @@ loop-again c =
     let c7 = c1 .before .before .before .before .before .before in
     let c11 = c7 .before .before .before .before in
     let c13 = c11 .before .before in
-    (rw (c11 .node-index .ensures) at (c7 .request-rows .ensures .done _ (c1 .r .given .1)), c7 .request-rows .kept .1 .1 .1 .1 .1 .1 .1 .1 .1 .1 .1 .1 .0 ∙ c13 .loop .inv .1, c7 .request-rows .kept .1 .1 .1 .1 .1 .1 .1 .1 .1 .1 .1 .1 .1 .0 ∙ c13 .loop .inv .2)
+    (rw (c11 .narrow16 .ensures) at (c7 .request-rows .ensures .done _ (c1 .r .given .1)), c7 .request-rows .kept .1 .1 .1 .1 .1 .1 .1 .1 .1 .1 .1 .1 .0 ∙ c13 .loop .inv .1, c7 .request-rows .kept .1 .1 .1 .1 .1 .1 .1 .1 .1 .1 .1 .1 .1 .0 ∙ c13 .loop .inv .2)
 
 same-length-3 : tie.Need-same-length-3 Inv-loop μ-loop
 same-length-3 c =
@@ -75,7 +75,7 @@ create-node-constraints-spec =
     Inv-loop
     μ-loop
     loop-holds
-    node-index-requires
+    narrow16-requires
     request-rows-requires
     (λ c. search needs)
     same-length

@@ -30,8 +30,8 @@ element-copy-out-t12 : tie.Need-element-copy-out-t12 Inv-loop μ-loop
 element-copy-out-t12 c =
     here (c .before .before) .within
 
-sub-t19 : tie.Need-sub-t19 Inv-loop μ-loop
-sub-t19 c =
+sub-t20 : tie.Need-sub-t20 Inv-loop μ-loop
+sub-t20 c =
     here (c .before .before .before) .least
 
 add-element-requires : tie.Need-add-element-requires Inv-loop μ-loop
@@ -70,7 +70,7 @@ add-columns-spec =
     (λ c κs. search needs)
     (λ c. search needs)
     element-copy-out-t12
-    sub-t19
+    sub-t20
     add-element-requires
     (λ c. search needs)
     element-copy-out-link

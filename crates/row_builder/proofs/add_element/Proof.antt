@@ -20,16 +20,15 @@ absent c =
 free : (c : tie.Joined1) → c .before .before .before .before .before .before .args .n < 640
 free c =
     let s = c .before .before .before .before .before .before in
-    let e = c .before .before .before .before .wide .ensures .0 in
     let long : length (s .args .columns .now) ≡ 640 = omega arith in
-    place-free _ _ _ _ long (s .pre .0) (s .pre .2) (s .pre .3) (rw e at (c .before .place-of .ensures)) (absent c)
+    place-free _ _ _ _ long (s .pre .0) (s .pre .2) (s .pre .3) (c .before .place-of .ensures) (absent c)
 
 returns : tie.Need-returns
 returns c =
     let s = c .before .before .before .before .before .before .before .before .before in
     let e = c .before .before .before .before .before .before .before .wide .ensures .0 in
     let long : length (s .args .columns .now) ≡ 640 = omega arith in
-    element-added _ _ _ _ long (s .pre .0) (s .pre .2) (s .pre .3) (rw e at (c .before .before .before .before .place-of .ensures)) _ _ (s .pre .1) (c .before .before .before .if1 .taken) (c .before .if2 .taken ∙ e)
+    element-added _ _ _ _ long (s .pre .0) (s .pre .2) (s .pre .3) (c .before .before .before .before .place-of .ensures) _ _ (s .pre .1) (c .before .before .before .if1 .taken) (c .before .if2 .taken ∙ e)
 
 insert-column-requires : tie.Need-insert-column-requires
 insert-column-requires c κs =
@@ -42,10 +41,9 @@ insert-element-requires c κs =
 returns-2 : tie.Need-returns-2
 returns-2 c =
     let s = c .before .before .before .before .before .before .before .before .before .before .before .before in
-    let e = c .before .before .before .before .before .before .before .before .before .before .wide .ensures .0 in
     let long : length (s .args .columns .now) ≡ 640 = omega arith in
-    rw (c .before .before .before .before .insert-column .ensures, c .before .before .insert-element .ensures, e)
-    (element-inserted _ _ _ _ long (s .pre .0) (s .pre .2) (s .pre .3) (rw e at (c .before .before .before .before .before .before .before .place-of .ensures)) _ _ (s .pre .1) (absent (c .before .before .before .before .before .before)))
+    rw (c .before .before .before .before .insert-column .ensures, c .before .before .insert-element .ensures)
+    (element-inserted _ _ _ _ long (s .pre .0) (s .pre .2) (s .pre .3) (c .before .before .before .before .before .before .before .place-of .ensures) _ _ (s .pre .1) (absent (c .before .before .before .before .before .before)))
 
 pub add-element-spec : {M : Type 1} → statement M
 add-element-spec =

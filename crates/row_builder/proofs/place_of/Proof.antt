@@ -18,23 +18,36 @@ returns c =
 
 returns-2 : tie.Need-returns-2 Inv-loop μ-loop
 returns-2 c =
-    place-last _ _ _ (c .before .before .before .pre .0) (c .before .before .before .pre .1) (omega arith) (c .if2 .taken)
+    let c3 = c .before .before .before in
+    let c5 = c3 .before .before in
+    rw (← (c3 .wide .ensures .0)) (place-last _ _ _ (c5 .pre .0) (c5 .pre .1) (omega arith) (c .if2 .taken))
 
 loop-holds : tie.Need-loop-holds Inv-loop μ-loop
 loop-holds c =
-    search-first _ _ _ (c .before .before .before .pre .0) (c .before .before .before .pre .1) (omega arith) (c .if2 .left)
+    let c3 = c .before .before .before in
+    let c5 = c3 .before .before in
+    search-first _ _ _ (c5 .pre .0) (c5 .pre .1) (omega arith) (c .if2 .left)
 
 loop-again : tie.Need-loop-again Inv-loop μ-loop
 loop-again c =
-    search-up _ _ _ (c .before .before .before .before .before .before .before .pre .0) (c .before .before .before .before .before .before .before .pre .1) _ _ (c .before .before .before .loop .inv) _ (omega arith) (c .if3 .taken)
+    let c3 = c .before .before .before in
+    let c6 = c3 .before .before .before in
+    let c9 = c6 .before .before .before in
+    search-up _ _ _ (c9 .pre .0) (c9 .pre .1) _ _ (c3 .loop .inv) _ (omega arith) (c .if3 .taken)
 
 loop-again-2 : tie.Need-loop-again-2 Inv-loop μ-loop
 loop-again-2 c =
-    search-down _ _ _ (c .before .before .before .before .before .before .before .pre .0) (c .before .before .before .before .before .before .before .pre .1) _ _ (c .before .before .before .loop .inv) _ (omega arith) (omega arith) (c .if3 .left)
+    let c3 = c .before .before .before in
+    let c6 = c3 .before .before .before in
+    let c9 = c6 .before .before .before in
+    search-down _ _ _ (c9 .pre .0) (c9 .pre .1) _ _ (c3 .loop .inv) _ (omega arith) (omega arith) (c .if3 .left)
 
 returns-3 : tie.Need-returns-3 Inv-loop μ-loop
 returns-3 c =
-    search-done _ _ _ (c .before .before .before .before .before .pre .0) (c .before .before .before .before .before .pre .1) _ _ (c .before .loop .inv) (c .loop-test .left)
+    let c2 = c .before .before in
+    let c5 = c2 .before .before .before in
+    let c7 = c5 .before .before in
+    rw (← (c5 .wide .ensures .0)) (search-done _ _ _ (c7 .pre .0) (c7 .pre .1) _ _ (c .before .loop .inv) (c .loop-test .left))
 
 pub place-of-spec : {M : Type 1} → statement M
 place-of-spec =
@@ -42,6 +55,7 @@ place-of-spec =
     (tie.spec
     Inv-loop
     μ-loop
+    (λ c κs. search needs)
     returns
     (λ c. search needs)
     (λ c. search needs)

@@ -64,7 +64,7 @@ returns c =
     let c9 = c8 .before in
     let c10 = c9 .before in
     let c11 = c10 .before in
-    rw (c11 .sentinel-word .ensures, c10 .narrow .ensures, c9 .narrow2 .ensures, c8 .narrow3 .ensures, c7 .narrow4 .ensures, c6 .narrow5 .ensures, c4 .narrow6 .ensures, c3 .narrow7 .ensures, c2 .narrow8 .ensures, c1 .narrow9 .ensures, c .narrow10 .ensures)
+    rw (c11 .sentinel-word .ensures, c10 .narrow16 .ensures, c9 .narrow162 .ensures, c8 .narrow163 .ensures, c7 .narrow164 .ensures, c6 .narrow165 .ensures, c4 .narrow166 .ensures, c3 .narrow167 .ensures, c2 .narrow168 .ensures, c1 .narrow169 .ensures, c .narrow1610 .ensures)
 
 pub write-counts-spec : {M : Type 1} → statement M
 write-counts-spec =

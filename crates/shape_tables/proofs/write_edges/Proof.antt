@@ -21,11 +21,11 @@ loop-holds c =
 
 from-node-index-requires : tie.Need-from-node-index-requires Inv-loop μ-loop
 from-node-index-requires c κs =
-    omega (arith, c .narrow .ensures, c .before .before .before .before .before .pre .2)
+    omega (arith, c .narrow16 .ensures, c .before .before .before .before .before .pre .2)
 
 to-node-index-requires : tie.Need-to-node-index-requires Inv-loop μ-loop
 to-node-index-requires c κs =
-    omega (arith, c .before .narrow .ensures, c .before .before .before .before .before .before .pre .2)
+    omega (arith, c .before .narrow16 .ensures, c .before .before .before .before .before .before .pre .2)
 
 slice-write-words : tie.Need-slice-write-words Inv-loop μ-loop
 slice-write-words c =
@@ -51,7 +51,7 @@ loop-again c =
     let c4 = c3 .before in
     let c5 = c4 .before in
     let c8 = c5 .before .before .before in
-    let e = c3 .narrow .ensures in
+    let e = c3 .narrow16 .ensures in
     edges-more _ _ _ _ _ _ _ _ _ _ (c4 .loop-test .taken) (c2 .from-node-index .ensures ∙ ap (λ (k : ℕ). edgeAt (c8 .args .s .now) (20 * c8 .args .nodes + 6 * k) .from) e) (c1 .to-node-index .ensures ∙ ap (λ (k : ℕ). edgeAt (c8 .args .s .now) (20 * c8 .args .nodes + 6 * k) .to) e) refl (c5 .loop .inv)
 
 same-length : tie.Need-same-length Inv-loop μ-loop

@@ -22,7 +22,7 @@ loop-holds c =
 
 kind-requires : tie.Need-kind-requires Inv-loop μ-loop
 kind-requires c κs =
-    omega (arith, c .narrow .ensures, c .before .before .before .before .before .pre .1)
+    omega (arith, c .narrow16 .ensures, c .before .before .before .before .before .pre .1)
 
 slice-write-words : tie.Need-slice-write-words Inv-loop μ-loop
 slice-write-words c =
@@ -30,7 +30,7 @@ slice-write-words c =
 
 is-constant-requires : tie.Need-is-constant-requires Inv-loop μ-loop
 is-constant-requires c κs =
-    omega (arith, c .before .before .narrow .ensures, c .before .before .before .before .before .before .before .pre .1)
+    omega (arith, c .before .before .narrow16 .ensures, c .before .before .before .before .before .before .before .pre .1)
 
 slice-write-words-2 : tie.Need-slice-write-words-2 Inv-loop μ-loop
 slice-write-words-2 c =
@@ -47,7 +47,7 @@ loop-again c =
     let c5 = c4 .before in
     let c6 = c5 .before in
     let c9 = c6 .before .before .before in
-    let e = c4 .narrow .ensures in
+    let e = c4 .narrow16 .ensures in
     nodes-more _ _ _ _ _ _ _ (c5 .loop-test .taken) (c2 .word .ensures ∙ c3 .kind .ensures ∙ ap (λ (k : ℕ). nodeAt (c9 .args .s .now) (20 * k) .kind) e) (flag-yes _ (sym (c1 .is-constant .ensures ∙ ap (λ (k : ℕ). nodeAt (c9 .args .s .now) (20 * k) .constant) e) ∙ c .if1 .taken)) (c6 .loop .inv)
 
 slice-write-words-3 : tie.Need-slice-write-words-3 Inv-loop μ-loop
@@ -65,7 +65,7 @@ loop-again-2 c =
     let c5 = c4 .before in
     let c6 = c5 .before in
     let c9 = c6 .before .before .before in
-    let e = c4 .narrow .ensures in
+    let e = c4 .narrow16 .ensures in
     nodes-more _ _ _ _ _ _ _ (c5 .loop-test .taken) (c2 .word .ensures ∙ c3 .kind .ensures ∙ ap (λ (k : ℕ). nodeAt (c9 .args .s .now) (20 * k) .kind) e) (flag-no _ (sym (c1 .is-constant .ensures ∙ ap (λ (k : ℕ). nodeAt (c9 .args .s .now) (20 * k) .constant) e) ∙ c .if1 .left)) (c6 .loop .inv)
 
 same-length : tie.Need-same-length Inv-loop μ-loop

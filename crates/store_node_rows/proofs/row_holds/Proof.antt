@@ -10,7 +10,7 @@ use Rattle.store_node_rows.proofs.row_holds.Statement.{statement}
 use Rattle.store_node_rows.proofs.row_holds.Tie as tie
 
 abbrev Inv-loop : tie.InvT-loop
-Inv-loop columns start end column k₀ k = (k ≤ end) × (listed column (slice start end columns) ≡ listed column (slice start k columns))
+Inv-loop columns start end column k₀ k = (k ≤ end) × (listed (column .0) (slice start end columns) ≡ listed (column .0) (slice start k columns))
 
 abbrev μ-loop : tie.MeasureT-loop
 μ-loop columns start end column k₀ k = k - start
@@ -21,11 +21,13 @@ loop-holds c =
 
 returns : tie.Need-returns Inv-loop μ-loop
 returns c =
-    sym (c .before .before .before .loop .inv .1 ∙ found _ _ _ _ (c .before .before .loop-test .taken) (omega arith) (c .if1 .taken))
+    let c3 = c .before .before .before in
+    sym (c3 .before .loop .inv .1 ∙ found _ _ _ _ (c3 .loop-test .taken) (omega arith) (c .if1 .taken))
 
 loop-again : tie.Need-loop-again Inv-loop μ-loop
 loop-again c =
-    (search needs, c .before .before .before .loop .inv .1 ∙ further _ _ _ _ (c .before .before .loop-test .taken) (omega arith) (c .if1 .left))
+    let c3 = c .before .before .before in
+    (search needs, c3 .before .loop .inv .1 ∙ further _ _ _ _ (c3 .loop-test .taken) (omega arith) (c .if1 .left))
 
 returns-2 : tie.Need-returns-2 Inv-loop μ-loop
 returns-2 c =
