@@ -11,7 +11,7 @@ use Rattle.pywr.specs.Store.{Store}
 use Rattle.pywr.specs.Calls.{AfterBuild, buildAnswer, stepAnswer, isAccepted}
 use Rattle.pywr.specs.Correspondence.{Report, networkAllows, anyAccepted}
 use Rattle.pywr.specs.PortRun.{Answered, Run, accepts, report}
-use Rattle.pywr.proofs.PortRun.{port-correspondence}
+use Rattle.pywr.proofs.PortRun.{answer-tells, port-correspondence}
 use Rattle.crossing.specs.Crossing.{picked}
 use Rattle.exported_calls.specs.ExportedRun.{Numbered, ExportedRun, reportOf, ExportedCorrespondence}
 use Rattle.exported_calls.proofs.AnswerNumbers.{build-zero, step-zero}
@@ -25,18 +25,13 @@ port-run : {s last : Store} {rest : List Numbered} (r : ExportedRun s rest last)
 port-run ExportedRun.none = Run.none
 port-run (ExportedRun.more c r) = Run.more (c .after) (port-run r)
 
-accepted-answer : {A : Type 0} (r : Result A) → accepts (answerOf r) ≡ isAccepted r
-unfolding accepts answerOf isAccepted
-accepted-answer (value x) = refl
-accepted-answer (refused n p) = refl
-
 -- they are reported alike
 reported : {s last : Store} {rest : List Numbered} (r : ExportedRun s rest last) → map report (answered r) ≡ map reportOf rest
 unfolding report reportOf
 reported ExportedRun.none = refl
 reported (ExportedRun.more {s} {t} {last} {a} c r) =
     ap₂ (λ (b : Bool) (ts : List Report). record { file = a .call .file; accepted = b } ∷ ts)
-    (ap accepts (c .after .answer) ∙ accepted-answer (stepAnswer s (a .call .file) (a .call .work)) ∙ sym (step-zero c))
+    (ap accepts (c .after .answer) ∙ answer-tells (stepAnswer s (a .call .file) (a .call .work)) ∙ sym (step-zero c))
     (reported r)
 
 accepted-is : {A : Type 0} (r : Result A) → isAccepted r ≡ true → answerOf r ≡ Accepted
