@@ -1,17 +1,16 @@
 -- `pywr_build` meets its contract. Assumes nothing.
-use borrow.Author.Needs.{needs}
 use Rattle.crossing.proofs.CrossingLaws.{build-crossed}
 use Rattle.pywr_c.proofs.pywr_build.Statement.{statement}
 use Rattle.pywr_c.proofs.pywr_build.Tie as tie
 
 sentinel-requires : tie.Need-sentinel-requires
-sentinel-requires c κs = search needs
+sentinel-requires c κs = tt
 
 build-requires : tie.Need-build-requires
-build-requires c κs = search needs
+build-requires c κs = tt
 
 refusal-of-requires : tie.Need-refusal-of-requires
-refusal-of-requires c κs = search needs
+refusal-of-requires c κs = tt
 
 -- the places after the calls of `build` and `sentinel`
 abbrev built : tie.After-refusal-of → tie.After-build

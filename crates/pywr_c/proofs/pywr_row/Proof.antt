@@ -1,11 +1,10 @@
 -- `pywr_row` meets its contract. Assumes nothing.
-use borrow.Author.Needs.{needs}
 use Rattle.crossing.proofs.CrossingLaws.{inside-rises, row-crossed}
 use Rattle.pywr_c.proofs.pywr_row.Statement.{statement}
 use Rattle.pywr_c.proofs.pywr_row.Tie as tie
 
 row-answer-requires : tie.Need-row-answer-requires
-row-answer-requires c κs = search needs
+row-answer-requires c κs = tt
 
 part-of-requires : tie.Need-part-of-requires
 part-of-requires c κs =

@@ -1,14 +1,13 @@
 -- `pywr_step` meets its contract. Assumes nothing.
-use borrow.Author.Needs.{needs}
 use Rattle.crossing.proofs.CrossingLaws.{step-crossed}
 use Rattle.pywr_c.proofs.pywr_step.Statement.{statement}
 use Rattle.pywr_c.proofs.pywr_step.Tie as tie
 
 step-requires : tie.Need-step-requires
-step-requires c κs = search needs
+step-requires c κs = tt
 
 refusal-of-requires : tie.Need-refusal-of-requires
-refusal-of-requires c κs = search needs
+refusal-of-requires c κs = tt
 
 -- the place after the call of `step`
 abbrev stepped : tie.After-refusal-of → tie.After-step
