@@ -11,6 +11,7 @@ ghost use Rattle.pywr.specs.Store.{Store};
 ghost use Rattle.pywr.specs.Calls.{stepRoom, AfterStep};
 ghost use Rattle.store.specs.Reading.{Lengths};
 ghost use Rattle.built_solver.specs.Judged.{Judged};
+ghost use Rattle.built_solver.specs.Updated.{CostsReady, RowsReady, CostsUpdated, RowsUpdated};
 
 // Whether runs of these lengths have the room that the ceilings need.
 fn step_has_room(
@@ -72,6 +73,35 @@ fn refuse(number: u8, place: usize, lent: &mut [f64]) -> Answer
     Answer::Refused(number, place)
 }
 
+// Writes the costs of a step file that was read, and the bounds and coefficients of its intervals, which stand in the work run.
+fn update(
+    file: &[u8],
+    col_obj_coef: &mut [f64],
+    row_lower: &mut [f64],
+    row_upper: &mut [f64],
+    elements: &mut [f64],
+    columns: &[u16],
+    row_starts: &[u32],
+    shape: &[u16],
+    work: &[f64],
+)
+    requires { ⌜ CostsReady (now file) (now «col_obj_coef») (now shape) × RowsReady (now «row_lower») (now «row_upper») (now elements) (now columns) (now «row_starts») (now shape) (now work) ⌝ }
+    ensures { λ _. ⌜ CostsUpdated (now (file .entry)) (now (shape .entry)) (now («col_obj_coef» .entry)) (now («col_obj_coef» .exit))
+        × RowsUpdated (now («row_lower» .entry)) (now («row_upper» .entry)) (now (elements .entry)) (now (columns .entry)) (now («row_starts» .entry)) (now (shape .entry)) (now (work .entry))
+        (now («row_lower» .exit)) (now («row_upper» .exit)) (now (elements .exit)) ⌝ }
+{
+    edge_objectives::update_edge_objectives(file, shape, col_obj_coef);
+    constraint_bounds::update_constraint_bounds(
+        row_lower,
+        row_upper,
+        elements,
+        columns,
+        row_starts,
+        shape,
+        work,
+    );
+}
+
 // Writes a step file's costs, bounds and coefficients into the store, or refuses with 12 to 17.
 pub fn step(
     file: &[u8],
@@ -126,8 +156,9 @@ pub fn step(
     match answer {
         Answer::Refused(number, place) => refuse(number, place, work),
         Answer::Accepted => {
-            edge_objectives::update_edge_objectives(file, shape, col_obj_coef);
-            constraint_bounds::update_constraint_bounds(
+            update(
+                file,
+                col_obj_coef,
                 row_lower,
                 row_upper,
                 elements,

@@ -12,7 +12,7 @@ use Rattle.pywr.specs.PortRun.{Answered, Run, accepts, report, PortCorre
 use Rattle.pywr.proofs.DemandThree.{correspondence}
 
 -- the answer tells whether the definition accepts
-answer-tells : {A : Type 0} (r : Result A) → accepts (answerOf r) ≡ isAccepted r
+pub answer-tells : {A : Type 0} (r : Result A) → accepts (answerOf r) ≡ isAccepted r
 unfolding accepts answerOf isAccepted
 answer-tells (value x) = refl
 answer-tells (refused n p) = refl

@@ -1,51 +1,10 @@
 // What C and Rust programs call. A slice crosses as a pointer and a length, an answer as its numbers.
-use pywr::Answer;
-use pywr::RowAnswer;
-use pywr::Sentinel;
-ghost use mathlib.Core.Path.{_≡_};
-ghost use Rattle.pywr.specs.Answers.{numberOf, placeOf};
-ghost use Rattle.pywr_c.specs.Crossing.{picked, BuildCrossed, StepCrossed, RowCrossed};
-
-// An answer's number and place: 0 and 0 where it is accepted.
-#[repr(C)]
-pub struct Refusal {
-    pub number: u64,
-    pub place: u64,
-}
-
-// An answer for a row: number and place, and the part of the column run, empty where the row is refused.
-#[repr(C)]
-pub struct RowPart {
-    pub number: u64,
-    pub place: u64,
-    pub start: u64,
-    pub length: u64,
-}
-
-fn sentinel(infinite: bool) -> Sentinel
-    ensures { λ r. ⌜ r ≡ picked infinite ⌝ }
-{
-    if infinite {
-        Sentinel::Infinity
-    } else {
-        Sentinel::Largest
-    }
-}
-
-fn crossing(answer: Answer) -> Refusal
-    ensures { λ r. ⌜ (r .number ≡ numberOf answer) × (r .place ≡ placeOf answer) ⌝ }
-{
-    match answer {
-        Answer::Accepted => Refusal {
-            number: 0,
-            place: 0,
-        },
-        Answer::Refused(number, place) => Refusal {
-            number: number as u64,
-            place: place as u64,
-        },
-    }
-}
+use crossing::Refusal;
+use crossing::RowPart;
+use crossing::part_of;
+use crossing::refusal_of;
+use crossing::sentinel;
+ghost use Rattle.crossing.specs.Crossing.{picked, BuildCrossed, StepCrossed, RowCrossed};
 
 // The build: the high sentinel is infinity, or the largest finite double.
 #[no_mangle]
@@ -101,7 +60,7 @@ pub extern "C" fn pywr_build(
         words,
         numbers,
     );
-    crossing(answer)
+    refusal_of(answer)
 }
 
 // The step.
@@ -154,7 +113,7 @@ pub extern "C" fn pywr_step(
         shape,
         work,
     );
-    crossing(answer)
+    refusal_of(answer)
 }
 
 // Where a row's columns stand in the column run.
@@ -195,18 +154,5 @@ pub extern "C" fn pywr_row(
         shape,
         row,
     );
-    match answer {
-        RowAnswer::Refused(n, p) => RowPart {
-            number: n as u64,
-            place: p as u64,
-            start: 0,
-            length: 0,
-        },
-        RowAnswer::Part(start, end) => RowPart {
-            number: 0,
-            place: 0,
-            start: start as u64,
-            length: (end - start) as u64,
-        },
-    }
+    part_of(answer)
 }

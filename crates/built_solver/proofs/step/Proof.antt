@@ -1,38 +1,67 @@
 -- `built_solver::step` meets its contract. Assumes nothing.
-use mathlib.Core.Path.{refl, sym, _∙_}
+use mathlib.Core.Path.{_≡_, refl, sym, _∙_}
+use mathlib.Core.Bool.{true}
 use native.Mathlib.Omega.{arith}
+use borrow.Author.Needs.{needs}
 use borrow.Author.Tests.{not-true, not-false}
+use Rattle.pywr.specs.Store.{Store}
+use Rattle.pywr.specs.Calls.{stepRoom}
 use Rattle.store.proofs.Passed.{lengths, shaped}
 use Rattle.constraint_bounds.specs.ConstraintBounds as rows
 use Rattle.built_solver.proofs.JudgeLaws.{room-store, room-work}
 use Rattle.built_solver.proofs.FinishLaws.{storeOf, edges-fit, short, refuse, finish}
-use borrow.Author.Needs.{needs}
 use Rattle.built_solver.proofs.step.Statement.{statement}
 use Rattle.built_solver.proofs.step.Tie as tie
+
+-- the store that was lent, and the place where it was
+abbrev lent : tie.Start → Store
+lent c =
+    let a = c .args in
+    storeOf (a .col-lower .now) (a .col-upper .now) (a .col-obj-coef .now) (a .row-lower .now) (a .row-upper .now) (a .elements .now) (a .columns .now) (a .row-starts .now) (a .shape .now)
+
+abbrev start : tie.After-step-has-room → tie.Start
+start c =
+    let c3 = c .before .before .before in
+    let c6 = c3 .before .before .before in
+    let c9 = c6 .before .before .before in
+    c9 .before .before .before
+
+-- the places after the calls of `judge` and `update`, and where the file was accepted
+abbrev judged : tie.After-slice-known6 → tie.After-judge
+judged c = c .before .before
+
+abbrev accepted : tie.After-update-arg5 → tie.After-enum-told
+accepted c =
+    let c3 = c .before .before .before in
+    c3 .before .before
+
+abbrev updated : tie.After-slice-known12 → tie.After-update
+updated c =
+    let c3 = c .before .before .before in
+    let c6 = c3 .before .before .before in
+    let c9 = c6 .before .before .before in
+    c9 .before .before .before
+
+has-room : (c : tie.Else1) → stepRoom (lent (start (c .before))) (start (c .before) .args .work .now) ≡ true
+has-room c =
+    let call = c .before .step-has-room in
+    let s = start (c .before) in
+    sym (call .ensures (lent s) (s .args .work .now) (lengths (lent s)) refl) ∙ not-false (call .result) (c .if1 .left)
 
 step-has-room-requires : tie.Need-step-has-room-requires
 step-has-room-requires c κs = search needs
 
 returns : tie.Need-returns
 returns c =
-    let c1 = c .before in
-    let c13 = c1 .before .before .before .before .before .before .before .before .before .before .before .before in
-    let a = c13 .args in
-    let old = storeOf (a .col-lower .now) (a .col-upper .now) (a .col-obj-coef .now) (a .row-lower .now) (a .row-upper .now) (a .elements .now) (a .columns .now)
-    (a .row-starts .now) (a .shape .now) in
-    short (a .file .now) old (a .work .now) (sym (c1 .step-has-room .ensures old (a .work .now) (lengths old) refl) ∙ not-true (c1 .step-has-room .result) (c .if1 .taken))
+    let call = c .before .step-has-room in
+    let s = start (c .before) in
+    short (s .args .file .now) (lent s) (s .args .work .now) (sym (call .ensures (lent s) (s .args .work .now) (lengths (lent s)) refl) ∙ not-true (call .result) (c .if1 .taken))
 
 judge-requires : tie.Need-judge-requires
 judge-requires c κs =
-    let c1 = c .before in
-    let c2 = c1 .before in
-    let c14 = c2 .before .before .before .before .before .before .before .before .before .before .before .before in
-    let a = c14 .args in
-    let old = storeOf (a .col-lower .now) (a .col-upper .now) (a .col-obj-coef .now) (a .row-lower .now) (a .row-upper .now) (a .elements .now) (a .columns .now)
-    (a .row-starts .now) (a .shape .now) in
-    let ok = sym (c2 .step-has-room .ensures old (a .work .now) (lengths old) refl) ∙ not-false (c2 .step-has-room .result) (c1 .if1 .left) in
-    let h = room-store old (a .work .now) ok in
-    (h .columns, h .rowStarts, h .shape, room-work old (a .work .now) ok)
+    let s = start (c .before .before) in
+    let ok = has-room (c .before) in
+    let h = room-store (lent s) (s .args .work .now) ok in (h .columns, h .rowStarts, h .shape, room-work (lent s) (s .args .work .now) ok)
 
 enum-known-answer : tie.Need-enum-known-answer
 enum-known-answer c = search needs
@@ -43,45 +72,29 @@ refuse-requires c κs = search needs
 enum-told : tie.Need-enum-told
 enum-told c = search needs
 
-update-edge-objectives-requires : tie.Need-update-edge-objectives-requires
-update-edge-objectives-requires c κs =
-    let c1 = c .before in
-    let c5 = c1 .before .before .before .before in
-    let c7 = c5 .before .before in
-    let c8 = c7 .before in
-    let c20 = c8 .before .before .before .before .before .before .before .before .before .before .before .before in
-    let a = c20 .args in
-    let old = storeOf (a .col-lower .now) (a .col-upper .now) (a .col-obj-coef .now) (a .row-lower .now) (a .row-upper .now) (a .elements .now) (a .columns .now)
-    (a .row-starts .now) (a .shape .now) in
-    let ok = sym (c8 .step-has-room .ensures old (a .work .now) (lengths old) refl) ∙ not-false (c8 .step-has-room .result) (c7 .if1 .left) in
-    let h = room-store old (a .work .now) ok in
-    let ready = c5 .judge .ensures old refl refl refl .ready (c1 .enum-told .given .1) in
-    let n = shaped old (ready .shaped) in
-    (h .shape, h .colObjCoef, n .counts .nodes, n .counts .edges, n .counts .edge-columns, n .counts .sets, (λ s e. edges-fit s old e (n .edges)), omega (arith, ready .long))
-
-update-constraint-bounds-requires : tie.Need-update-constraint-bounds-requires
-update-constraint-bounds-requires c κs =
-    let c8 = c .before .before .before .before .before .before .before .before in
-    let c12 = c8 .before .before .before .before in
-    let c14 = c12 .before .before in
-    let c15 = c14 .before in
-    let c27 = c15 .before .before .before .before .before .before .before .before .before .before .before .before in
-    let a = c27 .args in
-    let old = storeOf (a .col-lower .now) (a .col-upper .now) (a .col-obj-coef .now) (a .row-lower .now) (a .row-upper .now) (a .elements .now) (a .columns .now)
-    (a .row-starts .now) (a .shape .now) in
-    let ok = sym (c15 .step-has-room .ensures old (a .work .now) (lengths old) refl) ∙ not-false (c15 .step-has-room .result) (c14 .if1 .left) in
-    let h = room-store old (a .work .now) ok in
-    let s = rows.storeOf (a .row-lower .now) (a .row-upper .now) (a .elements .now) (a .columns .now) (a .row-starts .now) (a .shape .now) in
-    record {
-      row-lower-long = h .rowLower;
-      row-upper-long = h .rowUpper;
-      elements-long = h .elements;
-      columns-long = h .columns;
-      row-starts-long = h .rowStarts;
-      shape-long = h .shape;
-      work-long = omega (arith, c12 .judge .kept .1 .1 .1 .1 .0, room-work old (a .work .now) ok);
-      well-shaped = c12 .judge .ensures s refl refl refl .ready (c8 .enum-told .given .1) .shaped;
-    }
+update-requires : tie.Need-update-requires
+update-requires c κs =
+    let told = accepted c in
+    let judge = judged (told .before .before) in
+    let s = start (judge .before .before .before) in
+    let a = s .args in
+    let ok = has-room (judge .before .before) in
+    let h = room-store (lent s) (a .work .now) ok in
+    let ready = judge .judge .ensures (lent s) refl refl refl .ready (told .enum-told .given .1) in
+    let n = shaped (lent s) (ready .shaped) in
+    let r = rows.storeOf (a .row-lower .now) (a .row-upper .now) (a .elements .now) (a .columns .now) (a .row-starts .now) (a .shape .now) in (
+      (h .shape, h .colObjCoef, n .counts .nodes, n .counts .edges, n .counts .edge-columns, n .counts .sets, (λ t e. edges-fit t (lent s) e (n .edges)), omega (arith, ready .long)),
+      record {
+        row-lower-long = h .rowLower;
+        row-upper-long = h .rowUpper;
+        elements-long = h .elements;
+        columns-long = h .columns;
+        row-starts-long = h .rowStarts;
+        shape-long = h .shape;
+        work-long = omega (arith, judge .judge .kept .1 .1 .1 .1 .0, room-work (lent s) (a .work .now) ok);
+        well-shaped = judge .judge .ensures r refl refl refl .ready (told .enum-told .given .1) .shaped;
+      },
+    )
 
 zero-f64-requires : tie.Need-zero-f64-requires
 zero-f64-requires c κs = search needs
@@ -91,18 +104,12 @@ same-length c = search needs
 
 returns-2 : tie.Need-returns-2
 returns-2 c =
-    let c2 = c .before .before in
-    let c5 = c2 .before .before .before in
-    let c9 = c5 .before .before .before .before in
-    let c11 = c9 .before .before in
-    let c12 = c11 .before in
-    let c24 = c12 .before .before .before .before .before .before .before .before .before .before .before .before in
-    let a = c24 .args in
-    let old = storeOf (a .col-lower .now) (a .col-upper .now) (a .col-obj-coef .now) (a .row-lower .now) (a .row-upper .now) (a .elements .now) (a .columns .now)
-    (a .row-starts .now) (a .shape .now) in
-    let ok = sym (c12 .step-has-room .ensures old (a .work .now) (lengths old) refl) ∙ not-false (c12 .step-has-room .result) (c11 .if1 .left) in
-    rw (c2 .refuse .ensures .0)
-    (refuse (a .file .now) old (a .work .now) ok (c9 .judge .result) _ (c9 .judge .ensures old refl refl refl) _ (c2 .refuse .ensures .1) (c9 .judge .kept .1 .1 .1 .1 .0) (c5 .answer .given .1))
+    let refused = c .before .before in
+    let told = refused .before .before .before in
+    let judge = judged (told .before .before) in
+    let s = start (judge .before .before .before) in
+    rw (refused .refuse .ensures .0)
+    (refuse (s .args .file .now) (lent s) (s .args .work .now) (has-room (judge .before .before)) (judge .judge .result) _ (judge .judge .ensures (lent s) refl refl refl) _ (refused .refuse .ensures .1) (judge .judge .kept .1 .1 .1 .1 .0) (told .answer .given .1))
 
 same-length-2 : tie.Need-same-length-2
 same-length-2 c = search needs
@@ -121,23 +128,15 @@ same-length-6 c = search needs
 
 returns-3 : tie.Need-returns-3
 returns-3 c =
-    let c2 = c .before .before in
-    let c10 = c2 .before .before .before .before .before .before .before .before in
-    let c17 = c10 .before .before .before .before .before .before .before in
-    let c19 = c17 .before .before in
-    let c23 = c19 .before .before .before .before in
-    let c25 = c23 .before .before in
-    let c26 = c25 .before in
-    let c38 = c26 .before .before .before .before .before .before .before .before .before .before .before .before in
-    let a = c38 .args in
-    let old = storeOf (a .col-lower .now) (a .col-upper .now) (a .col-obj-coef .now) (a .row-lower .now) (a .row-upper .now) (a .elements .now) (a .columns .now)
-    (a .row-starts .now) (a .shape .now) in
-    let ok = sym (c26 .step-has-room .ensures old (a .work .now) (lengths old) refl) ∙ not-false (c26 .step-has-room .result) (c25 .if1 .left) in
-    let judged = c23 .judge .ensures old refl refl refl in
-    finish (a .file .now) old (a .work .now) ok (c23 .judge .result) _ judged _ (c2 .zero-f64 .ensures) (c23 .judge .kept .1 .1 .1 .1 .0) (c19 .enum-told .given .1)
-    (c17 .update-edge-objectives .ensures old _ _ refl)
-    (c10 .update-constraint-bounds .ensures old _ (record { row-lower = refl; row-upper = refl; elements-are = refl; columns-are = refl; row-starts = refl; shape-is = refl })
-    (judged .ready (c19 .enum-told .given .1) .held))
+    let call = updated c .update in
+    let told = accepted (updated c .before) in
+    let judge = judged (told .before .before) in
+    let s = start (judge .before .before .before) in
+    let j = judge .judge .ensures (lent s) refl refl refl in
+    let yes = told .enum-told .given .1 in
+    finish (s .args .file .now) (lent s) (s .args .work .now) (has-room (judge .before .before)) (judge .judge .result) _ j _ (c .before .before .zero-f64 .ensures) (judge .judge .kept .1 .1 .1 .1 .0) yes
+    (call .ensures .0 (lent s) _ _ refl)
+    (call .ensures .1 (lent s) _ (record { row-lower = refl; row-upper = refl; elements-are = refl; columns-are = refl; row-starts = refl; shape-is = refl }) (j .ready yes .held))
 
 pub step-spec : {M : Type 1} → statement M
 step-spec =
@@ -149,8 +148,7 @@ step-spec =
     enum-known-answer
     refuse-requires
     enum-told
-    update-edge-objectives-requires
-    update-constraint-bounds-requires
+    update-requires
     zero-f64-requires
     same-length
     returns-2

@@ -1,8 +1,8 @@
--- `crossing` meets its contract. Assumes nothing.
+-- `refusal_of` meets its contract. Assumes nothing.
 use borrow.Author.Needs.{needs}
 use Rattle.pywr.specs.Answers.{numberOf, placeOf}
-use Rattle.pywr_c.proofs.crossing.Statement.{statement}
-use Rattle.pywr_c.proofs.crossing.Tie as tie
+use Rattle.crossing.proofs.refusal_of.Statement.{statement}
+use Rattle.crossing.proofs.refusal_of.Tie as tie
 
 enum-told : tie.Need-enum-told
 enum-told c = search needs
@@ -21,5 +21,5 @@ returns-2 : tie.Need-returns-2
 unfolding numberOf placeOf
 returns-2 c = search needs
 
-pub crossing-spec : {M : Type 1} → statement M
-crossing-spec = tie.close (tie.spec enum-told enum-known-answer cast-t5 returns returns-2)
+pub refusal-of-spec : {M : Type 1} → statement M
+refusal-of-spec = tie.close (tie.spec enum-told enum-known-answer cast-t5 returns returns-2)

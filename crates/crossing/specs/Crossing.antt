@@ -1,6 +1,6 @@
 -- What the calls of a C program answer: the number and the place of the answer, and of a row also where its part stands. Assumes nothing.
 use mathlib.Core.Path.{_≡_}
-use Prim.Native.Nat.{ℕ, _-_}
+use Prim.Native.Nat.{ℕ, _-_, _≤_}
 use mathlib.Core.List.{List}
 use mathlib.Core.Bool.{Bool, true, false}
 use lib.Ieee.{Float}
@@ -17,6 +17,11 @@ use Rattle.store.specs.Reading.{RowAnswered}
 abbrev pub picked : Bool → Sentinel
 picked true = Infinity
 picked false = Largest
+
+-- a part does not end before it starts
+abbrev pub Rises : RowAnswer → Type 0
+Rises (RowAnswer.Part start end) = start ≤ end
+Rises (RowAnswer.Refused number place) = Unit {0}
 
 -- where a row's part starts in the column list, and its length: 0 and 0 where it is refused
 unfoldable pub partStart : RowAnswer → ℕ

@@ -1,0 +1,4 @@
+pub mod Among
+pub mod NetworkNumbers
+pub mod StepNumbers
+pub mod CallNumbers

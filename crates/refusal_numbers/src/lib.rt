@@ -1,0 +1,1 @@
+// Laws of the numbers with which the calls refuse. No code.
