@@ -9,8 +9,8 @@ use Rattle.edge.proofs.check_edge.Tie as tie
 
 narrow16-requires : tie.Need-narrow16-requires
 narrow16-requires c κs =
-    let c1 = c .before in
-    let c5 = c1 .before .before .before .before in
+    let c3 = c .before .before .before in
+    let c5 = c3 .before .before in
     let c7 = c5 .before .before in
     omega (arith, node-within _ _ _ _ _ (sym (c7 .node-field .ensures) ∙ c5 .f2 .given .1) .2)
 

@@ -29,7 +29,8 @@ loop-holds c =
 
 is-crossed-requires : tie.Need-is-crossed-requires Inv-loop μ-loop
 is-crossed-requires c κs =
-    let c5 = c .before .before .before .before .before in
+    let c3 = c .before .before .before in
+    let c5 = c3 .before .before in
     rw (c .narrow16 .ensures) (c5 .pre .1 _ (c .before .if1 .taken))
 
 returns : tie.Need-returns Inv-loop μ-loop

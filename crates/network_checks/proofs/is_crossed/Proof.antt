@@ -15,7 +15,8 @@ max-requires c κs =
 
 min-requires : tie.Need-min-requires
 min-requires c κs =
-    let c4 = c .before .before .before .before in
+    let c2 = c .before .before in
+    let c4 = c2 .before .before in
     (c4 .pre .within, c4 .pre .min)
 
 returns : tie.Need-returns

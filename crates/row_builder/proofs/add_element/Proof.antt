@@ -42,8 +42,11 @@ returns-2 : tie.Need-returns-2
 returns-2 c =
     let s = c .before .before .before .before .before .before .before .before .before .before .before .before in
     let long : length (s .args .columns .now) ≡ 640 = omega arith in
-    rw (c .before .before .before .before .insert-column .ensures, c .before .before .insert-element .ensures)
-    (element-inserted _ _ _ _ long (s .pre .0) (s .pre .2) (s .pre .3) (c .before .before .before .before .before .before .before .place-of .ensures) _ _ (s .pre .1) (absent (c .before .before .before .before .before .before)))
+    let c2 = c .before .before in
+    let c4 = c2 .before .before in
+    let c6 = c4 .before .before in
+    rw (c4 .insert-column .ensures, c2 .insert-element .ensures)
+    (element-inserted _ _ _ _ long (s .pre .0) (s .pre .2) (s .pre .3) (c6 .before .place-of .ensures) _ _ (s .pre .1) (absent c6))
 
 pub add-element-spec : {M : Type 1} → statement M
 add-element-spec =
