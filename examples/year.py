@@ -1,6 +1,6 @@
 #!/usr/bin/env python3
 # Writes the example year: twelve monthly step files for intake.network (flows in Ml/d, volumes in Ml).
-#   year.py           writes year/01.step .. year/12.step, and what crates/stepper is run on (args, data) with the text that it must write (stdout)
+#   year.py           writes year/01.step .. year/12.step
 #   year.py --dump    prints the records in hexadecimal, each with what it is
 #   year.py --check   reads the written files by rules 12 to 14 and says what they hold
 import itertools
@@ -104,27 +104,26 @@ def check(month, data):
     print("%s: %d bytes; %s" % (name, len(data), "accepted" if len(lines) > 1 else "refused, " + lines[0]))
 
 
-def write():
-    folder = here.parent / "crates" / "stepper"
-    for place in (here / "year", folder / "data" / "year"):
-        place.mkdir(parents=True, exist_ok=True)
-        for month in range(1, 13):
-            (place / ("%02d.step" % month)).write_bytes(step_file(month))
-    (folder / "data" / "intake.network").write_bytes(b"".join(record for _, record in INTAKE))
-    (folder / "args").write_text("intake.network\n" + "".join("year/%02d.step\n" % month for month in range(1, 13)))
-    lines = [line for month in range(1, 13) for line in ["S %d" % (month - 1), *answer(step_file(month))]]
-    (folder / "stdout").write_text("".join(line + "\n" for line in lines))
-
-
-if "--dump" in sys.argv:
+def dump():
     for month in range(1, 13):
         print("# %02d.step" % month)
         at = 0
         for what, record in records(month):
             print("# %d: %s\n%s" % (at, what, record.hex(" ")))
             at += len(record)
-elif "--check" in sys.argv:
+
+
+def write(folder):
+    folder.mkdir(parents=True, exist_ok=True)
     for month in range(1, 13):
-        check(month, (here / "year" / ("%02d.step" % month)).read_bytes())
-else:
-    write()
+        (folder / ("%02d.step" % month)).write_bytes(step_file(month))
+
+
+if __name__ == "__main__":
+    if "--dump" in sys.argv:
+        dump()
+    elif "--check" in sys.argv:
+        for month in range(1, 13):
+            check(month, (here / "year" / ("%02d.step" % month)).read_bytes())
+    else:
+        write(here / "year")
