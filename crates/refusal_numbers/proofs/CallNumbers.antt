@@ -1,4 +1,4 @@
--- Each call refuses with its own numbers, none of them 0, and with 16 exactly where a buffer is short. Assumes nothing.
+-- Each call refuses with its own numbers, none of them 0; a build and a step with 16 exactly where a buffer is short. Assumes nothing.
 use mathlib.Core.Path.{_≡_, sym, ap, _∙_}
 use Prim.Native.Nat.{ℕ, _≤_}
 use native.Mathlib.Omega.{arith}
