@@ -20,8 +20,8 @@ use Rattle.pywr.specs.Written.{steppedStore}
 use Rattle.pywr.specs.Calls.{cleared, stepRoom, stepRead, stepIntervals, stepAnswer, storeOfStep, stepStore, stepWork, AfterStep}
 use Rattle.edge_objectives.proofs.CostLaws.{stepped-costs}
 use Rattle.constraint_bounds.specs.ConstraintBounds.{StepWritten}
-use Rattle.built_solver.proofs.JudgeLaws.{refused-is}
-use Rattle.built_solver.specs.Judged.{decodedBy, Judged}
+use Rattle.step_checks.proofs.JudgeLaws.{refused-is}
+use Rattle.step_checks.specs.Judged.{decodedBy, Judged}
 
 -- the store of nine runs
 abbrev pub storeOf : List Float → List Float → List Float → List Float → List Float → List Float → List ℕ → List ℕ → List ℕ → Store

@@ -8,7 +8,7 @@ use Rattle.pywr.specs.Store.{Store}
 use Rattle.pywr.specs.Calls.{stepRoom}
 use Rattle.store.proofs.Passed.{lengths, shaped}
 use Rattle.constraint_bounds.specs.ConstraintBounds as rows
-use Rattle.built_solver.proofs.JudgeLaws.{room-store, room-work}
+use Rattle.step_checks.proofs.JudgeLaws.{room-store, room-work}
 use Rattle.built_solver.proofs.FinishLaws.{storeOf, edges-fit, short, refuse, finish}
 use Rattle.built_solver.proofs.step.Statement.{statement}
 use Rattle.built_solver.proofs.step.Tie as tie
@@ -19,7 +19,7 @@ lent c =
     let a = c .args in
     storeOf (a .col-lower .now) (a .col-upper .now) (a .col-obj-coef .now) (a .row-lower .now) (a .row-upper .now) (a .elements .now) (a .columns .now) (a .row-starts .now) (a .shape .now)
 
-abbrev start : tie.After-step-has-room → tie.Start
+abbrev start : tie.After-has-room → tie.Start
 start c =
     let c3 = c .before .before .before in
     let c6 = c3 .before .before .before in
@@ -42,25 +42,25 @@ updated c =
     let c9 = c6 .before .before .before in
     c9 .before .before .before
 
-has-room : (c : tie.Else1) → stepRoom (lent (start (c .before))) (start (c .before) .args .work .now) ≡ true
-has-room c =
-    let call = c .before .step-has-room in
+enough-room : (c : tie.Else1) → stepRoom (lent (start (c .before))) (start (c .before) .args .work .now) ≡ true
+enough-room c =
+    let call = c .before .has-room in
     let s = start (c .before) in
     sym (call .ensures (lent s) (s .args .work .now) (lengths (lent s)) refl) ∙ not-false (call .result) (c .if1 .left)
 
-step-has-room-requires : tie.Need-step-has-room-requires
-step-has-room-requires c κs = search needs
+has-room-requires : tie.Need-has-room-requires
+has-room-requires c κs = search needs
 
 returns : tie.Need-returns
 returns c =
-    let call = c .before .step-has-room in
+    let call = c .before .has-room in
     let s = start (c .before) in
     short (s .args .file .now) (lent s) (s .args .work .now) (sym (call .ensures (lent s) (s .args .work .now) (lengths (lent s)) refl) ∙ not-true (call .result) (c .if1 .taken))
 
 judge-requires : tie.Need-judge-requires
 judge-requires c κs =
     let s = start (c .before .before) in
-    let ok = has-room (c .before) in
+    let ok = enough-room (c .before) in
     let h = room-store (lent s) (s .args .work .now) ok in (h .columns, h .rowStarts, h .shape, room-work (lent s) (s .args .work .now) ok)
 
 enum-known-answer : tie.Need-enum-known-answer
@@ -78,7 +78,7 @@ update-requires c κs =
     let judge = judged (told .before .before) in
     let s = start (judge .before .before .before) in
     let a = s .args in
-    let ok = has-room (judge .before .before) in
+    let ok = enough-room (judge .before .before) in
     let h = room-store (lent s) (a .work .now) ok in
     let ready = judge .judge .ensures (lent s) refl refl refl .ready (told .enum-told .given .1) in
     let n = shaped (lent s) (ready .shaped) in
@@ -109,7 +109,7 @@ returns-2 c =
     let judge = judged (told .before .before) in
     let s = start (judge .before .before .before) in
     rw (refused .refuse .ensures .0)
-    (refuse (s .args .file .now) (lent s) (s .args .work .now) (has-room (judge .before .before)) (judge .judge .result) _ (judge .judge .ensures (lent s) refl refl refl) _ (refused .refuse .ensures .1) (judge .judge .kept .1 .1 .1 .1 .0) (told .answer .given .1))
+    (refuse (s .args .file .now) (lent s) (s .args .work .now) (enough-room (judge .before .before)) (judge .judge .result) _ (judge .judge .ensures (lent s) refl refl refl) _ (refused .refuse .ensures .1) (judge .judge .kept .1 .1 .1 .1 .0) (told .answer .given .1))
 
 same-length-2 : tie.Need-same-length-2
 same-length-2 c = search needs
@@ -134,7 +134,7 @@ returns-3 c =
     let s = start (judge .before .before .before) in
     let j = judge .judge .ensures (lent s) refl refl refl in
     let yes = told .enum-told .given .1 in
-    finish (s .args .file .now) (lent s) (s .args .work .now) (has-room (judge .before .before)) (judge .judge .result) _ j _ (c .before .before .zero-f64 .ensures) (judge .judge .kept .1 .1 .1 .1 .0) yes
+    finish (s .args .file .now) (lent s) (s .args .work .now) (enough-room (judge .before .before)) (judge .judge .result) _ j _ (c .before .before .zero-f64 .ensures) (judge .judge .kept .1 .1 .1 .1 .0) yes
     (call .ensures .0 (lent s) _ _ refl)
     (call .ensures .1 (lent s) _ (record { row-lower = refl; row-upper = refl; elements-are = refl; columns-are = refl; row-starts = refl; shape-is = refl }) (j .ready yes .held))
 
@@ -142,7 +142,7 @@ pub step-spec : {M : Type 1} → statement M
 step-spec =
     tie.close
     (tie.spec
-    step-has-room-requires
+    has-room-requires
     returns
     judge-requires
     enum-known-answer

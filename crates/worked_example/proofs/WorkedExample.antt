@@ -1,5 +1,5 @@
 -- The worked example of docs/DEMAND-3.md: both sides' numbers under two steps, and after a refused one, by computing the definitions.
--- And the coefficients that a step gives a varying exclusive node. Assumes nothing.
+-- Assumes nothing.
 use mathlib.Core.Path.{_≡_, refl}
 use Prim.Native.Nat.{ℕ, suc, _*_}
 use mathlib.Core.List.{List, [], _∷_, _++_, map}
@@ -7,24 +7,24 @@ use mathlib.Core.Bool.{Bool, true, false}
 use lib.ListN.{getD, replicate}
 use lib.IntN.{ℤ, pos, negℤ, negsuc}
 use lib.Ieee.{Float, fin, inf, neg}
 use Rattle.pywr.specs.declared.Sentinel.the-variants.{Infinity}
 use Rattle.pywr.specs.declared.Interval.{Interval}
 use Rattle.pywr.specs.Result.{value, Result, refused}
 use Rattle.pywr.specs.Numbers.{double, zero64}
 use Rattle.pywr.specs.Network.{input, output, link, storage, Node, Network}
 use Rattle.pywr.specs.NetworkFile.{parseNetwork}
 use Rattle.pywr.specs.Rows.{element}
 use Rattle.pywr.specs.Programme.{Column, Row, Programme}
 use Rattle.pywr.specs.StepFile.{StepFile}
 use Rattle.pywr.specs.StepIntervals.{intervals}
 use Rattle.pywr.specs.Store.{Store, programmeIn}
 use Rattle.pywr.specs.Calls.{buildStore, stepAnswer}
 use Rattle.pywr.specs.Plans.{Plan, unit}
 use Rattle.pywr.specs.Allows.{nodeAmount, ownInterval}
 use Rattle.pywr.specs.Correspondence.{Call, storeAfter, Report, reports, periodsOf, readBy, networkAllows, programmeAdmits, exclusiveConstant, factorsWhole}
-use Rattle.pywr.specs.FileBytes.{varying, constant, edge, exclusive, date, nodeStep, aggregateStep}
+use Rattle.pywr.specs.FileBytes.{varying, constant, edge, date, nodeStep}
 use Rattle.pywr.specs.Compute.{computing}
 use Rattle.pywr.specs.Cases.{blank, work, whole, times, minusWhole}
 
 -- ---- the files
 
@@ -169,25 +169,3 @@ example =
       refused14 = refl;
       afterCrossed = refl;
     }
-
--- ---- a varying exclusive node
-
--- a pump alone in a set, to an output: column 0 is the edge's, column 1 the set's
-pump : List ℕ
-pump = varying input ++ constant output zero64 (double 5) ++ edge 0 1 ++ exclusive 0 1 ((0 ∷ []) ∷ [])
-
--- the pump from 3 to 2,000,000, the aggregate from 0 to 9
-pumpStep : List ℕ
-pumpStep = date 6 1 (double 1) ++ nodeStep zero64 (double 3) (double 2000000) zero64 ++ nodeStep zero64 zero64 zero64 zero64 ++ aggregateStep zero64 (double 9)
-
-pub pumpRows : List Row
-pumpRows = programmeIn (storeAfter (buildStore Infinity pump blank (replicate 24844 0) (replicate 6784 zero64)) (call pumpStep ∷ [])) .varying
-
--- "both sentinels .. the integer column's coefficient becomes the upper bound, or minus the lower, uncapped"
-pub uncapped : pumpRows
-    ≡ record { lower = inf true; upper = inf false; elements = element 0 (minusWhole 1) ∷ element 1 (times 15625 7) ∷ [] }
-    ∷ record { lower = inf true; upper = inf false; elements = element 0 (whole 1) ∷ element 1 (minusWhole 3) ∷ [] }
-    ∷ record { lower = zero64; upper = whole 9; elements = element 0 (whole 1) ∷ [] }
-    ∷ []
-unfolding computing blank work call pump pumpStep pumpRows
-uncapped = refl

@@ -1,13 +1,13 @@
--- `built_solver::judge` meets its contract. Assumes nothing.
+-- `step_checks::judge` meets its contract. Assumes nothing.
 use mathlib.Core.Path.{refl, sym, _∙_}
 use borrow.Author.Tests.{not-true, not-false}
 use Rattle.step_intervals.specs.Found.{intervalsIn}
 use Rattle.store_rows.proofs.Starts.{ofRuns}
 use Rattle.store.proofs.Passed.{shaped}
-use Rattle.built_solver.proofs.JudgeLaws.{judged-shape, judged-file, long, judged-intervals}
+use Rattle.step_checks.proofs.JudgeLaws.{judged-shape, judged-file, long, judged-intervals}
 use borrow.Author.Needs.{needs}
-use Rattle.built_solver.proofs.judge.Statement.{statement}
-use Rattle.built_solver.proofs.judge.Tie as tie
+use Rattle.step_checks.proofs.judge.Statement.{statement}
+use Rattle.step_checks.proofs.judge.Tie as tie
 
 well-shaped-requires : tie.Need-well-shaped-requires
 well-shaped-requires c κs = search needs

@@ -25,7 +25,7 @@ use Rattle.step_file.specs.Decoded.{fileLength}
 use Rattle.step_file.proofs.DecodedLaws.{accepted-decoded, accepted-length}
 use Rattle.interval_laws.specs.Held.{Held}
 use Rattle.store.proofs.Passed.{shaped}
-use Rattle.built_solver.specs.Judged.{readOn, decodedBy, Judged}
+use Rattle.step_checks.specs.Judged.{readOn, decodedBy, Judged}
 
 -- ---- answers and results
 
