@@ -20,10 +20,10 @@ use Rattle.pywr.specs.Written.{builtStore}
 use Rattle.pywr.specs.Calls.{cleared, buildRoom, buildAnswer, storeOfBuild, buildStore, buildWords, buildNumbers, AfterBuild}
 use Rattle.pywr.proofs.Represents.{Roomy}
 use Rattle.pywr.proofs.DemandThree.{roomy-parts}
-use Rattle.lp.specs.declared.Sizes.{Sizes}
-use Rattle.lp.specs.Lp.{ColumnsWritten, RowsWritten, MatrixWritten, shapeWritten}
-use Rattle.programme.specs.declared.Assembled.{Assembled}
-use Rattle.programme.specs.Assembled.{AfterAssemble, Made}
+use Rattle.build_write.specs.declared.Sizes.{Sizes}
+use Rattle.build_write.specs.Lp.{ColumnsWritten, RowsWritten, MatrixWritten, shapeWritten}
+use Rattle.build_rows.specs.declared.Assembled.{Assembled}
+use Rattle.build_rows.specs.Assembled.{AfterAssemble, Made}
 use Rattle.builder.proofs.Written.{store-is}
 
 -- the lengths that a build needs

@@ -13,9 +13,9 @@ use Rattle.pywr.specs.Build.{elementCount}
 use Rattle.pywr.specs.Written.{startsFrom, rowsOf}
 use Rattle.pywr.proofs.StoreLaws.{Holds}
 use Rattle.pywr.proofs.RowsBack.{start-head, held-tail}
-use Rattle.lp.specs.declared.Sizes.{Sizes}
-use Rattle.lp.specs.Lp.{RowStarts}
-use Rattle.programme.specs.Assembled.{Laid}
+use Rattle.build_write.specs.declared.Sizes.{Sizes}
+use Rattle.build_write.specs.Lp.{RowStarts}
+use Rattle.build_rows.specs.Assembled.{Laid}
 
 -- the rows' starts stand in the run from p on, and the first is `at`
 module _ (run : List ℕ) where

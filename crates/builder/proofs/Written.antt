@@ -10,9 +10,9 @@ use Rattle.pywr.specs.declared.Sentinel.{Sentinel}
 use Rattle.pywr.specs.Programme.{Column, Built}
 use Rattle.pywr.specs.Store.{Store}
 use Rattle.pywr.specs.Written.{shapeAfter, builtStore, rowsOf, lowerOf, upperOf, columnsIn, factorsIn, startsFrom}
-use Rattle.lp.specs.declared.Sizes.{Sizes}
-use Rattle.lp.specs.Lp.{columnsOf, ColumnsWritten, RowsWritten, MatrixWritten, shapeWritten}
-use Rattle.programme.specs.Assembled.{Laid}
+use Rattle.build_write.specs.declared.Sizes.{Sizes}
+use Rattle.build_write.specs.Lp.{columnsOf, ColumnsWritten, RowsWritten, MatrixWritten, shapeWritten}
+use Rattle.build_rows.specs.Assembled.{Laid}
 
 module _ (s : Sentinel) (b : Built) (z : Sizes) (words : List ℕ) (numbers : List Float) (l : Laid s b z words numbers) where
   shape-is : (old : List ℕ) → shapeWritten z words old ≡ shapeAfter old b

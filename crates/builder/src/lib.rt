@@ -1,5 +1,5 @@
 // The build: a network file's programme written into a lent store (SolverBuilder::create of builder.rs).
-use programme::Assembled;
+use build_rows::Assembled;
 use pywr::Answer;
 use pywr::Sentinel;
 ghost use Rattle.pywr.specs.Calls.{AfterBuild};
@@ -42,7 +42,7 @@ pub fn build(
       shape = now (shape .exit);
     }) (now (words .exit)) (now (numbers .exit)) ⌝ }
 {
-    if !work_area::build_has_room(
+    if !build_room::build_has_room(
         col_lower.len(),
         col_upper.len(),
         col_obj_coef.len(),
@@ -57,18 +57,18 @@ pub fn build(
     ) {
         return Answer::Refused(16, 0);
     }
-    let a = assembly::assemble(file, sentinel, words, numbers);
+    let a = build_programme::assemble(file, sentinel, words, numbers);
     match a {
         Assembled::Done(z) => {
-            lp::write_columns(z, sentinel, col_lower, col_upper, col_obj_coef);
-            lp::write_rows(z, numbers, row_lower, row_upper);
-            lp::write_matrix(z, words, numbers, elements, columns, row_starts);
-            lp::write_shape(z, words, shape);
-            work_area::clear(words, numbers);
+            build_write::write_columns(z, sentinel, col_lower, col_upper, col_obj_coef);
+            build_write::write_rows(z, numbers, row_lower, row_upper);
+            build_write::write_matrix(z, words, numbers, elements, columns, row_starts);
+            build_write::write_shape(z, words, shape);
+            build_room::clear(words, numbers);
             Answer::Accepted
         }
         Assembled::Refused(n, p) => {
-            work_area::clear(words, numbers);
+            build_room::clear(words, numbers);
             Answer::Refused(n, p)
         }
     }

@@ -18,8 +18,8 @@ use Rattle.pywr.specs.Store.{Store, edgeCount, edgesAt, shapeOf, columnCount}
 use Rattle.pywr.specs.Misshapen.{edgeFits, allEntries}
 use Rattle.pywr.specs.Written.{steppedStore}
 use Rattle.pywr.specs.Calls.{cleared, stepRoom, stepRead, stepIntervals, stepAnswer, storeOfStep, stepStore, stepWork, AfterStep}
-use Rattle.edge_objectives.proofs.CostLaws.{stepped-costs}
-use Rattle.constraint_bounds.specs.ConstraintBounds.{StepWritten}
+use Rattle.step_costs.proofs.CostLaws.{stepped-costs}
+use Rattle.step_rows.specs.ConstraintBounds.{StepWritten}
 use Rattle.step_checks.proofs.JudgeLaws.{refused-is}
 use Rattle.step_checks.specs.Judged.{decodedBy, Judged}
 

@@ -1,10 +1,11 @@
 // The fields of a record: little-endian numbers and bit patterns, and each field of the network file with its refusal.
+// A double of a file by its little-endian bit pattern; a NaN's pattern is read as a NaN.
 ghost use mathlib.Core.Path.{_≡_};
 ghost use Prim.Native.Nat.{_+_, _*_, _<_, _≤_};
 ghost use lib.ListN.{length};
 ghost use Rattle.pywr.specs.Bytes.{le16, le32, le64, within};
 ghost use Rattle.pywr.specs.NetworkFile.{activeFits};
-ghost use Rattle.pywr.specs.Numbers.{isFlow, isSmall};
+ghost use Rattle.pywr.specs.Numbers.{isFlow, isSmall, ofPattern};
 ghost use Rattle.fields.specs.Field.{byteField, nodeField, activeField, checkFactor};
 
 // A field's value, or a refusal's number and place.
@@ -190,4 +191,20 @@ pub fn check_factor(s: &[u8], place: usize, at: usize) -> Checked
         return Checked::Refused(3, place);
     }
     Checked::Refused(1, place)
+}
+
+fn of_pattern(bits: u64) -> f64
+    ensures { λ r. ⌜ r ≡ ofPattern bits ⌝ }
+{
+    if is_flow(bits) {
+        return f64::from_bits(bits);
+    }
+    0.0 / 0.0
+}
+
+pub fn f64_at(s: &[u8], at: usize) -> f64
+    requires { ⌜ at + 8 ≤ length (now s) ⌝ }
+    ensures { λ r. ⌜ r ≡ ofPattern (le64 (now (s .entry)) at) ⌝ }
+{
+    of_pattern(u64_at(s, at))
 }

@@ -6,7 +6,7 @@ use libc::STDOUT_FILENO;
 use pywr::Sentinel;
 
 fn write_usage(fd: i32) -> bool {
-    streams::write_all(
+    program_streams::write_all(
         fd,
         b"usage: lister [FILE]\nLists the linear programme of the network in FILE, or on standard input.\n",
     )
@@ -14,7 +14,7 @@ fn write_usage(fd: i32) -> bool {
 
 // Says what could not be done, and why.
 fn tell(what: &[u8]) {
-    streams::write_all(STDERR_FILENO, b"lister: ");
+    program_streams::write_all(STDERR_FILENO, b"lister: ");
     os::fail(what);
 }
 
@@ -25,9 +25,9 @@ fn tell_unwritten(written: bool) {
 }
 
 fn tell_unknown(option: &[u8]) {
-    streams::write_all(STDERR_FILENO, b"lister: unknown option ");
-    streams::write_all(STDERR_FILENO, option);
-    streams::write_all(STDERR_FILENO, b"\n");
+    program_streams::write_all(STDERR_FILENO, b"lister: unknown option ");
+    program_streams::write_all(STDERR_FILENO, option);
+    program_streams::write_all(STDERR_FILENO, b"\n");
     write_usage(STDERR_FILENO);
 }
 
@@ -42,7 +42,7 @@ fn list(file: &[u8]) {
 // A file that can be accepted has at most 63,488 bytes, and a longer one is refused by its first 63,490: the buffer holds enough of it.
 fn list_input() {
     let mut buffer = io::large_buffer();
-    let read = streams::read_all(STDIN_FILENO, &mut buffer);
+    let read = program_streams::read_all(STDIN_FILENO, &mut buffer);
     if !read.done {
         tell(b"standard input");
         return;
@@ -53,7 +53,7 @@ fn list_input() {
 
 fn list_file(name: &[u8]) {
     let mut buffer = io::large_buffer();
-    let read = streams::read_named(name, &mut buffer);
+    let read = program_streams::read_named(name, &mut buffer);
     if !read.done {
         tell(name);
         return;

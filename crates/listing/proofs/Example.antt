@@ -17,8 +17,8 @@ use Rattle.pywr.specs.Cases.{blank}
 use Rattle.text.specs.Text.{sixteenDigits}
 use Rattle.listing_fields.specs.Fields.{decimalWithin, decimal, numberField, doubleField, letterField, boundsFields, headFields}
 use Rattle.listing_lines.specs.Lines.{programmeLine, kindLetter, columnLine, varyingFlag, rowLine, elementLine}
-use Rattle.stored_lines.specs.Stored.{columnText, rowText}
-use Rattle.row_listing.specs.Rows.{elementText, elementsText, rowLines, rowsText, listedRows}
+use Rattle.listing_stored.specs.Stored.{columnText, rowText}
+use Rattle.listing_rows.specs.Rows.{elementText, elementsText, rowLines, rowsText, listedRows}
 use Rattle.listing.specs.Listing.{columnsText, listedColumns, programmeText}
 
 built : Store

@@ -8,8 +8,8 @@ use lib.ListN.{length, getD, length-append}
 use lib.Ieee.{Float}
 use Rattle.pywr.specs.Store.{Store, columnCount, rowCount, varyingCount, elementsKept}
 use Rattle.listing_lines.specs.Lines.{programmeLine}
-use Rattle.stored_lines.specs.Stored.{columnText}
-use Rattle.row_listing.specs.Rows.{rowsText, listedRows}
+use Rattle.listing_stored.specs.Stored.{columnText}
+use Rattle.listing_rows.specs.Rows.{rowsText, listedRows}
 use Rattle.listing.specs.Listing.{columnsText, listedColumns, programmeText}
 
 pub columns-none : (s : Store) → 0 ≡ length (columnsText s 0)

@@ -5,8 +5,8 @@ use mathlib.Core.List.{List, [], _++_}
 use lib.ListN.{length}
 use Rattle.pywr.specs.Store.{Store, columnCount, rowCount, varyingCount, elementsKept}
 use Rattle.listing_lines.specs.Lines.{programmeLine}
-use Rattle.stored_lines.specs.Stored.{columnText}
-use Rattle.row_listing.specs.Rows.{rowsText, listedRows}
+use Rattle.listing_stored.specs.Stored.{columnText}
+use Rattle.listing_rows.specs.Rows.{rowsText, listedRows}
 
 -- the first k columns
 unfoldable pub columnsText : Store → ℕ → List ℕ

@@ -2,16 +2,16 @@
 // What stands in each line is proved, in `listing_lines` and `stored_lines`; the functions here answer how many bytes the text has that they hand to
 // standard output. That the bytes go out is not stated: output is outside the logic. Where a write fails the answer says so, the rest is not
 // written, and errno says why.
-use row_listing::Listed;
-use row_listing::least;
-use row_listing::list_rows;
-use row_listing::spare;
-use row_listing::write_out;
+use listing_rows::Listed;
+use listing_rows::least;
+use listing_rows::list_rows;
+use listing_rows::spare;
+use listing_rows::write_out;
+use listing_stored::put_counts;
+use listing_stored::put_stored_column;
+use listing_stored::word;
 use store_shape::EDGE_COLUMN_COUNT;
 use store_shape::SET_COUNT;
-use stored_lines::put_counts;
-use stored_lines::put_stored_column;
-use stored_lines::word;
 ghost use mathlib.Core.Path.{_≡_};
 ghost use Prim.Native.Nat.{_+_, _<_, _≤_, _^_, min};
 ghost use lib.ListN.{length, getD};

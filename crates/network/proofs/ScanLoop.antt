@@ -11,10 +11,10 @@ use Rattle.pywr.specs.Network.{Network}
 use Rattle.pywr.specs.NetworkFile.{Reading, readRecord, readRecords, withNode, withEdge, withAggregate, withVirtualStorage}
 use Rattle.fields.specs.Records.{recordsAt, recordsEnd, AllPass}
 use Rattle.fields.proofs.RecordLaws.{records-more, end-fixed, end-more, end-none, end-after, none-pass, one-pass}
-use Rattle.node.specs.Node.{nodeAt, checkNode}
-use Rattle.edge.specs.Edge.{edgeAt, checkEdge}
-use Rattle.aggregated_node.specs.AggregatedNode.{setEnd, aggregateAt, aggregateEnd, checkAggregate}
-use Rattle.virtual_storage.specs.VirtualStorage.{virtualStorageAt, virtualStorageEnd, checkVirtualStorage}
+use Rattle.network_node.specs.Node.{nodeAt, checkNode}
+use Rattle.network_edge.specs.Edge.{edgeAt, checkEdge}
+use Rattle.network_aggregate.specs.AggregatedNode.{setEnd, aggregateAt, aggregateEnd, checkAggregate}
+use Rattle.network_virtual_storage.specs.VirtualStorage.{virtualStorageAt, virtualStorageEnd, checkVirtualStorage}
 use Rattle.network_laws.specs.NetworkAt.{aggregateStart, networkAt}
 use Rattle.network_laws.proofs.Passed.{node-end, edge-end, aggregate-end, virtual-storage-end}
 use Rattle.network_record.specs.Record.{checkRecord, RecordPassed}

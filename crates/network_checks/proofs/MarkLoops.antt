@@ -9,8 +9,8 @@ use Rattle.pywr.specs.Bytes.{byte, le16}
 use Rattle.pywr.specs.Network.{Edge}
 use Rattle.fields.specs.Records.{recordsAt}
 use Rattle.fields.proofs.RecordLaws.{records-left, end-after}
-use Rattle.edge.specs.Edge.{edgeAt}
-use Rattle.aggregated_node.specs.AggregatedNode.{setAt, setEnd, aggregateAt, aggregateEnd}
+use Rattle.network_edge.specs.Edge.{edgeAt}
+use Rattle.network_aggregate.specs.AggregatedNode.{setAt, setEnd, aggregateAt, aggregateEnd}
 use Rattle.network_laws.specs.Passed.{AggregatePassed}
 use Rattle.network_checks.specs.Marks.{markAll, markSets, markExclusive}
 

@@ -9,7 +9,7 @@ use Rattle.pywr.specs.Network.{Node}
 use Rattle.pywr.specs.NetworkFile.{firstRefused}
 use Rattle.fields.specs.Records.{recordsAt}
 use Rattle.fields.proofs.RecordLaws.{records-left, records-over}
-use Rattle.node.specs.Node.{nodeAt}
+use Rattle.network_node.specs.Node.{nodeAt}
 
 module _ (test : ℕ → Node → Option ℕ) (file : List ℕ) (n i : ℕ) where
   -- the nodes from i on

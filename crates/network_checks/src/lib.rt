@@ -9,8 +9,8 @@ ghost use lib.Ieee.{inf, lt, eq};
 ghost use Rattle.pywr.specs.Network.{link, source, target, incoming, outgoing, isExclusive};
 ghost use Rattle.pywr.specs.NetworkFile.{firstRefused, isEmpty, unconnectedLink, badConstant, checkNetwork};
 ghost use Rattle.fields.specs.Records.{recordsAt, recordsEnd};
-ghost use Rattle.node.specs.Node.{nodeAt};
-ghost use Rattle.aggregated_node.specs.AggregatedNode.{setAt, aggregateAt, aggregateEnd};
+ghost use Rattle.network_node.specs.Node.{nodeAt};
+ghost use Rattle.network_aggregate.specs.AggregatedNode.{setAt, aggregateAt, aggregateEnd};
 ghost use Rattle.network_laws.specs.NetworkAt.{nodesAt, edgesAt};
 ghost use Rattle.network_laws.specs.Passed.{NodePassed, EdgePassed, SetPassed, AggregatePassed};
 ghost use Rattle.network_record.specs.Counts.{networkOf, SectionsOf};
@@ -35,8 +35,8 @@ fn mark_ends(s: &[u8], n: usize, e: usize, into: &mut [bool; 256], out: &mut [bo
     let mut j: usize = 0;
     while j < e {
         let i = EdgeIndex(fields::narrow16(j));
-        let to = edge::to_node_index(s, n, i);
-        let from = edge::from_node_index(s, n, i);
+        let to = network_edge::to_node_index(s, n, i);
+        let from = network_edge::from_node_index(s, n, i);
         let t = fields::wide16(to.0);
         let f = fields::wide16(from.0);
         into[t] = true;
@@ -51,7 +51,7 @@ fn is_unconnected(s: &[u8], i: NodeIndex, into: &[bool; 256], out: &[bool; 256])
     ensures { λ r. ⌜ r ≡ (eqb (nodeAt (now (s .entry)) (20 * i .0) .kind) link && (not (getD (now (into .entry)) (i .0) false) || not (getD (now (out .entry)) (i .0) false))) ⌝ }
 {
     let k = fields::wide16(i.0);
-    if node::kind(s, i) == 2 {
+    if network_node::kind(s, i) == 2 {
         if into[k] {
             if out[k] {
                 return false;
@@ -96,10 +96,10 @@ fn mark_set(s: &[u8], at: usize, marks: &mut [bool; 256])
     requires { ⌜ SetPassed (now s) 256 at ⌝ }
     ensures { λ _. ⌜ now (marks .exit) ≡ markAll (setAt (now (s .entry)) at) (now (marks .entry)) ⌝ }
 {
-    let size = aggregated_node::set_size(s, at);
+    let size = network_aggregate::set_size(s, at);
     let mut k: usize = 0;
     while k < size {
-        let m = aggregated_node::member(s, at, k);
+        let m = network_aggregate::member(s, at, k);
         let i = fields::wide16(m.0);
         marks[i] = true;
         k += 1;
@@ -111,12 +111,12 @@ fn mark_sets(s: &[u8], at: usize, marks: &mut [bool; 256]) -> usize
     requires { ⌜ AggregatePassed (now s) 256 at ⌝ }
     ensures { λ r. ⌜ (r ≡ aggregateEnd (now (s .entry)) at) × (now (marks .exit) ≡ markSets (aggregateAt (now (s .entry)) at .sets) (now (marks .entry))) ⌝ }
 {
-    let count = aggregated_node::set_count(s, at);
+    let count = network_aggregate::set_count(s, at);
     let mut here = at + 12;
     let mut i: usize = 0;
     while i < count {
         mark_set(s, here, marks);
-        here = aggregated_node::set_end(s, here);
+        here = network_aggregate::set_end(s, here);
         i += 1;
     }
     here
@@ -130,11 +130,11 @@ fn mark_exclusive(s: &[u8], start: usize, a: usize, marks: &mut [bool; 256])
     let mut at = start;
     let mut k: usize = 0;
     while k < a {
-        if aggregated_node::is_exclusive(s, at) {
+        if network_aggregate::is_exclusive(s, at) {
             at = mark_sets(s, at, marks);
             k += 1;
         } else {
-            at = aggregated_node::aggregate_end(s, at);
+            at = network_aggregate::aggregate_end(s, at);
             k += 1;
         }
     }
@@ -145,9 +145,9 @@ fn is_crossed(s: &[u8], i: NodeIndex) -> bool
     requires { ⌜ NodePassed (now s) (20 * i .0) ⌝ }
     ensures { λ r. ⌜ r ≡ (nodeAt (now (s .entry)) (20 * i .0) .constant && lt (nodeAt (now (s .entry)) (20 * i .0) .max) (nodeAt (now (s .entry)) (20 * i .0) .min)) ⌝ }
 {
-    if node::is_constant(s, i) {
-        let max = node::max(s, i);
-        let min = node::min(s, i);
+    if network_node::is_constant(s, i) {
+        let max = network_node::max(s, i);
+        let min = network_node::min(s, i);
         return max < min;
     }
     false
@@ -160,12 +160,12 @@ fn is_unbounded(s: &[u8], i: NodeIndex, exclusive: &[bool; 256]) -> bool
         && (eq (nodeAt (now (s .entry)) (20 * i .0) .max) (inf true) || eq (nodeAt (now (s .entry)) (20 * i .0) .min) (inf false))) ⌝ }
 {
     let k = fields::wide16(i.0);
-    if node::is_constant(s, i) {
+    if network_node::is_constant(s, i) {
         if exclusive[k] {
-            if node::max(s, i) == f64::from_bits(0xfff0000000000000) {
+            if network_node::max(s, i) == f64::from_bits(0xfff0000000000000) {
                 return true;
             }
-            return node::min(s, i) == f64::from_bits(0x7ff0000000000000);
+            return network_node::min(s, i) == f64::from_bits(0x7ff0000000000000);
         }
         return false;
     }

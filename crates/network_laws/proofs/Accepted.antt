@@ -6,7 +6,7 @@ use native.Mathlib.Omega.{arith}
 use lib.ListN.{length}
 use Rattle.fields.specs.Records.{recordsEnd}
 use Rattle.fields.proofs.RecordLaws.{end-fixed}
-use Rattle.virtual_storage.specs.VirtualStorage.{virtualStorageEnd}
+use Rattle.network_virtual_storage.specs.VirtualStorage.{virtualStorageEnd}
 use Rattle.network_laws.specs.NetworkAt.{aggregateStart, virtualStorageStart}
 use Rattle.network_laws.specs.Passed.{NodePassed, EdgePassed, AggregatePassed, VirtualStoragePassed}
 use Rattle.network_laws.specs.Sections.{Sections}

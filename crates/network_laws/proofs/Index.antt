@@ -8,10 +8,10 @@ use Rattle.pywr.specs.Bytes.{byte, le16}
 use Rattle.pywr.specs.Network.{Node, Edge, Aggregate, Part, VirtualStorage}
 use Rattle.fields.specs.Records.{recordsEnd}
 use Rattle.fields.proofs.RecordLaws.{records-length, records-get, end-fixed}
-use Rattle.node.specs.Node.{nodeAt}
-use Rattle.edge.specs.Edge.{edgeAt}
-use Rattle.aggregated_node.specs.AggregatedNode.{setAt, setEnd, aggregateAt, aggregateEnd}
-use Rattle.virtual_storage.specs.VirtualStorage.{partAt, virtualStorageAt, virtualStorageEnd}
+use Rattle.network_node.specs.Node.{nodeAt}
+use Rattle.network_edge.specs.Edge.{edgeAt}
+use Rattle.network_aggregate.specs.AggregatedNode.{setAt, setEnd, aggregateAt, aggregateEnd}
+use Rattle.network_virtual_storage.specs.VirtualStorage.{partAt, virtualStorageAt, virtualStorageEnd}
 use Rattle.network_laws.specs.NetworkAt.{aggregateStart, virtualStorageStart, networkAt}
 
 -- node i of a list of nodes from 0 on stands at 20 i

@@ -12,11 +12,11 @@ use Rattle.fields.specs.Records.{checkEach}
 use Rattle.fields.specs.declared.Checked.{Checked}
 use Rattle.fields.proofs.Within.{byte-within, node-within, active-within, factor-within, field-next, check-next}
 use Rattle.fields.proofs.RecordLaws.{end-fixed, each-ends, each-pass, each-within, nextOf}
-use Rattle.node.specs.Node.{checkBound, checkNode}
-use Rattle.node.proofs.BoundWithin.{bound-within}
-use Rattle.edge.specs.Edge.{badEdgeAt, checkEdge}
-use Rattle.aggregated_node.specs.AggregatedNode.{setEnd, aggregateEnd, checkMember, checkSet, checkAggregate}
-use Rattle.virtual_storage.specs.VirtualStorage.{virtualStorageEnd, checkPart, checkDates, checkVirtualStorage}
+use Rattle.network_node.specs.Node.{checkBound, checkNode}
+use Rattle.network_node.proofs.BoundWithin.{bound-within}
+use Rattle.network_edge.specs.Edge.{badEdgeAt, checkEdge}
+use Rattle.network_aggregate.specs.AggregatedNode.{setEnd, aggregateEnd, checkMember, checkSet, checkAggregate}
+use Rattle.network_virtual_storage.specs.VirtualStorage.{virtualStorageEnd, checkPart, checkDates, checkVirtualStorage}
 use Rattle.network_laws.specs.Passed.{NodePassed, EdgePassed, SetPassed, AggregatePassed, PartPassed, VirtualStoragePassed}
 
 module _ (file : List ℕ) where

@@ -12,7 +12,7 @@ use Rattle.pywr.specs.NetworkFile.{Read, between, activeFits, constantFits}
 use Rattle.fields.specs.Field.{byteField, nodeField, activeField, checkFactor, fieldThen, checkThen}
 use Rattle.fields.specs.declared.Field.{Field}
 use Rattle.fields.specs.declared.Checked.{Checked}
-use Rattle.node.specs.Node.{checkBound}
+use Rattle.network_node.specs.Node.{checkBound}
 
 -- the item, with the offset that the check answers
 abbrev pub answer : {A : Type 0} → A → Checked → Result (Read A)

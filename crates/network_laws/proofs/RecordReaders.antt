@@ -16,10 +16,10 @@ use Rattle.pywr.specs.NetworkFile.{Read, between, readNode, readEdge, readMembe
 use Rattle.fields.specs.Records.{recordsAt, recordsEnd, checkEach}
 use Rattle.fields.specs.declared.Checked.{Checked}
 use Rattle.fields.proofs.RecordLaws.{records-length, records-get, end-fixed}
-use Rattle.node.specs.Node.{nodeAt, checkNode}
-use Rattle.edge.specs.Edge.{edgeAt, pairAmong, badEdgeAt, checkEdge}
-use Rattle.aggregated_node.specs.AggregatedNode.{setAt, setEnd, aggregateAt, checkMember, checkSet, checkAggregate}
-use Rattle.virtual_storage.specs.VirtualStorage.{partAt, periodAt, virtualStorageAt, checkPart, checkDates, checkVirtualStorage}
+use Rattle.network_node.specs.Node.{nodeAt, checkNode}
+use Rattle.network_edge.specs.Edge.{edgeAt, pairAmong, badEdgeAt, checkEdge}
+use Rattle.network_aggregate.specs.AggregatedNode.{setAt, setEnd, aggregateAt, checkMember, checkSet, checkAggregate}
+use Rattle.network_virtual_storage.specs.VirtualStorage.{partAt, periodAt, virtualStorageAt, checkPart, checkDates, checkVirtualStorage}
 use Rattle.network_laws.specs.NetworkAt.{nodesAt, networkAt}
 use Rattle.network_laws.proofs.Readers.{answer, byte-then, byte-through, node-then, active-then, bound-then, factor-then, read-then}
 use Rattle.network_laws.proofs.Passed.{member-end, set-end, part-end}

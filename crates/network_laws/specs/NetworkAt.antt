@@ -4,10 +4,10 @@ use Prim.Native.Nat.{ℕ, _+_, _*_}
 use mathlib.Core.List.{List}
 use Rattle.pywr.specs.Network.{Node, Edge, Network}
 use Rattle.fields.specs.Records.{recordsAt, recordsEnd}
-use Rattle.node.specs.Node.{nodeAt}
-use Rattle.edge.specs.Edge.{edgeAt}
-use Rattle.aggregated_node.specs.AggregatedNode.{aggregateAt, aggregateEnd}
-use Rattle.virtual_storage.specs.VirtualStorage.{virtualStorageAt, virtualStorageEnd}
+use Rattle.network_node.specs.Node.{nodeAt}
+use Rattle.network_edge.specs.Edge.{edgeAt}
+use Rattle.network_aggregate.specs.AggregatedNode.{aggregateAt, aggregateEnd}
+use Rattle.network_virtual_storage.specs.VirtualStorage.{virtualStorageAt, virtualStorageEnd}
 
 module _ (file : List ℕ) where
   abbrev pub nodesAt : ℕ → List Node

@@ -7,8 +7,8 @@ use lib.ListN.{length}
 use Rattle.pywr.specs.Bytes.{byte, le16, le64}
 use Rattle.pywr.specs.Numbers.{isFlow, isSmall}
 use Rattle.fields.specs.Records.{recordsEnd}
-use Rattle.aggregated_node.specs.AggregatedNode.{setEnd, aggregateEnd}
-use Rattle.virtual_storage.specs.VirtualStorage.{virtualStorageEnd}
+use Rattle.network_aggregate.specs.AggregatedNode.{setEnd, aggregateEnd}
+use Rattle.network_virtual_storage.specs.VirtualStorage.{virtualStorageEnd}
 
 -- the node at `at`: its kind, and no NaN as min or max
 pub record NodePassed (file : List ℕ) (at : ℕ) : Type 0 where

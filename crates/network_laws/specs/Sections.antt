@@ -4,10 +4,10 @@ use mathlib.Core.Path.{_≡_}
 use mathlib.Core.List.{List}
 use lib.ListN.{length}
 use Rattle.fields.specs.Records.{recordsEnd, AllPass}
-use Rattle.node.specs.Node.{checkNode}
-use Rattle.edge.specs.Edge.{checkEdge}
-use Rattle.aggregated_node.specs.AggregatedNode.{aggregateEnd, checkAggregate}
-use Rattle.virtual_storage.specs.VirtualStorage.{virtualStorageEnd, checkVirtualStorage}
+use Rattle.network_node.specs.Node.{checkNode}
+use Rattle.network_edge.specs.Edge.{checkEdge}
+use Rattle.network_aggregate.specs.AggregatedNode.{aggregateEnd, checkAggregate}
+use Rattle.network_virtual_storage.specs.VirtualStorage.{virtualStorageEnd, checkVirtualStorage}
 use Rattle.network_laws.specs.NetworkAt.{aggregateStart}
 
 pub record Sections (file : List ℕ) (n e a v place : ℕ) : Type 0 where

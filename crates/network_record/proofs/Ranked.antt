@@ -9,10 +9,10 @@ use lib.ListN.{length}
 use lib.Dec.{ltb, eqb}
 use Rattle.fields.specs.declared.Checked.{Checked}
 use Rattle.fields.proofs.Within.{next-tested}
-use Rattle.node.specs.Node.{checkNode}
-use Rattle.edge.specs.Edge.{checkEdge}
-use Rattle.aggregated_node.specs.AggregatedNode.{checkAggregate}
-use Rattle.virtual_storage.specs.VirtualStorage.{checkVirtualStorage}
+use Rattle.network_node.specs.Node.{checkNode}
+use Rattle.network_edge.specs.Edge.{checkEdge}
+use Rattle.network_aggregate.specs.AggregatedNode.{checkAggregate}
+use Rattle.network_virtual_storage.specs.VirtualStorage.{checkVirtualStorage}
 use Rattle.network_record.specs.Record.{markRank, recordOf, checkRanked, checkRecord}
 
 -- the whole check of a record in order, by the rank of its mark

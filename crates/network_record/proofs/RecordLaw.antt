@@ -11,10 +11,10 @@ use Rattle.pywr.specs.Bytes.{within, markIs}
 use Rattle.pywr.specs.Network.{Network}
 use Rattle.pywr.specs.NetworkFile.{Reading, Mark, ND, ED, AG, VS, rank, markAt, inOrder, hasRoom, withNode, withEdge, withAggregate, withVirtualStorage, readBody, readRecord}
 use Rattle.fields.specs.declared.Checked.{Checked}
-use Rattle.node.specs.Node.{nodeAt, checkNode}
-use Rattle.edge.specs.Edge.{edgeAt, checkEdge}
-use Rattle.aggregated_node.specs.AggregatedNode.{aggregateAt, checkAggregate}
-use Rattle.virtual_storage.specs.VirtualStorage.{virtualStorageAt, checkVirtualStorage}
+use Rattle.network_node.specs.Node.{nodeAt, checkNode}
+use Rattle.network_edge.specs.Edge.{edgeAt, checkEdge}
+use Rattle.network_aggregate.specs.AggregatedNode.{aggregateAt, checkAggregate}
+use Rattle.network_virtual_storage.specs.VirtualStorage.{virtualStorageAt, checkVirtualStorage}
 use Rattle.network_laws.specs.NetworkAt.{networkAt}
 use Rattle.network_laws.proofs.Readers.{answer}
 use Rattle.network_laws.proofs.RecordReaders.{node-law, edge-law, aggregate-law, virtual-storage-law}

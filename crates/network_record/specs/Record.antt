@@ -8,10 +8,10 @@ use lib.ListN.{length}
 use lib.Dec.{ltb, eqb}
 use Rattle.pywr.specs.Bytes.{within, markIs}
 use Rattle.fields.specs.declared.Checked.{Checked}
-use Rattle.node.specs.Node.{checkNode}
-use Rattle.edge.specs.Edge.{checkEdge}
-use Rattle.aggregated_node.specs.AggregatedNode.{checkAggregate}
-use Rattle.virtual_storage.specs.VirtualStorage.{checkVirtualStorage}
+use Rattle.network_node.specs.Node.{checkNode}
+use Rattle.network_edge.specs.Edge.{checkEdge}
+use Rattle.network_aggregate.specs.AggregatedNode.{checkAggregate}
+use Rattle.network_virtual_storage.specs.VirtualStorage.{checkVirtualStorage}
 use Rattle.network_record.specs.declared.Record.{Record}
 
 -- the rank of the mark at `at`, 4 where it is none of the four

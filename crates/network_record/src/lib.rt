@@ -66,25 +66,25 @@ fn check_ranked(s: &[u8], at: usize, m: usize, n: usize, e: usize, a: usize, v: 
         if 256 <= n {
             return Checked::Refused(6, at);
         }
-        return node::check_node(s, at);
+        return network_node::check_node(s, at);
     }
     if m == 1 {
         if 512 <= e {
             return Checked::Refused(6, at);
         }
-        return edge::check_edge(s, n, e, at);
+        return network_edge::check_edge(s, n, e, at);
     }
     if m == 2 {
         if 64 <= a {
             return Checked::Refused(6, at);
         }
-        return aggregated_node::check_aggregate(s, n, at);
+        return network_aggregate::check_aggregate(s, n, at);
     }
     if m == 3 {
         if 32 <= v {
             return Checked::Refused(6, at);
         }
-        return virtual_storage::check_virtual_storage(s, n, at);
+        return network_virtual_storage::check_virtual_storage(s, n, at);
     }
     Checked::Refused(2, at)
 }

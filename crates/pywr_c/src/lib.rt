@@ -1,10 +1,10 @@
 // What C and Rust programs call. A slice crosses as a pointer and a length, an answer as its numbers.
-use crossing::Refusal;
-use crossing::RowPart;
-use crossing::part_of;
-use crossing::refusal_of;
-use crossing::sentinel;
-ghost use Rattle.crossing.specs.Crossing.{picked, BuildCrossed, StepCrossed, RowCrossed};
+use pywr_c_answers::Refusal;
+use pywr_c_answers::RowPart;
+use pywr_c_answers::part_of;
+use pywr_c_answers::refusal_of;
+use pywr_c_answers::sentinel;
+ghost use Rattle.pywr_c_answers.specs.Crossing.{picked, BuildCrossed, StepCrossed, RowCrossed};
 
 // The build: the high sentinel is infinity, or the largest finite double.
 #[no_mangle]

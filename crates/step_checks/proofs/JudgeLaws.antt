@@ -23,7 +23,7 @@ use Rattle.pywr.proofs.AcceptedLaws.{afterReading, step-answers}
 use Rattle.store_shape.proofs.EntryLaws.{entries-length}
 use Rattle.step_file.specs.Decoded.{fileLength}
 use Rattle.step_file.proofs.DecodedLaws.{accepted-decoded, accepted-length}
-use Rattle.interval_laws.specs.Held.{Held}
+use Rattle.step_work.specs.Held.{Held}
 use Rattle.store.proofs.Passed.{shaped}
 use Rattle.step_checks.specs.Judged.{readOn, decodedBy, Judged}
 

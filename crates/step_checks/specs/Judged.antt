@@ -14,7 +14,7 @@ use Rattle.pywr.specs.Store.{Store, nodeCount, aggregateCount, storageCount, sh
 use Rattle.pywr.specs.Misshapen.{wellShaped}
 use Rattle.pywr.specs.Calls.{stepRoom, stepIntervals, stepAnswer}
 use Rattle.step_file.specs.Decoded.{decoded, fileLength}
-use Rattle.interval_laws.specs.Held.{Held}
+use Rattle.step_work.specs.Held.{Held}
 
 -- the file as the store's shape reads it: left to right, and by the places of its numbers
 abbrev pub readOn : Store → List ℕ → Result StepFile

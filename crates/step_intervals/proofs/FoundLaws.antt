@@ -15,11 +15,11 @@ use Rattle.pywr.specs.Result.{Result, _>>=_}
 use Rattle.pywr.specs.StepIntervals.{Intervals, firstCrossed, unless, ordered}
 use Rattle.pywr.specs.Store.{Store, word, nodeCount, aggregateCount, storageCount, sentinelOf, entries}
 use Rattle.step_file.specs.Decoded.{f64At}
-use Rattle.interval_laws.specs.Held.{heldAt, heldFrom, Held}
-use Rattle.interval_laws.specs.Written.{Written, crossedAnswer, Looked}
-use Rattle.node_intervals.specs.NodeIntervals.{nodeNumbered}
-use Rattle.storage_intervals.specs.StorageIntervals.{storageNumbered}
-use Rattle.aggregate_intervals.specs.AggregateIntervals.{aggregateNumbered}
+use Rattle.step_work.specs.Held.{heldAt, heldFrom, Held}
+use Rattle.step_work.specs.Written.{Written, crossedAnswer, Looked}
+use Rattle.step_node_intervals.specs.NodeIntervals.{nodeNumbered}
+use Rattle.step_virtual_storage_intervals.specs.StorageIntervals.{storageNumbered}
+use Rattle.step_aggregate_intervals.specs.AggregateIntervals.{aggregateNumbered}
 use Rattle.step_intervals.specs.Found.{intervalsIn, Found}
 use Rattle.store_shape.proofs.EntryLaws.{entries-same}
 use Rattle.step_intervals.proofs.IntervalLaws.{nodes-are, aggregates-are, storages-are}

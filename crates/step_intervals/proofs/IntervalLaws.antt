@@ -12,11 +12,11 @@ use Rattle.pywr.specs.StepFile.{StepFile}
 use Rattle.pywr.specs.StepIntervals.{nodeInterval, nodeIntervals, storageIntervals, intervals}
 use Rattle.pywr.specs.Store.{Store, word, nodeCount, aggregateCount, storageCount, sentinelOf, entries, nodeEntry, storageEntry, shapeOf, programmeIn}
 use Rattle.step_file.specs.Decoded.{f64At, nodeStepAt, nodeStepsAt, aggregateStepAt, storageStepAt, groupsAt, storesAt, decoded}
-use Rattle.node_intervals.specs.NodeIntervals.{nodeNumbered}
-use Rattle.period.specs.PeriodAt.{periodAt}
-use Rattle.virtual_interval.specs.VirtualInterval.{storageAt}
-use Rattle.storage_intervals.specs.StorageIntervals.{storageNumbered}
-use Rattle.aggregate_intervals.specs.AggregateIntervals.{aggregateNumbered}
+use Rattle.step_node_intervals.specs.NodeIntervals.{nodeNumbered}
+use Rattle.step_period.specs.PeriodAt.{periodAt}
+use Rattle.step_virtual_interval.specs.VirtualInterval.{storageAt}
+use Rattle.step_virtual_storage_intervals.specs.StorageIntervals.{storageNumbered}
+use Rattle.step_aggregate_intervals.specs.AggregateIntervals.{aggregateNumbered}
 use Rattle.step_intervals.specs.Found.{intervalsIn}
 use Rattle.store_shape.proofs.EntryLaws.{first-entry, next-entry, entries-length, entries-same}
 

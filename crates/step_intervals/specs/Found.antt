@@ -11,7 +11,7 @@ use Rattle.pywr.specs.Calls.{stepIntervals}
 use Rattle.pywr.specs.StepIntervals.{Intervals, ordered}
 use Rattle.pywr.specs.Store.{Store, nodeCount, aggregateCount, storageCount, shapeOf}
 use Rattle.step_file.specs.Decoded.{decoded}
-use Rattle.interval_laws.specs.Held.{Held}
+use Rattle.step_work.specs.Held.{Held}
 
 -- the intervals that a file gives on a store
 unfoldable pub intervalsIn : Store → List ℕ → Intervals

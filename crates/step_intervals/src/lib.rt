@@ -1,5 +1,5 @@
 // The intervals of a step, written into the lent work run, and refusals 14 and 15.
-use double_field::f64_at;
+use fields::f64_at;
 use pywr::Answer;
 ghost use mathlib.Core.Path.{_≡_};
 ghost use Prim.Native.Nat.{_≤_};
@@ -16,12 +16,18 @@ pub fn find_intervals(file: &[u8], shape: &[u16], work: &mut [f64]) -> Answer
 {
     let days = f64_at(file, 4);
     let sentinel = store_shape::kept_sentinel(shape);
-    let r = node_intervals::find_node_intervals(file, shape, days, sentinel, work);
+    let r = step_node_intervals::find_node_intervals(file, shape, days, sentinel, work);
     match r {
         Answer::Refused(number, place) => Answer::Refused(number, place),
         Answer::Accepted => {
-            aggregate_intervals::find_aggregate_intervals(file, shape, work);
-            storage_intervals::find_storage_intervals(file, shape, days, sentinel, work)
+            step_aggregate_intervals::find_aggregate_intervals(file, shape, work);
+            step_virtual_storage_intervals::find_storage_intervals(
+                file,
+                shape,
+                days,
+                sentinel,
+                work,
+            )
         }
     }
 }

@@ -11,7 +11,7 @@ use Rattle.pywr.specs.Misshapen.{edgeFits, allEntries}
 use Rattle.pywr.specs.Costs.{stepCosts}
 use Rattle.pywr.specs.StepIntervals.{Intervals}
 use Rattle.step_file.specs.Decoded.{decoded}
-use Rattle.constraint_bounds.specs.ConstraintBounds.{storeOf, StepRuns, StepWritten, HasRuns, HeldIn}
+use Rattle.step_rows.specs.ConstraintBounds.{storeOf, StepRuns, StepWritten, HasRuns, HeldIn}
 
 -- as `update_edge_objectives` asks
 abbrev pub CostsReady : List ℕ → List Float → List ℕ → Type 0

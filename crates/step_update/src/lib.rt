@@ -18,8 +18,8 @@ pub fn update(
         × RowsUpdated (now («row_lower» .entry)) (now («row_upper» .entry)) (now (elements .entry)) (now (columns .entry)) (now («row_starts» .entry)) (now (shape .entry)) (now (work .entry))
         (now («row_lower» .exit)) (now («row_upper» .exit)) (now (elements .exit)) ⌝ }
 {
-    edge_objectives::update_edge_objectives(file, shape, col_obj_coef);
-    constraint_bounds::update_constraint_bounds(
+    step_costs::update_edge_objectives(file, shape, col_obj_coef);
+    step_rows::update_constraint_bounds(
         row_lower,
         row_upper,
         elements,

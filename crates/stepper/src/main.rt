@@ -5,15 +5,15 @@
 use libc::STDERR_FILENO;
 use libc::STDOUT_FILENO;
 use program_store::Runs;
+use program_streams::FileRead;
 use pywr::Answer;
 use pywr::Sentinel;
-use streams::FileRead;
 ghost use mathlib.Core.Path.{_≡_};
 ghost use Prim.Native.Nat.{_<_, _≤_};
 ghost use lib.ListN.{length};
 
 fn write_usage(fd: i32) -> bool {
-    streams::write_all(
+    program_streams::write_all(
         fd,
         b"usage: stepper [--finite] NETWORK [STEP]..\nBuilds the network and runs the step files in turn; lists the linear programme after each, or the fresh build without steps.\n",
     )
@@ -21,7 +21,7 @@ fn write_usage(fd: i32) -> bool {
 
 // Says what could not be done, and why.
 fn tell(what: &[u8]) {
-    streams::write_all(STDERR_FILENO, b"stepper: ");
+    program_streams::write_all(STDERR_FILENO, b"stepper: ");
     os::fail(what);
 }
 
@@ -32,9 +32,9 @@ fn tell_unwritten(written: bool) {
 }
 
 fn tell_unknown(option: &[u8]) {
-    streams::write_all(STDERR_FILENO, b"stepper: unknown option ");
-    streams::write_all(STDERR_FILENO, option);
-    streams::write_all(STDERR_FILENO, b"\n");
+    program_streams::write_all(STDERR_FILENO, b"stepper: unknown option ");
+    program_streams::write_all(STDERR_FILENO, option);
+    program_streams::write_all(STDERR_FILENO, b"\n");
     write_usage(STDERR_FILENO);
 }
 
@@ -58,7 +58,7 @@ fn read_argument(k: usize, buffer: &mut [u8]) -> FileRead
     if os::errno() != 0 {
         return failed(b"argument");
     }
-    let read = streams::read_named(&name[..n], buffer);
+    let read = program_streams::read_named(&name[..n], buffer);
     if !read.done {
         return failed(&name[..n]);
     }

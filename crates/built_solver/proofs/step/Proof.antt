@@ -7,7 +7,7 @@ use borrow.Author.Tests.{not-true, not-false}
 use Rattle.pywr.specs.Store.{Store}
 use Rattle.pywr.specs.Calls.{stepRoom}
 use Rattle.store.proofs.Passed.{lengths, shaped}
-use Rattle.constraint_bounds.specs.ConstraintBounds as rows
+use Rattle.step_rows.specs.ConstraintBounds as rows
 use Rattle.step_checks.proofs.JudgeLaws.{room-store, room-work}
 use Rattle.built_solver.proofs.FinishLaws.{storeOf, edges-fit, short, refuse, finish}
 use Rattle.built_solver.proofs.step.Statement.{statement}

@@ -5,7 +5,7 @@ use mathlib.Core.Path.{_≡_, sym, _∙_}
 use Prim.Native.Nat.{_+_, _*_, _-_, _≤_}
 use Rattle.pywr.specs.NetworkFile.{firstRefused, badConstant}
 use Rattle.fields.specs.Records.{recordsAt}
-use Rattle.node.specs.Node.{nodeAt}
+use Rattle.network_node.specs.Node.{nodeAt}
 use Rattle.network_laws.specs.NetworkAt.{nodesAt}
 use Rattle.network_record.specs.Counts.{networkOf}
 use Rattle.network_checks.proofs.NodeLoops.{refused-here, refused-later, refused-none}

@@ -7,7 +7,7 @@ use Prim.Native.Nat.{_+_, _*_, _-_, _≤_}
 use Rattle.pywr.specs.Network.{source, target}
 use Rattle.fields.specs.Records.{recordsAt}
 use Rattle.fields.proofs.RecordLaws.{records-over}
-use Rattle.edge.specs.Edge.{edgeAt}
+use Rattle.network_edge.specs.Edge.{edgeAt}
 use Rattle.network_laws.specs.NetworkAt.{edgesAt}
 use Rattle.network_checks.specs.Marks.{markAll}
 use Rattle.network_checks.proofs.MarkLoops.{end-read, mark-edge}

@@ -4,7 +4,7 @@ use mathlib.Core.Path.{_≡_, sym, _∙_, ap, subst}
 use Prim.Native.Nat.{_-_, _≤_}
 use Rattle.fields.specs.Records.{recordsAt, recordsEnd}
 use Rattle.fields.proofs.RecordLaws.{records-over, end-more}
-use Rattle.aggregated_node.specs.AggregatedNode.{aggregateAt, aggregateEnd}
+use Rattle.network_aggregate.specs.AggregatedNode.{aggregateAt, aggregateEnd}
 use Rattle.network_laws.specs.Passed.{AggregatePassed}
 use Rattle.network_checks.specs.Marks.{markExclusive}
 use Rattle.network_checks.proofs.MarkLoops.{fields-within, mark-aggregate}

@@ -6,7 +6,7 @@ use Prim.Native.Nat.{_+_, _*_, _-_, _≤_}
 use Rattle.pywr.specs.Bytes.{le16}
 use Rattle.fields.specs.Records.{recordsAt}
 use Rattle.fields.proofs.RecordLaws.{records-over}
-use Rattle.aggregated_node.specs.AggregatedNode.{setAt}
+use Rattle.network_aggregate.specs.AggregatedNode.{setAt}
 use Rattle.network_checks.specs.Marks.{markAll}
 use Rattle.network_checks.proofs.MarkLoops.{mark-member}
 use borrow.Author.Needs.{needs}

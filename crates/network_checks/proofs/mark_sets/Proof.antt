@@ -5,7 +5,7 @@ use mathlib.Core.Path.{_≡_, sym, _∙_, ap, subst}
 use Prim.Native.Nat.{ℕ, _+_, _-_, _≤_}
 use Rattle.fields.specs.Records.{recordsAt, recordsEnd}
 use Rattle.fields.proofs.RecordLaws.{records-over, end-more}
-use Rattle.aggregated_node.specs.AggregatedNode.{setAt, setEnd, aggregateAt}
+use Rattle.network_aggregate.specs.AggregatedNode.{setAt, setEnd, aggregateAt}
 use Rattle.network_laws.specs.Passed.{SetPassed}
 use Rattle.network_checks.specs.Marks.{markSets}
 use Rattle.network_checks.proofs.MarkLoops.{fields-within, mark-one-set}

@@ -1,5 +1,5 @@
 -- `pywr_build` meets its contract. Assumes nothing.
-use Rattle.crossing.proofs.CrossingLaws.{build-crossed}
+use Rattle.pywr_c_answers.proofs.CrossingLaws.{build-crossed}
 use Rattle.pywr_c.proofs.pywr_build.Statement.{statement}
 use Rattle.pywr_c.proofs.pywr_build.Tie as tie
 

@@ -1,5 +1,5 @@
 -- `pywr_row` meets its contract. Assumes nothing.
-use Rattle.crossing.proofs.CrossingLaws.{inside-rises, row-crossed}
+use Rattle.pywr_c_answers.proofs.CrossingLaws.{inside-rises, row-crossed}
 use Rattle.pywr_c.proofs.pywr_row.Statement.{statement}
 use Rattle.pywr_c.proofs.pywr_row.Tie as tie
 

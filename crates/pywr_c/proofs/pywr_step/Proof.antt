@@ -1,5 +1,5 @@
 -- `pywr_step` meets its contract. Assumes nothing.
-use Rattle.crossing.proofs.CrossingLaws.{step-crossed}
+use Rattle.pywr_c_answers.proofs.CrossingLaws.{step-crossed}
 use Rattle.pywr_c.proofs.pywr_step.Statement.{statement}
 use Rattle.pywr_c.proofs.pywr_step.Tie as tie
 

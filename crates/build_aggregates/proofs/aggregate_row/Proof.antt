@@ -1,0 +1,83 @@
+-- `build_aggregates::aggregate_row` meets its contract. The invariant: the sets left, added to the row so far, make the aggregate's row. Assumes nothing.
+use mathlib.Core.Path.{_≡_, refl, _∙_}
+use Prim.Native.Nat.{_+_, _-_, _<_}
+use native.Mathlib.Omega.{arith}
+use lib.ListN.{length}
+use Rattle.pywr.specs.Bytes.{byte}
+use Rattle.fields.specs.Records.{recordsEnd}
+use Rattle.network_aggregate.specs.AggregatedNode.{setEnd}
+use Rattle.build_aggregates.proofs.AggregateLaws.{AddingSets, sets-none, sets-more, sets-all, fields-within, set-within, set-nodes, set-next}
+use borrow.Author.Needs.{needs}
+use Rattle.build_aggregates.proofs.aggregate_row.Statement.{statement}
+use Rattle.build_aggregates.proofs.aggregate_row.Tie as tie
+
+abbrev Inv-loop : tie.InvT-loop
+Inv-loop s c first-in next-in first-out next-out edge-to-col at columns₀ elements₀ sets here₀ n₀ i₀ columns elements here n i =
+    AddingSets s c at i here columns elements n × (here ≡ recordsEnd (setEnd s) i (at + 12)) × (length elements ≡ length elements₀)
+
+abbrev μ-loop : tie.MeasureT-loop
+μ-loop s c first-in next-in first-out next-out edge-to-col at columns₀ elements₀ sets here₀ n₀ i₀ columns elements here n i = sets - i
+
+set-count-requires : tie.Need-set-count-requires Inv-loop μ-loop
+set-count-requires c κs =
+    fields-within _ _ _ (c .before .before .pre .1)
+
+add-here : tie.Need-add-here Inv-loop μ-loop
+add-here c =
+    omega (arith, fields-within _ _ _ (c .before .before .before .pre .1))
+
+loop-holds : tie.Need-loop-holds Inv-loop μ-loop
+unfolding recordsEnd
+loop-holds c =
+    (sets-none _ (c .before .before .before .args .c) _ _ _, refl, refl)
+
+add-nodes-requires : tie.Need-add-nodes-requires Inv-loop μ-loop
+add-nodes-requires c κs =
+    let t = c .before .before .before .before .before .before .before in
+    let l = c .before .before .before .loop in
+    let lt : l .i < byte (t .args .s .now) (t .args .at + 3) = omega (arith, c .before .before .before .before .set-count .ensures .0, c .before .before .loop-test .taken) in
+    (t .pre .0, set-within _ _ _ (t .pre .1) _ _ lt (l .inv .1), set-nodes _ _ _ (t .pre .1) _ _ lt (l .inv .1), l .inv .0 .few, omega (arith, l .inv .2, t .pre .2), l .inv .0 .rising)
+
+set-end-requires : tie.Need-set-end-requires Inv-loop μ-loop
+set-end-requires c κs =
+    let t = c .before .before .before .before .before .before .before .before .before .before in
+    let l = c .before .before .before .before .before .before .loop in
+    let lt : l .i < byte (t .args .s .now) (t .args .at + 3) = omega (arith, c .before .before .before .before .before .before .before .set-count .ensures .0, c .before .before .before .before .before .loop-test .taken) in
+    omega (arith, set-within _ _ _ (t .pre .1) _ _ lt (l .inv .1))
+
+loop-again : tie.Need-loop-again Inv-loop μ-loop
+loop-again c =
+    let c3 = c .before .before .before in
+    let c6 = c3 .before .before .before in
+    let c7 = c6 .before in
+    let c8 = c7 .before in
+    let c11 = c8 .before .before .before in
+    let t = c11 in
+    let l = c7 .loop in
+    let lt : l .i < byte (t .args .s .now) (t .args .at + 3) = omega (arith, c8 .set-count .ensures .0, c6 .loop-test .taken) in
+    (sets-more _ (t .args .c) _ _ _ _ _ _ (l .inv .0) _ _ _ _ lt (c .set-end .ensures) (c3 .add-nodes .ensures), set-next _ _ _ (t .pre .1) _ _ lt (l .inv .1) _ (c .set-end .ensures), c3 .add-nodes .kept .1 .1 .1 .1 .1 .1 .1 .1 .1 .0 ∙ l .inv .2)
+
+same-length : tie.Need-same-length Inv-loop μ-loop
+same-length c =
+    c .before .loop .inv .2
+
+returns : tie.Need-returns Inv-loop μ-loop
+returns c =
+    sets-all _ (c .before .before .before .before .before .args .c) _ _ _ _ _ _ (c .before .loop .inv .0) (omega (arith, c .before .before .set-count .ensures .0, c .loop-test .left))
+
+pub aggregate-row-spec : {M : Type 1} → statement M
+aggregate-row-spec =
+    tie.close
+    (tie.spec
+    Inv-loop
+    μ-loop
+    set-count-requires
+    add-here
+    loop-holds
+    add-nodes-requires
+    set-end-requires
+    (λ c. search needs)
+    (λ c. search needs)
+    loop-again
+    same-length
+    returns)

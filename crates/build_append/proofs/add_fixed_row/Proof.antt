@@ -1,0 +1,56 @@
+-- `build_append::add_fixed_row` meets its contract. Assumes nothing.
+use native.Mathlib.Omega.{arith}
+use lib.ListN.{length-set}
+use Rattle.build_append.proofs.AddLaws.{rows-over, elements-over, row-added}
+use borrow.Author.Needs.{needs}
+use Rattle.build_append.proofs.add_fixed_row.Statement.{statement}
+use Rattle.build_append.proofs.add_fixed_row.Tie as tie
+
+returns : tie.Need-returns
+returns c =
+    λ rows held. rows-over rows _ _ _ _ _ _ _ held (omega arith)
+
+returns-2 : tie.Need-returns-2
+returns-2 c =
+    let start = c .before .before .before .before .before in
+    λ rows held. elements-over rows _ _ _ _ _ _ _ held (start .pre .1) (omega (arith, c .before .before .run .given .0)) (start .pre .2) (omega arith)
+
+slice-write-numbers-2 : tie.Need-slice-write-numbers-2
+slice-write-numbers-2 c =
+    simp length-set (omega arith)
+
+returns-3 : tie.Need-returns-3
+returns-3 c =
+    let c3 = c .before .before .before in
+    let c5 = c3 .before .before in
+    let c6 = c5 .before in
+    let c7 = c6 .before in
+    let c10 = c7 .before .before .before in
+    let start = c10 in
+    λ rows held.
+    row-added rows _ _ _ _ _ _ _ held (start .pre .1) (omega (arith, c7 .run .given .0)) (start .pre .2) (start .pre .0) (omega (arith, c6 .if1 .left)) (omega (arith, c5 .if2 .left)) _ _ (c3 .put-columns .ensures) (c .start-word .ensures)
+
+pub add-fixed-row-spec : {M : Type 1} → statement M
+add-fixed-row-spec =
+    tie.close
+    (tie.spec
+    returns
+    (λ c. search needs)
+    returns-2
+    (λ c κs. search needs)
+    (λ c. search needs)
+    (λ c κs. search needs)
+    (λ c. search needs)
+    (λ c. search needs)
+    (λ c. search needs)
+    (λ c. search needs)
+    (λ c. search needs)
+    (λ c. search needs)
+    (λ c. search needs)
+    (λ c. search needs)
+    slice-write-numbers-2
+    (λ c. search needs)
+    (λ c. search needs)
+    (λ c. search needs)
+    (λ c. search needs)
+    returns-3)

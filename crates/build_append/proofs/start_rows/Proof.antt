@@ -1,0 +1,20 @@
+-- `build_append::start_rows` meets its contract. Assumes nothing.
+use native.Mathlib.Omega.{arith}
+use lib.Seq.{drop-set-lt}
+use Rattle.build_append.proofs.HeldLaws.{held-none}
+use borrow.Author.Needs.{needs}
+use Rattle.build_append.proofs.start_rows.Statement.{statement}
+use Rattle.build_append.proofs.start_rows.Tie as tie
+
+returns : tie.Need-returns
+returns c =
+    let words = c .args .words .now in
+    (λ numbers. held-none words numbers (omega arith), drop-set-lt 5121 words 4096 0 (omega arith))
+
+pub start-rows-spec : {M : Type 1} → statement M
+start-rows-spec =
+    tie.close
+    (tie.spec
+    (λ c. search needs)
+    (λ c. search needs)
+    returns)

@@ -1,0 +1,92 @@
+// The rows of a programme in the making (LpBuilder of builder.rs).
+// Rows that become the last rows of a programme in turn. Laws only.
+ghost use mathlib.Core.Path.{_≡_};
+ghost use mathlib.Core.List.{List, [], _∷_, _++_};
+ghost use Prim.Native.Nat.{_+_, _<_, _≤_};
+ghost use lib.ListN.{length, take, drop};
+ghost use lib.Seq.{sets};
+ghost use lib.Ieee.{Float};
+ghost use Rattle.pywr.specs.Programme.{Row};
+ghost use Rattle.build_row.specs.RowBuilder.{gathered, Rising};
+ghost use Rattle.build_append.specs.LpBuilder.{Held, AfterRows};
+
+// How many rows and elements the work runs hold.
+pub struct Filled {
+    pub rows: usize,
+    pub elements: usize,
+}
+
+// What adding rows answers: how much the work runs hold now, or that the programme is over its ceilings.
+pub enum RowsAdded {
+    Done(Filled),
+    Full,
+}
+
+// No rows yet.
+pub fn start_rows(words: &mut [u16])
+    requires { ⌜ 24844 ≤ length (now words) ⌝ }
+    ensures { λ _. ⌜ ((numbers : List Float) → Held [] (now (words .exit)) numbers (record { rows = 0; elements = 0 })) × (drop 5121 (now (words .exit)) ≡ drop 5121 (now (words .entry))) ⌝ }
+{
+    words[4096] = 0;
+}
+
+// A column number and a row start in the width of the words.
+fn column_word(column: u32) -> u16
+    requires { ⌜ column < 640 ⌝ }
+    ensures { λ r. ⌜ r ≡ column ⌝ }
+{
+    column as u16
+}
+
+fn start_word(start: usize) -> u16
+    requires { ⌜ start ≤ 4096 ⌝ }
+    ensures { λ r. ⌜ r ≡ start ⌝ }
+{
+    start as u16
+}
+
+// The first n column numbers, put into words from `at` on.
+fn put_columns(words: &mut [u16], at: usize, columns: &[u32], n: usize)
+    requires { ⌜ (at + n ≤ length (now words)) × (n ≤ length (now columns)) × Rising (now columns) n ⌝ }
+    ensures { λ _. ⌜ now (words .exit) ≡ sets (now (words .entry)) at (take n (now (columns .entry))) ⌝ }
+{
+    let mut i: usize = 0;
+    while i < n {
+        words[at + i] = column_word(columns[i]);
+        i += 1;
+    }
+}
+
+// The gathered row, its elements already in place, becomes the last row.
+pub fn add_fixed_row(
+    words: &mut [u16],
+    numbers: &mut [f64],
+    columns: &[u32; 640],
+    n: usize,
+    f: Filled,
+    bounds: pywr::Interval,
+) -> RowsAdded
+    requires { ⌜ (24844 ≤ length (now words)) × (6784 ≤ length (now numbers)) × (n ≤ 640) × (f .rows ≤ 1024) × (f .elements ≤ 4096) × Rising (now columns) n ⌝ }
+    ensures { λ r. ⌜ ((rows : List Row) → Held rows (now (words .entry)) (now (numbers .entry)) f
+        → AfterRows (rows ++ (record { lower = bounds .lower; upper = bounds .upper; elements = gathered (now (columns .entry)) (drop (2048 + f .elements) (now (numbers .entry))) n } ∷ []))
+        (now (words .entry)) r (now (words .exit)) (now (numbers .exit))) ⌝ }
+{
+    // a slice's length is known to the proof
+    let run: &[u32] = columns;
+    let rows = f.rows;
+    let elements = f.elements;
+    if 1024 <= rows {
+        return RowsAdded::Full;
+    }
+    if 4096 < elements + n {
+        return RowsAdded::Full;
+    }
+    put_columns(words, elements, run, n);
+    words[4096 + rows + 1] = start_word(elements + n);
+    numbers[rows] = bounds.lower;
+    numbers[1024 + rows] = bounds.upper;
+    RowsAdded::Done(Filled {
+        rows: rows + 1,
+        elements: elements + n,
+    })
+}

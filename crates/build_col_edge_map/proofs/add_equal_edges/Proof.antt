@@ -1,0 +1,55 @@
+-- `build_col_edge_map::add_equal_edges` meets its contract. Assumes nothing.
+use Rattle.build_col_edge_map.proofs.MappedLaws.{equal-new, equal-edge, equal-before, equal-both}
+use borrow.Author.Needs.{needs}
+use Rattle.build_col_edge_map.proofs.add_equal_edges.Statement.{statement}
+use Rattle.build_col_edge_map.proofs.add_equal_edges.Tie as tie
+
+returns : tie.Need-returns
+returns c =
+    let e = c .before .before .before .before .before .before .wide16 .ensures .0 in
+    let b = c .before .before .before .before .before .wide162 .ensures .0 in
+    (search needs, λ k m u w. rw (e, b, c .narrow16 .ensures) (equal-new k _ _ m _ u _ w (rw e at (c .before .before .if1 .taken)) (rw b at (c .before .if2 .taken))))
+
+returns-2 : tie.Need-returns-2
+returns-2 c =
+    let e = c .before .before .before .before .before .wide16 .ensures .0 in
+    let b = c .before .before .before .before .wide162 .ensures .0 in
+    (search needs, λ k m u w. rw (e, b) (equal-edge k _ _ m _ u _ w (rw e at (c .before .if1 .taken)) (rw b at (c .if2 .left))))
+
+returns-3 : tie.Need-returns-3
+returns-3 c =
+    let e = c .before .before .before .before .before .wide16 .ensures .0 in
+    let b = c .before .before .before .before .wide162 .ensures .0 in
+    (search needs, λ k m u w. rw (e, b) (equal-before k _ _ m _ u _ w (rw e at (c .before .if1 .left)) (rw b at (c .if3 .taken))))
+
+returns-4 : tie.Need-returns-4
+returns-4 c =
+    let e = c .before .before .before .before .before .wide16 .ensures .0 in
+    let b = c .before .before .before .before .wide162 .ensures .0 in
+    (search needs, λ k m u w. equal-both k _ _ m _ u _ w (rw e at (c .before .if1 .left)) (rw b at (c .if3 .left)))
+
+pub add-equal-edges-spec : {M : Type 1} → statement M
+add-equal-edges-spec =
+    tie.close
+    (tie.spec
+    (λ c κs. search needs)
+    (λ c κs. search needs)
+    (λ c. search needs)
+    (λ c. search needs)
+    (λ c. search needs)
+    (λ c. search needs)
+    (λ c. search needs)
+    (λ c κs. search needs)
+    (λ c. search needs)
+    (λ c. search needs)
+    (λ c. search needs)
+    (λ c. search needs)
+    (λ c. search needs)
+    returns
+    (λ c. search needs)
+    (λ c. search needs)
+    returns-2
+    (λ c. search needs)
+    (λ c. search needs)
+    returns-3
+    returns-4)

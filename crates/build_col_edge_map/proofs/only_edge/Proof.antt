@@ -1,0 +1,42 @@
+-- `build_col_edge_map::only_edge` meets its contract. Assumes nothing.
+use native.Mathlib.Omega.{arith}
+use Rattle.build_col_edge_map.proofs.Turn.{only-none, only-one, only-more}
+use borrow.Author.Needs.{needs}
+use Rattle.build_col_edge_map.proofs.only_edge.Statement.{statement}
+use Rattle.build_col_edge_map.proofs.only_edge.Tie as tie
+
+returns : tie.Need-returns
+returns c =
+    rw (← (c .before .before .wide16 .ensures .0)) (λ size js l. only-none size _ _ js l (c .if1 .taken))
+
+element-copy-out-if2 : tie.Need-element-copy-out-if2
+element-copy-out-if2 c =
+    let c3 = c .before .before .before in
+    omega (arith, c .wide162 .ensures .0, rw (← (c3 .wide16 .ensures .0)) at (c3 .before .pre .1))
+
+returns-2 : tie.Need-returns-2
+returns-2 c =
+    let c2 = c .before .before in
+    let c3 = c2 .before in
+    rw (← (c3 .before .before .wide16 .ensures .0)) (λ size js l. only-one size _ _ js l (c3 .if1 .left) (rw (c2 .wide162 .ensures .0) at (c .if2 .taken)))
+
+returns-3 : tie.Need-returns-3
+returns-3 c =
+    let c2 = c .before .before in
+    let c3 = c2 .before in
+    rw (← (c3 .before .before .wide16 .ensures .0)) (λ size js l. only-more size _ _ js l (c3 .if1 .left) (rw (c2 .wide162 .ensures .0) at (c .if2 .left)))
+
+pub only-edge-spec : {M : Type 1} → statement M
+only-edge-spec =
+    tie.close
+    (tie.spec
+    (λ c κs. search needs)
+    (λ c. search needs)
+    (λ c. search needs)
+    returns
+    (λ c κs. search needs)
+    (λ c. search needs)
+    (λ c. search needs)
+    element-copy-out-if2
+    returns-2
+    returns-3)

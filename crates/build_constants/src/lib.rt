@@ -1,0 +1,255 @@
+// The rows of the constant nodes (SolverBuilder::create_node_constraints of builder.rs).
+ghost use mathlib.Core.Path.{_≡_};
+ghost use Prim.Native.Nat.{_*_, _<_, _≤_};
+ghost use mathlib.Core.List.{List, [], _∷_, _++_};
+ghost use lib.ListN.{length};
+ghost use Rattle.pywr.specs.ExclusiveSets.{setsListing};
+ghost use Rattle.pywr.specs.Rows.{columnMap, nodeRow};
+ghost use Rattle.pywr.specs.FixedRows.{exclusiveRows, constantRowsFrom};
+ghost use Rattle.pywr.specs.Programme.{Row};
+ghost use Rattle.network_node.specs.Node.{nodeAt};
+ghost use Rattle.build_append.specs.LpBuilder.{Held, Holding, AfterRows};
+ghost use Rattle.build_node_row.specs.Tables.{networkOf, EdgeTables, ListingTables};
+ghost use Rattle.build_node_row.specs.EdgeColumns.{edgeColumns};
+use build_append::Filled;
+use build_append::RowsAdded;
+use network_record::Counts;
+use pywr::Interval;
+use pywr::NodeIndex;
+use pywr::Sentinel;
+
+// A constant node's row, with its min and max as bounds, becomes the last row.
+fn add_node_row(
+    s: &[u8],
+    c: Counts,
+    first_in: &[u16; 256],
+    next_in: &[u16; 512],
+    first_out: &[u16; 256],
+    next_out: &[u16; 512],
+    edge_to_col: &[u16; 512],
+    node: NodeIndex,
+    words: &mut [u16],
+    numbers: &mut [f64],
+    columns: &mut [u32; 640],
+    f: Filled,
+) -> RowsAdded
+    requires { ⌜ EdgeTables (now s) c (now «first_in») (now «next_in») (now «first_out») (now «next_out») (now «edge_to_col») × (node .0 < c .nodes)
+        × (24844 ≤ length (now words)) × (6784 ≤ length (now numbers)) × Holding (now words) (now numbers) f ⌝ }
+    ensures { λ r. ⌜ ((rows : List Row) → Held rows (now (words .entry)) (now (numbers .entry)) f
+        → AfterRows (rows ++ (record { lower = nodeAt (now (s .entry)) (20 * node .0) .min; upper = nodeAt (now (s .entry)) (20 * node .0) .max; elements = nodeRow (columnMap (networkOf (now (s .entry)) c)) (node .0) } ∷ []))
+        (now (words .entry)) r (now (words .exit)) (now (numbers .exit))) ⌝ }
+{
+    let at = 2048 + f.elements;
+    let n = build_node_row::add_node(
+        s,
+        c,
+        first_in,
+        next_in,
+        first_out,
+        next_out,
+        edge_to_col,
+        node,
+        1.0,
+        columns,
+        &mut numbers[at..],
+        0,
+    );
+    build_append::add_fixed_row(
+        words,
+        numbers,
+        columns,
+        n,
+        f,
+        Interval {
+            lower: network_node::min(s, node),
+            upper: network_node::max(s, node),
+        },
+    )
+}
+
+// The rows of a constant node in the exclusive sets that list it, once for each listing: listing j is of the set numbered j / 16.
+fn add_exclusive_rows(
+    s: &[u8],
+    c: Counts,
+    first_in: &[u16; 256],
+    next_in: &[u16; 512],
+    first_out: &[u16; 256],
+    next_out: &[u16; 512],
+    edge_to_col: &[u16; 512],
+    edge_columns: usize,
+    first_listing: &[u16; 256],
+    next_listing: &[u16; 2048],
+    node: NodeIndex,
+    sentinel: Sentinel,
+    words: &mut [u16],
+    numbers: &mut [f64],
+    columns: &mut [u32; 640],
+    f: Filled,
+) -> RowsAdded
+    requires { ⌜ EdgeTables (now s) c (now «first_in») (now «next_in») (now «first_out») (now «next_out») (now «edge_to_col») × (node .0 < c .nodes)
+        × («edge_columns» ≡ edgeColumns (now s) c) × ListingTables (now s) c (now «first_listing») (now «next_listing»)
+        × (24844 ≤ length (now words)) × (6784 ≤ length (now numbers)) × Holding (now words) (now numbers) f ⌝ }
+    ensures { λ r. ⌜ ((rows : List Row) → Held rows (now (words .entry)) (now (numbers .entry)) f
+        → AfterRows (rows ++ exclusiveRows sentinel (columnMap (networkOf (now (s .entry)) c)) (node .0) (nodeAt (now (s .entry)) (20 * node .0)) (setsListing (node .0) 0 (columnMap (networkOf (now (s .entry)) c) .sets)))
+        (now (words .entry)) r (now (words .exit)) (now (numbers .exit))) ⌝ }
+{
+    let k = fields::wide16(node.0);
+    let mut filled = f;
+    let mut link = fields::wide16(first_listing[k]);
+    while link != 0 {
+        let listing = link - 1;
+        let r = build_set_rows::add_bounded_rows(
+            s,
+            c,
+            first_in,
+            next_in,
+            first_out,
+            next_out,
+            edge_to_col,
+            edge_columns,
+            node,
+            listing / 16,
+            sentinel,
+            words,
+            numbers,
+            columns,
+            filled,
+        );
+        match r {
+            RowsAdded::Full => {
+                return RowsAdded::Full;
+            }
+            RowsAdded::Done(g) => {
+                filled = g;
+                link = fields::wide16(next_listing[listing]);
+            }
+        }
+    }
+    RowsAdded::Done(filled)
+}
+
+// The rows of a constant node; a varying one has none here.
+fn add_constant_rows(
+    s: &[u8],
+    c: Counts,
+    first_in: &[u16; 256],
+    next_in: &[u16; 512],
+    first_out: &[u16; 256],
+    next_out: &[u16; 512],
+    edge_to_col: &[u16; 512],
+    edge_columns: usize,
+    first_listing: &[u16; 256],
+    next_listing: &[u16; 2048],
+    node: NodeIndex,
+    sentinel: Sentinel,
+    words: &mut [u16],
+    numbers: &mut [f64],
+    columns: &mut [u32; 640],
+    f: Filled,
+) -> RowsAdded
+    requires { ⌜ EdgeTables (now s) c (now «first_in») (now «next_in») (now «first_out») (now «next_out») (now «edge_to_col») × (node .0 < c .nodes)
+        × («edge_columns» ≡ edgeColumns (now s) c) × ListingTables (now s) c (now «first_listing») (now «next_listing»)
+        × (24844 ≤ length (now words)) × (6784 ≤ length (now numbers)) × Holding (now words) (now numbers) f ⌝ }
+    ensures { λ r. ⌜ ((rows : List Row) → Held rows (now (words .entry)) (now (numbers .entry)) f
+        → AfterRows (rows ++ constantRowsFrom sentinel (columnMap (networkOf (now (s .entry)) c)) (node .0) (nodeAt (now (s .entry)) (20 * node .0) ∷ []))
+        (now (words .entry)) r (now (words .exit)) (now (numbers .exit))) ⌝ }
+{
+    if !network_node::is_constant(s, node) {
+        return RowsAdded::Done(f);
+    }
+    let k = fields::wide16(node.0);
+    if first_listing[k] == 0 {
+        return add_node_row(
+            s,
+            c,
+            first_in,
+            next_in,
+            first_out,
+            next_out,
+            edge_to_col,
+            node,
+            words,
+            numbers,
+            columns,
+            f,
+        );
+    }
+    add_exclusive_rows(
+        s,
+        c,
+        first_in,
+        next_in,
+        first_out,
+        next_out,
+        edge_to_col,
+        edge_columns,
+        first_listing,
+        next_listing,
+        node,
+        sentinel,
+        words,
+        numbers,
+        columns,
+        f,
+    )
+}
+
+// The rows of all constant nodes, in node order.
+pub fn create_constant_constraints(
+    s: &[u8],
+    c: Counts,
+    first_in: &[u16; 256],
+    next_in: &[u16; 512],
+    first_out: &[u16; 256],
+    next_out: &[u16; 512],
+    edge_to_col: &[u16; 512],
+    edge_columns: usize,
+    first_listing: &[u16; 256],
+    next_listing: &[u16; 2048],
+    sentinel: Sentinel,
+    words: &mut [u16],
+    numbers: &mut [f64],
+    columns: &mut [u32; 640],
+    f: Filled,
+) -> RowsAdded
+    requires { ⌜ EdgeTables (now s) c (now «first_in») (now «next_in») (now «first_out») (now «next_out») (now «edge_to_col»)
+        × («edge_columns» ≡ edgeColumns (now s) c) × ListingTables (now s) c (now «first_listing») (now «next_listing»)
+        × (24844 ≤ length (now words)) × (6784 ≤ length (now numbers)) × Holding (now words) (now numbers) f ⌝ }
+    ensures { λ r. ⌜ ((rows : List Row) → Held rows (now (words .entry)) (now (numbers .entry)) f
+        → AfterRows (rows ++ constantRowsFrom sentinel (columnMap (networkOf (now (s .entry)) c)) 0 (networkOf (now (s .entry)) c .nodes))
+        (now (words .entry)) r (now (words .exit)) (now (numbers .exit))) ⌝ }
+{
+    let nodes = c.nodes;
+    let mut filled = f;
+    let mut i: usize = 0;
+    while i < nodes {
+        let r = add_constant_rows(
+            s,
+            c,
+            first_in,
+            next_in,
+            first_out,
+            next_out,
+            edge_to_col,
+            edge_columns,
+            first_listing,
+            next_listing,
+            NodeIndex(fields::narrow16(i)),
+            sentinel,
+            words,
+            numbers,
+            columns,
+            filled,
+        );
+        match r {
+            RowsAdded::Full => {
+                return RowsAdded::Full;
+            }
+            RowsAdded::Done(g) => {
+                filled = g;
+                i += 1;
+            }
+        }
+    }
+    RowsAdded::Done(filled)
+}

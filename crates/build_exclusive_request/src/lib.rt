@@ -1,0 +1,153 @@
+// The rows that a node asks for where exclusive sets list it: an upper and a lower one for each listing.
+ghost use mathlib.Core.Path.{_≡_};
+ghost use mathlib.Core.List.{List, [], _∷_, _++_};
+ghost use Prim.Native.Nat.{_+_, _<_, _≤_};
+ghost use lib.ListN.{length};
+ghost use Rattle.pywr.specs.Rows.{columnMap};
+ghost use Rattle.pywr.specs.VaryingRows.{RowRequest, exclusiveRequests};
+ghost use Rattle.build_node_row.specs.Tables.{networkOf, EdgeTables, ListingTables};
+ghost use Rattle.build_node_row.specs.EdgeColumns.{edgeColumns};
+ghost use Rattle.build_node_table.specs.NodeRows.{NodeRowsHeld, NodeRowsHolding, AfterRequests, requestsBefore, listedRequests};
+use build_node_table::NodeRows;
+use build_node_table::NodeRowsAdded;
+use network_record::Counts;
+use pywr::ColumnIndex;
+use pywr::NodeIndex;
+use pywr::Sentinel;
+
+// The types of node rows with a set (NodeRowType of builder.rs).
+const BINARY_UPPER: u16 = 1;
+
+const BINARY_LOWER: u16 = 2;
+
+// A node that a set lists asks for its upper row, then for its lower row.
+fn request_bounded_rows(
+    s: &[u8],
+    c: Counts,
+    first_in: &[u16; 256],
+    next_in: &[u16; 512],
+    first_out: &[u16; 256],
+    next_out: &[u16; 512],
+    edge_to_col: &[u16; 512],
+    edge_columns: usize,
+    node: NodeIndex,
+    set: u16,
+    sentinel: Sentinel,
+    words: &mut [u16],
+    numbers: &mut [f64],
+    columns: &mut [u32; 640],
+    rows: NodeRows,
+) -> NodeRowsAdded
+    requires { ⌜ EdgeTables (now s) c (now «first_in») (now «next_in») (now «first_out») (now «next_out») (now «edge_to_col») × (node .0 < c .nodes)
+        × («edge_columns» ≡ edgeColumns (now s) c) × (set < 128)
+        × (24844 ≤ length (now words)) × (6784 ≤ length (now numbers)) × NodeRowsHolding sentinel (now words) (now numbers) rows × (rows .count + 2 ≤ 4352) ⌝ }
+    ensures { λ r. ⌜ ((asks : List RowRequest) → NodeRowsHeld sentinel asks (now (words .entry)) (now (numbers .entry)) rows
+        → AfterRequests sentinel (asks ++ exclusiveRequests (columnMap (networkOf (now (s .entry)) c)) (node .0) (set ∷ [])) r (now (words .exit)) (now (numbers .exit))) ⌝ }
+{
+    let column = ColumnIndex(fields::narrow16(edge_columns + fields::wide16(set)));
+    let r = build_node_request::request_bounded_row(
+        s,
+        c,
+        first_in,
+        next_in,
+        first_out,
+        next_out,
+        edge_to_col,
+        node,
+        -1.0,
+        column,
+        1.0,
+        BINARY_UPPER,
+        set,
+        sentinel,
+        words,
+        numbers,
+        columns,
+        rows,
+    );
+    match r {
+        NodeRowsAdded::Full => NodeRowsAdded::Full,
+        NodeRowsAdded::Done(upper) => build_node_request::request_bounded_row(
+            s,
+            c,
+            first_in,
+            next_in,
+            first_out,
+            next_out,
+            edge_to_col,
+            node,
+            1.0,
+            column,
+            -1.0,
+            BINARY_LOWER,
+            set,
+            sentinel,
+            words,
+            numbers,
+            columns,
+            upper,
+        ),
+    }
+}
+
+// A node asks for two rows for each of its listings: listing j is of the set numbered j / 16.
+pub fn request_exclusive_rows(
+    s: &[u8],
+    c: Counts,
+    first_in: &[u16; 256],
+    next_in: &[u16; 512],
+    first_out: &[u16; 256],
+    next_out: &[u16; 512],
+    edge_to_col: &[u16; 512],
+    edge_columns: usize,
+    first_listing: &[u16; 256],
+    next_listing: &[u16; 2048],
+    node: NodeIndex,
+    sentinel: Sentinel,
+    words: &mut [u16],
+    numbers: &mut [f64],
+    columns: &mut [u32; 640],
+    rows: NodeRows,
+) -> NodeRowsAdded
+    requires { ⌜ EdgeTables (now s) c (now «first_in») (now «next_in») (now «first_out») (now «next_out») (now «edge_to_col») × (node .0 < c .nodes)
+        × («edge_columns» ≡ edgeColumns (now s) c) × ListingTables (now s) c (now «first_listing») (now «next_listing»)
+        × (24844 ≤ length (now words)) × (6784 ≤ length (now numbers))
+        × NodeRowsHeld sentinel (requestsBefore (columnMap (networkOf (now s) c)) (node .0)) (now words) (now numbers) rows
+        × (length (requestsBefore (columnMap (networkOf (now s) c)) (node .0) ++ listedRequests (columnMap (networkOf (now s) c)) (node .0)) ≤ 4352) ⌝ }
+    ensures { λ r. ⌜ AfterRequests sentinel (requestsBefore (columnMap (networkOf (now (s .entry)) c)) (node .0) ++ listedRequests (columnMap (networkOf (now (s .entry)) c)) (node .0))
+        r (now (words .exit)) (now (numbers .exit)) ⌝ }
+{
+    let k = fields::wide16(node.0);
+    let mut held = rows;
+    let mut link = first_listing[k];
+    while link != 0 {
+        let listing = link - 1;
+        let r = request_bounded_rows(
+            s,
+            c,
+            first_in,
+            next_in,
+            first_out,
+            next_out,
+            edge_to_col,
+            edge_columns,
+            node,
+            listing / 16,
+            sentinel,
+            words,
+            numbers,
+            columns,
+            held,
+        );
+        match r {
+            NodeRowsAdded::Full => {
+                return NodeRowsAdded::Full;
+            }
+            NodeRowsAdded::Done(more) => {
+                held = more;
+                link = next_listing[fields::wide16(listing)];
+            }
+        }
+    }
+    NodeRowsAdded::Done(held)
+}

@@ -1,0 +1,94 @@
+-- `build_exclusive_sets::add_sets` meets its contract: the first i sets were added where they were not known. Assumes nothing.
+use Prim.Native.Nat.{_-_}
+use native.Mathlib.Omega.{arith}
+use Rattle.network_laws.specs.Passed.{SetPassed}
+use Rattle.build_exclusive_sets.proofs.Accepted.{fields-within}
+use Rattle.build_exclusive_sets.proofs.AddSets.{Adding, adding-first, adding-known, adding-new, adding-over, adding-done}
+use borrow.Author.Needs.{needs}
+use Rattle.build_exclusive_sets.proofs.add_sets.Statement.{statement}
+use Rattle.build_exclusive_sets.proofs.add_sets.Tie as tie
+
+abbrev Inv-loop : tie.InvT-loop
+Inv-loop s at known set-at₀ sets count₀ here₀ i₀ set-at count here i = Adding s at set-at₀ known sets set-at count here i
+
+abbrev μ-loop : tie.MeasureT-loop
+μ-loop s at known set-at₀ sets count₀ here₀ i₀ set-at count here i = sets - i
+
+-- the set that stands next
+fits : (c : tie.In-loop Inv-loop μ-loop) → SetPassed (c .before .before .before .before .args .s .now) 256 (c .before .loop .here)
+fits c = rw (c .before .loop .inv .stands) (c .before .before .before .before .pre .0 .sets (c .before .loop .i) (omega (arith, c .before .loop .inv .size, c .loop-test .taken)))
+
+set-count-requires : tie.Need-set-count-requires Inv-loop μ-loop
+set-count-requires c κs =
+    fields-within _ _ _ (c .before .pre .0)
+
+add-here : tie.Need-add-here Inv-loop μ-loop
+add-here c =
+    let h = fields-within _ _ _ (c .before .before .pre .0) in search needs
+
+loop-holds : tie.Need-loop-holds Inv-loop μ-loop
+loop-holds c =
+    adding-first _ _ _ _ _ (c .set-count .ensures .0) (c .before .before .pre .1)
+
+set-number-requires : tie.Need-set-number-requires Inv-loop μ-loop
+set-number-requires c κs =
+    (c .before .before .loop .inv .fit, fits (c .before) .within)
+
+set-end-requires : tie.Need-set-end-requires Inv-loop μ-loop
+set-end-requires c κs =
+    let h = fits (c .before .before .before) .within in omega arith
+
+loop-again : tie.Need-loop-again Inv-loop μ-loop
+loop-again c =
+    rw (c .set-end .ensures) (adding-known _ _ _ _ _ _ _ _ _ (c .before .before .before .before .before .loop .inv) (c .before .before .before .before .loop-test .taken) (rw (c .before .before .set-number .ensures) at (c .before .if1 .taken)))
+
+returns : tie.Need-returns Inv-loop μ-loop
+returns c =
+    adding-over _ _ _ _ _ _ _ _ _ (c .before .before .before .before .before .loop .inv) (c .before .before .before .before .loop-test .taken) (rw (c .before .before .set-number .ensures) at (c .before .if1 .left)) (c .if2 .taken) _
+
+narrow16-requires : tie.Need-narrow16-requires Inv-loop μ-loop
+narrow16-requires c κs =
+    omega (arith, fits (c .before .before .before .before) .within, c .before .before .before .before .before .before .before .before .pre .2)
+
+set-end-requires-2 : tie.Need-set-end-requires-2 Inv-loop μ-loop
+set-end-requires-2 c κs =
+    let h = fits (c .before .before .before .before .before) .within in omega arith
+
+loop-again-2 : tie.Need-loop-again-2 Inv-loop μ-loop
+loop-again-2 c =
+    let c1 = c .before in
+    let c2 = c1 .before in
+    let c3 = c2 .before in
+    let c4 = c3 .before in
+    let c6 = c4 .before .before in
+    let c7 = c6 .before in
+    rw (c .set-end2 .ensures, c1 .narrow16 .ensures) (adding-new _ _ _ _ _ _ _ _ _ (c7 .loop .inv) (c6 .loop-test .taken) (rw (c4 .set-number .ensures) at (c3 .if1 .left)) (c2 .if2 .left) (fits (c6)))
+
+returns-2 : tie.Need-returns-2 Inv-loop μ-loop
+returns-2 c =
+    adding-done _ _ _ _ _ _ _ _ _ (c .before .loop .inv) (c .loop-test .left)
+
+pub add-sets-spec : {M : Type 1} → statement M
+add-sets-spec =
+    tie.close
+    (tie.spec
+    Inv-loop
+    μ-loop
+    set-count-requires
+    add-here
+    loop-holds
+    set-number-requires
+    set-end-requires
+    (λ c. search needs)
+    (λ c. search needs)
+    loop-again
+    returns
+    narrow16-requires
+    (λ c. search needs)
+    (λ c. search needs)
+    (λ c. search needs)
+    set-end-requires-2
+    (λ c. search needs)
+    (λ c. search needs)
+    loop-again-2
+    returns-2)

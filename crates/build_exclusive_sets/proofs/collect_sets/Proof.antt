@@ -1,0 +1,95 @@
+-- `build_exclusive_sets::collect_sets` meets its contract: the sets of the first i aggregates were collected. Assumes nothing.
+use Prim.Native.Nat.{_-_}
+use mathlib.Core.Path.{sym, _∙_}
+use native.Mathlib.Omega.{arith}
+use Rattle.network_laws.specs.Passed.{AggregatePassed}
+use Rattle.build_exclusive_sets.proofs.Accepted.{fields-within, few-bytes, aggregate-passed-256}
+use Rattle.build_exclusive_sets.proofs.CollectSets.{Collecting, collecting-first, collecting-plain, collecting-more, collecting-over, collecting-done, of-network}
+use borrow.Author.Needs.{needs}
+use Rattle.build_exclusive_sets.proofs.collect_sets.Statement.{statement}
+use Rattle.build_exclusive_sets.proofs.collect_sets.Tie as tie
+
+abbrev Inv-loop : tie.InvT-loop
+Inv-loop s set-at₀ aggregates count₀ at₀ i₀ set-at count at i = Collecting s at₀ aggregates set-at count at i
+
+abbrev μ-loop : tie.MeasureT-loop
+μ-loop s set-at₀ aggregates count₀ at₀ i₀ set-at count at i = aggregates - i
+
+-- the aggregate that stands next
+fits : (c : tie.In-loop Inv-loop μ-loop) → AggregatePassed (c .before .before .before .before .before .args .s .now) 256 (c .before .loop .at)
+fits c = rw (c .before .loop .inv .stands) (aggregate-passed-256 _ _ _ _ _ _ (c .before .before .before .before .before .pre .0) (c .before .loop .i) (c .loop-test .taken))
+
+loop-holds : tie.Need-loop-holds Inv-loop μ-loop
+loop-holds c =
+    collecting-first _ _ _ _ (c .before .before .before .pre .1)
+
+is-exclusive-requires : tie.Need-is-exclusive-requires Inv-loop μ-loop
+is-exclusive-requires c κs =
+    fields-within _ _ _ (fits c)
+
+add-sets-requires : tie.Need-add-sets-requires Inv-loop μ-loop
+add-sets-requires c κs =
+    (fits (c .before .before .before), c .before .before .before .before .loop .inv .fit, let h = few-bytes _ _ _ _ _ _ (c .before .before .before .before .before .before .before .before .pre .0) in omega arith)
+
+returns : tie.Need-returns Inv-loop μ-loop
+returns c =
+    let c2 = c .before .before in
+    let c4 = c2 .before .before in
+    let c5 = c4 .before in
+    let c6 = c5 .before in
+    let c7 = c6 .before in
+    let c11 = c7 .before .before .before .before in
+    let p = c11 .args in
+    of-network (p .s .now) (p .c .nodes) (p .c .edges) (p .c .aggregates) _ _ _ (collecting-over _ _ _ _ _ _ _ (c7 .loop .inv) (c6 .loop-test .taken) (sym (c5 .is-exclusive .ensures) ∙ c4 .if1 .taken) _ _ (c2 .add-sets .ensures) (c .enum-told .given .1))
+
+aggregate-end-requires : tie.Need-aggregate-end-requires Inv-loop μ-loop
+aggregate-end-requires c κs =
+    fits (c .before .before .before .before .before .before .before) .within
+
+loop-again : tie.Need-loop-again Inv-loop μ-loop
+loop-again c =
+    let c2 = c .before .before in
+    let c4 = c2 .before .before in
+    let c6 = c4 .before .before in
+    let c7 = c6 .before in
+    let c8 = c7 .before in
+    let c9 = c8 .before in
+    rw (c .aggregate-end .ensures) (collecting-more _ _ _ _ _ _ _ (c9 .loop .inv) (c8 .loop-test .taken) (sym (c7 .is-exclusive .ensures) ∙ c6 .if1 .taken) _ _ (c4 .add-sets .ensures) _ (c2 .r .given .1))
+
+aggregate-end-requires-2 : tie.Need-aggregate-end-requires-2 Inv-loop μ-loop
+aggregate-end-requires-2 c κs =
+    fits (c .before .before) .within
+
+loop-again-2 : tie.Need-loop-again-2 Inv-loop μ-loop
+loop-again-2 c =
+    rw (c .aggregate-end2 .ensures) (collecting-plain _ _ _ _ _ _ _ (c .before .before .before .before .loop .inv) (c .before .before .before .loop-test .taken) (sym (c .before .before .is-exclusive .ensures) ∙ c .before .if1 .left))
+
+returns-2 : tie.Need-returns-2 Inv-loop μ-loop
+returns-2 c =
+    let p = c .before .before .before .before .before .args in
+    of-network (p .s .now) (p .c .nodes) (p .c .edges) (p .c .aggregates) _ _ _ (collecting-done _ _ _ _ _ _ _ (c .before .loop .inv) (c .loop-test .left))
+
+pub collect-sets-spec : {M : Type 1} → statement M
+collect-sets-spec =
+    tie.close
+    (tie.spec
+    Inv-loop
+    μ-loop
+    (λ c. search needs)
+    (λ c. search needs)
+    (λ c. search needs)
+    loop-holds
+    is-exclusive-requires
+    add-sets-requires
+    (λ c. search needs)
+    returns
+    (λ c. search needs)
+    aggregate-end-requires
+    (λ c. search needs)
+    (λ c. search needs)
+    loop-again
+    aggregate-end-requires-2
+    (λ c. search needs)
+    (λ c. search needs)
+    loop-again-2
+    returns-2)

@@ -1,0 +1,43 @@
+-- The distinct exclusive sets by the offsets of their records, and the listings of a node: listing 16 k + i is member i of the set numbered k. Assumes nothing.
+use Prim.Native.Nat.{ℕ, suc, _*_, _<_, _≤_}
+use mathlib.Core.Path.{_≡_}
+use mathlib.Core.Logic.{_⊎_}
+use mathlib.Core.List.{List, [], _∷_, _++_, map}
+use lib.Dec.{eqb}
+use lib.ListN.{length, getD, take}
+use Rattle.pywr.specs.Network.{keepIf}
+use Rattle.network_aggregate.specs.AggregatedNode.{setAt}
+use Rattle.network_laws.specs.Passed.{SetPassed}
+use Rattle.laws.specs.Linked.{Linked}
+use Rattle.build_exclusive_sets.specs.declared.Sets.{Sets}
+
+-- the first `count` of 128 places are offsets of sets of an accepted file, whose nodes are at most 256
+pub record SetsFit (file places : List ℕ) (count : ℕ) : Type 0 where
+  pub long : length places ≡ 128
+  pub few : count ≤ 128
+  pub fit : (k : ℕ) → k < count → SetPassed file 256 (getD places k 0)
+
+abbrev pub setsAt : List ℕ → List ℕ → ℕ → List (List ℕ)
+setsAt file places count = map (setAt file) (take count places)
+
+-- the sets were collected, or they are over the ceiling of 128
+pub record Collected (file : List ℕ) (sets : List (List ℕ)) (r : Sets) (places : List ℕ) : Type 0 where
+  pub held : (k : ℕ) → r ≡ Sets.Count k → (setsAt file places k ≡ sets) × SetsFit file places k
+  pub over : r ≡ Sets.TooMany → 128 < length sets
+
+-- the places from j on at which node n stands in a set
+unfoldable pub placesIn : ℕ → ℕ → List ℕ → List ℕ
+placesIn n j [] = []
+placesIn n j (m ∷ ms) = keepIf (eqb m n) j (placesIn n (suc j) ms)
+
+-- the listings of node n in the sets numbered from k
+unfoldable pub listingsOf : ℕ → ℕ → List (List ℕ) → List ℕ
+listingsOf n k [] = []
+listingsOf n k (s ∷ ss) = placesIn n (16 * k) s ++ listingsOf n (suc k) ss
+
+-- every node's listings so far, none of them under `low`
+pub record Listings (low : ℕ) (first next : List ℕ) (of : ℕ → List ℕ) : Type 0 where
+  pub long-first : length first ≡ 256
+  pub long-next : length next ≡ 2048
+  pub linked : (n : ℕ) → n < 256 → Linked 2048 next (getD first n 0) (of n)
+  pub behind : (n : ℕ) → n < 256 → (getD first n 0 ≡ 0) ⊎ (low < getD first n 0)

@@ -1,0 +1,108 @@
+-- `build_exclusivity::create_mutual_exclusivity_constraints` meets its contract: the rows of the first i aggregates are held. Assumes nothing.
+use mathlib.Core.Path.{_≡_, refl, _∙_}
+use Prim.Native.Nat.{_-_}
+use native.Mathlib.Omega.{arith}
+use lib.ListN.{length}
+use Rattle.pywr.specs.Rows.{columnMap}
+use Rattle.network_laws.specs.NetworkAt.{networkAt}
+use Rattle.build_node_row.specs.Tables.{networkOf}
+use Rattle.build_append.proofs.AddingRows.{adding-holding}
+use Rattle.build_exclusivity.specs.ExclusivityRow.{MapOf}
+use Rattle.build_exclusivity.proofs.KnownSets.{aggregate-inside, aggregate-starts, known-sets, map-of}
+use Rattle.build_exclusivity.proofs.ExclusivityRows.{AddingAggregates, aggregates-first, aggregate-more, aggregate-over, aggregates-done}
+use borrow.Author.Needs.{needs}
+use Rattle.build_exclusivity.proofs.create_mutual_exclusivity_constraints.Statement.{statement}
+use Rattle.build_exclusivity.proofs.create_mutual_exclusivity_constraints.Tie as tie
+
+abbrev Inv-loop : tie.InvT-loop
+Inv-loop s set-at sets edge-columns words₀ numbers₀ columns₀ aggregates filled₀ at₀ i₀ words numbers columns filled at i =
+    AddingAggregates s (MapOf s set-at sets edge-columns) at₀ aggregates words₀ numbers₀ filled₀ words numbers filled at i
+    × (length words ≡ length words₀) × (length numbers ≡ length numbers₀)
+
+abbrev μ-loop : tie.MeasureT-loop
+μ-loop s set-at sets edge-columns words₀ numbers₀ columns₀ aggregates filled₀ at₀ i₀ words numbers columns filled at i = aggregates - i
+
+-- the column map of the network
+map-is : (c : tie.Start Inv-loop μ-loop) → MapOf (c .args .s .now) (c .args .set-at .now) (c .args .sets) (c .args .edge-columns) (columnMap (networkOf (c .args .s .now) (c .args .c)))
+map-is c = map-of _ _ _ _ _ _ _ _ (c .pre .2) (c .pre .3)
+
+loop-holds : tie.Need-loop-holds Inv-loop μ-loop
+loop-holds c =
+    (aggregates-first _ _ _ _ _ _ _, refl, refl)
+
+add-exclusivity-row-requires : tie.Need-add-exclusivity-row-requires Inv-loop μ-loop
+add-exclusivity-row-requires c κs =
+    let c3 = c .before .before .before in
+    let c4 = c3 .before in
+    let c10 = c4 .before .before .before .before .before .before in
+    let p = c10 .pre in
+    let l = c4 .loop .inv in
+    (p .1, p .4, aggregate-starts _ _ _ _ _ _ (p .0) _ (c3 .loop-test .taken) _ (l .0 .stands), known-sets _ _ _ _ _ _ (p .0) _ (c3 .loop-test .taken) _ (l .0 .stands) _ _ (p .1) (p .2), omega (arith, l .1, p .5), omega (arith, l .2, p .6), adding-holding _ _ _ _ _ _ (l .0 .adding _ (map-is (c10)) (p .7 .rows) (p .7 .held)))
+
+same-length : tie.Need-same-length Inv-loop μ-loop
+same-length c =
+    c .before .before .before .before .before .before .add-exclusivity-row .kept .1 .1 .1 .1 .1 .0 ∙ c .before .before .before .before .before .before .before .before .before .before .before .loop .inv .1
+
+same-length-2 : tie.Need-same-length-2 Inv-loop μ-loop
+same-length-2 c =
+    c .before .before .before .before .before .before .add-exclusivity-row .kept .1 .1 .1 .1 .1 .1 .0 ∙ c .before .before .before .before .before .before .before .before .before .before .before .loop .inv .2
+
+returns : tie.Need-returns Inv-loop μ-loop
+unfolding networkAt
+returns c =
+    let c6 = c .before .before .before .before .before .before in
+    let c10 = c6 .before .before .before .before in
+    let c11 = c10 .before in
+    let c17 = c11 .before .before .before .before .before .before in
+    aggregate-over _ _ _ _ _ _ _ _ _ _ _ _ (c11 .loop .inv .0) (c10 .loop-test .taken) _ _ _ (c6 .add-exclusivity-row .ensures) (c .enum-told .given .1) _ (map-is (c17))
+
+aggregate-end-requires : tie.Need-aggregate-end-requires Inv-loop μ-loop
+aggregate-end-requires c κs =
+    let c11 = c .before .before .before .before .before .before .before .before .before .before .before in
+    let c12 = c11 .before in
+    let c18 = c12 .before .before .before .before .before .before in
+    aggregate-inside _ _ _ _ _ _ (c18 .pre .0) _ (c11 .loop-test .taken) _ (c12 .loop .inv .0 .stands)
+
+loop-again : tie.Need-loop-again Inv-loop μ-loop
+loop-again c = (
+  rw (c .aggregate-end .ensures) (aggregate-more _ _ _ _ _ _ _ _ _ _ _ _ (c .before .before .before .before .before .before .before .before .before .before .before .before .before .loop .inv .0) (c .before .before .before .before .before .before .before .before .before .before .before .before .loop-test .taken) _ _ _ (c .before .before .before .before .before .before .before .before .add-exclusivity-row .ensures) _ (c .before .before .r .given .1)),
+  c .before .before .before .before .before .before .before .before .add-exclusivity-row .kept .1 .1 .1 .1 .1 .0 ∙ c .before .before .before .before .before .before .before .before .before .before .before .before .before .loop .inv .1,
+  c .before .before .before .before .before .before .before .before .add-exclusivity-row .kept .1 .1 .1 .1 .1 .1 .0 ∙ c .before .before .before .before .before .before .before .before .before .before .before .before .before .loop .inv .2,
+)
+
+same-length-3 : tie.Need-same-length-3 Inv-loop μ-loop
+same-length-3 c =
+    c .before .loop .inv .1
+
+same-length-4 : tie.Need-same-length-4 Inv-loop μ-loop
+same-length-4 c =
+    c .before .loop .inv .2
+
+returns-2 : tie.Need-returns-2 Inv-loop μ-loop
+unfolding networkAt
+returns-2 c =
+    aggregates-done _ _ _ _ _ _ _ _ _ _ _ _ (c .before .loop .inv .0) (c .loop-test .left) _ (map-is (c .before .before .before .before .before .before .before))
+
+pub create-mutual-exclusivity-constraints-spec : {M : Type 1} → statement M
+create-mutual-exclusivity-constraints-spec =
+    tie.close
+    (tie.spec
+    Inv-loop
+    μ-loop
+    (λ c. search needs)
+    (λ c. search needs)
+    (λ c. search needs)
+    loop-holds
+    add-exclusivity-row-requires
+    (λ c. search needs)
+    same-length
+    same-length-2
+    returns
+    (λ c. search needs)
+    aggregate-end-requires
+    (λ c. search needs)
+    (λ c. search needs)
+    loop-again
+    same-length-3
+    same-length-4
+    returns-2)

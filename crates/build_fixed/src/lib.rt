@@ -1,0 +1,92 @@
+// The fixed rows of a programme: mass balances, constant bounds, mutual exclusivity.
+ghost use mathlib.Core.Path.{_≡_};
+ghost use Prim.Native.Nat.{_≤_};
+ghost use mathlib.Core.List.{List, _++_};
+ghost use lib.ListN.{length};
+ghost use Rattle.pywr.specs.Programme.{Row};
+ghost use Rattle.pywr.specs.Build.{programmeOf};
+ghost use Rattle.build_node_row.specs.EdgeColumns.{edgeColumns};
+ghost use Rattle.build_node_row.specs.Tables.{networkOf, EdgeTables, SetTables};
+ghost use Rattle.build_append.specs.LpBuilder.{Held, Holding, AfterRows};
+use build_append::Filled;
+use build_append::RowsAdded;
+use network_record::Counts;
+use pywr::Sentinel;
+
+// The fixed rows: mass balances, constant bounds, mutual exclusivity.
+pub fn add_fixed_rows(
+    s: &[u8],
+    c: Counts,
+    first_in: &[u16; 256],
+    next_in: &[u16; 512],
+    first_out: &[u16; 256],
+    next_out: &[u16; 512],
+    edge_to_col: &[u16; 512],
+    edge_columns: usize,
+    set_at: &[u16; 128],
+    sets: usize,
+    first_listing: &[u16; 256],
+    next_listing: &[u16; 2048],
+    sentinel: Sentinel,
+    words: &mut [u16],
+    numbers: &mut [f64],
+    columns: &mut [u32; 640],
+    f: Filled,
+) -> RowsAdded
+    requires { ⌜ EdgeTables (now s) c (now «first_in») (now «next_in») (now «first_out») (now «next_out») (now «edge_to_col»)
+        × SetTables (now s) c (now «set_at») sets (now «first_listing») (now «next_listing») × («edge_columns» ≡ edgeColumns (now s) c)
+        × (24844 ≤ length (now words)) × (6784 ≤ length (now numbers)) × Holding (now words) (now numbers) f ⌝ }
+    ensures { λ r. ⌜ ((rows : List Row) → Held rows (now (words .entry)) (now (numbers .entry)) f
+        → AfterRows (rows ++ programmeOf sentinel (networkOf (now (s .entry)) c) .programme .fixed)
+        (now (words .entry)) r (now (words .exit)) (now (numbers .exit))) ⌝ }
+{
+    let m = build_mass::create_mass_balance_constraints(
+        s,
+        c,
+        first_in,
+        next_in,
+        first_out,
+        next_out,
+        edge_to_col,
+        words,
+        numbers,
+        columns,
+        f,
+    );
+    match m {
+        RowsAdded::Full => RowsAdded::Full,
+        RowsAdded::Done(g) => {
+            let b = build_constants::create_constant_constraints(
+                s,
+                c,
+                first_in,
+                next_in,
+                first_out,
+                next_out,
+                edge_to_col,
+                edge_columns,
+                first_listing,
+                next_listing,
+                sentinel,
+                words,
+                numbers,
+                columns,
+                g,
+            );
+            match b {
+                RowsAdded::Full => RowsAdded::Full,
+                RowsAdded::Done(h) => build_exclusivity::create_mutual_exclusivity_constraints(
+                    s,
+                    c,
+                    set_at,
+                    sets,
+                    edge_columns,
+                    words,
+                    numbers,
+                    columns,
+                    h,
+                ),
+            }
+        }
+    }
+}

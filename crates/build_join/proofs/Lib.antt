@@ -1,0 +1,4 @@
+mod PositionLaws
+mod VariableRowLaws
+pub mod JoinedLaws
+pub mod GatherLaws

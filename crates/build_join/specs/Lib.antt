@@ -1,0 +1,2 @@
+pub mod VariableRow
+pub mod JoinedRows

@@ -1,0 +1,144 @@
+// The mass rows of the links (SolverBuilder::create_mass_balance_constraints of builder.rs).
+ghost use mathlib.Core.Path.{_≡_};
+ghost use Prim.Native.Nat.{ℕ, _*_, _<_, _≤_};
+ghost use mathlib.Core.List.{List, [], _∷_, _++_};
+ghost use lib.ListN.{length};
+ghost use lib.Ieee.{neg};
+ghost use Rattle.laws.specs.Linked.{Linked};
+ghost use Rattle.pywr.specs.Numbers.{one64};
+ghost use Rattle.pywr.specs.Rows.{addOn, columnMap};
+ghost use Rattle.pywr.specs.FixedRows.{massRowsFrom};
+ghost use Rattle.pywr.specs.Programme.{Row};
+ghost use Rattle.network_node.specs.Node.{nodeAt};
+ghost use Rattle.build_row.specs.EdgeList.{columnsOf, ListedEdges};
+ghost use Rattle.build_append.specs.LpBuilder.{Held, Holding, AfterRows};
+ghost use Rattle.build_node_row.specs.Gathered.{Gathered};
+ghost use Rattle.build_node_row.specs.Tables.{networkOf, EdgeTables};
+use build_append::Filled;
+use build_append::RowsAdded;
+use network_record::Counts;
+use pywr::Interval;
+use pywr::NodeIndex;
+
+// A link's mass row gathered: 1 on the columns of its incoming edges, −1 on those of its outgoing ones.
+fn mass_row(
+    first_in: u16,
+    next_in: &[u16; 512],
+    first_out: u16,
+    next_out: &[u16; 512],
+    edge_to_col: &[u16; 512],
+    columns: &mut [u32; 640],
+    elements: &mut [f64],
+) -> usize
+    requires { ⌜ (640 ≤ length (now elements)) × ListedEdges (now «next_in») (now «edge_to_col») «first_in» × ListedEdges (now «next_out») (now «edge_to_col») «first_out» ⌝ }
+    ensures { λ r. ⌜ ((into out : List ℕ) → Linked 512 (now («next_in» .entry)) «first_in» into → Linked 512 (now («next_out» .entry)) «first_out» out
+        → Gathered (addOn (columnsOf (now («edge_to_col» .entry)) out) (neg one64) (addOn (columnsOf (now («edge_to_col» .entry)) into) one64 []))
+        (now (columns .exit)) (now (elements .exit)) r) ⌝ }
+{
+    let n = build_row::add_columns(next_in, edge_to_col, first_in, 1.0, columns, elements, 0);
+    build_row::add_columns(next_out, edge_to_col, first_out, -1.0, columns, elements, n)
+}
+
+// A link's mass row becomes the last row unless it has one distinct column. No other node has one.
+fn add_mass_row(
+    s: &[u8],
+    c: Counts,
+    first_in: &[u16; 256],
+    next_in: &[u16; 512],
+    first_out: &[u16; 256],
+    next_out: &[u16; 512],
+    edge_to_col: &[u16; 512],
+    node: NodeIndex,
+    words: &mut [u16],
+    numbers: &mut [f64],
+    columns: &mut [u32; 640],
+    f: Filled,
+) -> RowsAdded
+    requires { ⌜ EdgeTables (now s) c (now «first_in») (now «next_in») (now «first_out») (now «next_out») (now «edge_to_col») × (node .0 < c .nodes)
+        × (24844 ≤ length (now words)) × (6784 ≤ length (now numbers)) × Holding (now words) (now numbers) f ⌝ }
+    ensures { λ r. ⌜ ((rows : List Row) → Held rows (now (words .entry)) (now (numbers .entry)) f
+        → AfterRows (rows ++ massRowsFrom (columnMap (networkOf (now (s .entry)) c)) (node .0) (nodeAt (now (s .entry)) (20 * node .0) ∷ []))
+        (now (words .entry)) r (now (words .exit)) (now (numbers .exit))) ⌝ }
+{
+    if network_node::kind(s, node) != 2 {
+        return RowsAdded::Done(f);
+    }
+    let k = fields::wide16(node.0);
+    let at = 2048 + f.elements;
+    let n = mass_row(
+        first_in[k],
+        next_in,
+        first_out[k],
+        next_out,
+        edge_to_col,
+        columns,
+        &mut numbers[at..],
+    );
+    let run: &[u32] = columns;
+    let row = &run[0..n];
+    if row.len() == 1 {
+        return RowsAdded::Done(f);
+    }
+    build_append::add_fixed_row(
+        words,
+        numbers,
+        columns,
+        n,
+        f,
+        Interval {
+            lower: 0.0,
+            upper: 0.0,
+        },
+    )
+}
+
+// The mass rows of all links, in node order.
+pub fn create_mass_balance_constraints(
+    s: &[u8],
+    c: Counts,
+    first_in: &[u16; 256],
+    next_in: &[u16; 512],
+    first_out: &[u16; 256],
+    next_out: &[u16; 512],
+    edge_to_col: &[u16; 512],
+    words: &mut [u16],
+    numbers: &mut [f64],
+    columns: &mut [u32; 640],
+    f: Filled,
+) -> RowsAdded
+    requires { ⌜ EdgeTables (now s) c (now «first_in») (now «next_in») (now «first_out») (now «next_out») (now «edge_to_col»)
+        × (24844 ≤ length (now words)) × (6784 ≤ length (now numbers)) × Holding (now words) (now numbers) f ⌝ }
+    ensures { λ r. ⌜ ((rows : List Row) → Held rows (now (words .entry)) (now (numbers .entry)) f
+        → AfterRows (rows ++ massRowsFrom (columnMap (networkOf (now (s .entry)) c)) 0 (networkOf (now (s .entry)) c .nodes))
+        (now (words .entry)) r (now (words .exit)) (now (numbers .exit))) ⌝ }
+{
+    let nodes = c.nodes;
+    let mut filled = f;
+    let mut i: usize = 0;
+    while i < nodes {
+        let r = add_mass_row(
+            s,
+            c,
+            first_in,
+            next_in,
+            first_out,
+            next_out,
+            edge_to_col,
+            NodeIndex(fields::narrow16(i)),
+            words,
+            numbers,
+            columns,
+            filled,
+        );
+        match r {
+            RowsAdded::Full => {
+                return RowsAdded::Full;
+            }
+            RowsAdded::Done(g) => {
+                filled = g;
+                i += 1;
+            }
+        }
+    }
+    RowsAdded::Done(filled)
+}

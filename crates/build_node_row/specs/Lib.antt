@@ -1,0 +1,4 @@
+pub mod NodeAdded
+pub mod Gathered
+pub mod EdgeColumns
+pub mod Tables

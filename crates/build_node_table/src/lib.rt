@@ -1,0 +1,72 @@
+// The table of node rows: a row that a node asks for, and its entry.
+ghost use mathlib.Core.Path.{_≡_};
+ghost use mathlib.Core.List.{List, [], _∷_, _++_};
+ghost use Prim.Native.Nat.{_+_, _*_, _<_, _≤_};
+ghost use lib.ListN.{length, drop};
+ghost use lib.Seq.{sets};
+ghost use Rattle.pywr.specs.Programme.{RowType};
+ghost use Rattle.pywr.specs.VaryingRows.{RowRequest};
+ghost use Rattle.pywr.specs.Written.{rowTypeWord};
+ghost use Rattle.build_row.specs.RowBuilder.{gathered, Rising};
+ghost use Rattle.build_node_table.specs.NodeRows.{NodeRowsHeld, NodeRowsHolding, AfterRequests};
+use build_append::Filled;
+use build_join::VariableRow;
+use pywr::NodeIndex;
+use pywr::Sentinel;
+
+// What the work runs hold, and how many node rows were written.
+pub struct NodeRows {
+    pub filled: Filled,
+    pub count: usize,
+}
+
+// What asking for node rows answers: how much the work runs hold now, or that the programme is over its ceilings.
+pub enum NodeRowsAdded {
+    Done(NodeRows),
+    Full,
+}
+
+// Node row i of the table: the node, its row, the row's type and the set's number.
+fn put_node_row(words: &mut [u16], i: usize, node: NodeIndex, row: u16, row_type: u16, set: u16)
+    requires { ⌜ 7180 + 4 * i + 4 ≤ length (now words) ⌝ }
+    ensures { λ _. ⌜ now (words .exit) ≡ sets (now (words .entry)) (7180 + 4 * i) (node .0 ∷ row ∷ «row_type» ∷ set ∷ []) ⌝ }
+{
+    let at = 7180 + 4 * i;
+    words[at] = node.0;
+    words[at + 1] = row;
+    words[at + 2] = row_type;
+    words[at + 3] = set;
+}
+
+// A node asks for the gathered row, whose elements are already in place: an equal row that stands already serves, else it becomes the last row.
+pub fn add_node_row(
+    words: &mut [u16],
+    numbers: &mut [f64],
+    columns: &[u32; 640],
+    n: usize,
+    sentinel: Sentinel,
+    node: NodeIndex,
+    row_type: u16,
+    set: u16,
+    rows: NodeRows,
+) -> NodeRowsAdded
+    requires { ⌜ (24844 ≤ length (now words)) × (6784 ≤ length (now numbers)) × (n ≤ 640) × Rising (now columns) n
+        × NodeRowsHolding sentinel (now words) (now numbers) rows × (rows .count < 4352) ⌝ }
+    ensures { λ r. ⌜ ((t : RowType) → rowTypeWord t ≡ «row_type» → (asks : List RowRequest) → NodeRowsHeld sentinel asks (now (words .entry)) (now (numbers .entry)) rows
+        → AfterRequests sentinel (asks ++ (record { node = node .0; rowType = t; set = set; row = gathered (now (columns .entry)) (drop (2048 + rows .filled .elements) (now (numbers .entry))) n } ∷ []))
+        r (now (words .exit)) (now (numbers .exit))) ⌝ }
+{
+    let count = rows.count;
+    let f = rows.filled;
+    let r = build_join::add_variable_row(words, numbers, columns, n, f, sentinel);
+    match r {
+        VariableRow::Full => NodeRowsAdded::Full,
+        VariableRow::At(row, filled) => {
+            put_node_row(words, count, node, build_join::row_word(row), row_type, set);
+            NodeRowsAdded::Done(NodeRows {
+                filled: filled,
+                count: count + 1,
+            })
+        }
+    }
+}

@@ -1,0 +1,90 @@
+-- `build_nodes::create_node_constraints` meets its contract: `NodeOrder.antt` has what the nodes ask for. Assumes nothing.
+use mathlib.Core.Path.{_≡_, refl, _∙_}
+use Prim.Native.Nat.{_+_, _-_}
+use native.Mathlib.Omega.{arith}
+use lib.ListN.{length}
+use Rattle.pywr.specs.Rows.{columnMap}
+use Rattle.build_node_row.specs.Tables.{networkOf}
+use Rattle.build_node_table.specs.NodeRows.{NodeRowsHeld, requestsBefore}
+use Rattle.build_nodes.proofs.NodeOrder.{node-under, order-first, order-full, order-done}
+use borrow.Author.Needs.{needs}
+use Rattle.build_nodes.proofs.create_node_constraints.Statement.{statement}
+use Rattle.build_nodes.proofs.create_node_constraints.Tie as tie
+
+abbrev Inv-loop : tie.InvT-loop
+Inv-loop s c first-in next-in first-out next-out edge-to-col edge-columns first-listing next-listing sentinel words₀ numbers₀ columns₀ nodes rows₀ i₀ words numbers columns rows i =
+    NodeRowsHeld sentinel (requestsBefore (columnMap (networkOf s c)) i) words numbers rows × (length words ≡ length words₀) × (length numbers ≡ length numbers₀)
+
+abbrev μ-loop : tie.MeasureT-loop
+μ-loop s c first-in next-in first-out next-out edge-to-col edge-columns first-listing next-listing sentinel words₀ numbers₀ columns₀ nodes rows₀ i₀ words numbers columns rows i = nodes - i
+
+loop-holds : tie.Need-loop-holds Inv-loop μ-loop
+loop-holds c =
+    (order-first _ _ _ _ _ _ _ (c .before .before .before .pre .0) _ _ _ _ (c .before .before .before .pre .5), refl, refl)
+
+narrow16-requires : tie.Need-narrow16-requires Inv-loop μ-loop
+narrow16-requires c κs =
+    let under = node-under _ _ _ _ _ _ _ (c .before .before .before .before .before .pre .0) _ (c .loop-test .taken) in
+    omega arith
+
+request-rows-requires : tie.Need-request-rows-requires Inv-loop μ-loop
+request-rows-requires c κs =
+    let p = c .before .before .before .before .before .before .before .before .before .pre in
+    let l = c .before .before .before .before .before .loop .inv in
+    (p .0, omega (arith, c .before .before .before .narrow16 .ensures, c .before .before .before .before .loop-test .taken), p .1, p .2, omega (arith, p .3, l .1), omega (arith, p .4, l .2), rw (c .before .before .before .narrow16 .ensures) (l .0))
+
+same-length : tie.Need-same-length Inv-loop μ-loop
+same-length c =
+    c .before .before .before .before .before .before .request-rows .kept .1 .1 .1 .1 .1 .1 .1 .1 .1 .1 .1 .1 .0 ∙ c .before .before .before .before .before .before .before .before .before .before .before .before .loop .inv .1
+
+same-length-2 : tie.Need-same-length-2 Inv-loop μ-loop
+same-length-2 c =
+    c .before .before .before .before .before .before .request-rows .kept .1 .1 .1 .1 .1 .1 .1 .1 .1 .1 .1 .1 .1 .0 ∙ c .before .before .before .before .before .before .before .before .before .before .before .before .loop .inv .2
+
+returns : tie.Need-returns Inv-loop μ-loop
+returns c =
+    let c6 = c .before .before .before .before .before .before in
+    let c10 = c6 .before .before .before .before in
+    let c16 = c10 .before .before .before .before .before .before in
+    order-full _ _ _ _ _ _ _ (c16 .pre .0) _ _ _ (c10 .narrow16 .result + 1) _ (c6 .request-rows .ensures) (c .enum-told .given .1)
+
+loop-again : tie.Need-loop-again Inv-loop μ-loop
+loop-again c =
+    let c1 = c .before in
+    let c7 = c1 .before .before .before .before .before .before in
+    let c11 = c7 .before .before .before .before in
+    let c13 = c11 .before .before in
+    (rw (c11 .narrow16 .ensures) at (c7 .request-rows .ensures .done _ (c1 .r .given .1)), c7 .request-rows .kept .1 .1 .1 .1 .1 .1 .1 .1 .1 .1 .1 .1 .0 ∙ c13 .loop .inv .1, c7 .request-rows .kept .1 .1 .1 .1 .1 .1 .1 .1 .1 .1 .1 .1 .1 .0 ∙ c13 .loop .inv .2)
+
+same-length-3 : tie.Need-same-length-3 Inv-loop μ-loop
+same-length-3 c =
+    c .before .loop .inv .1
+
+same-length-4 : tie.Need-same-length-4 Inv-loop μ-loop
+same-length-4 c =
+    c .before .loop .inv .2
+
+returns-2 : tie.Need-returns-2 Inv-loop μ-loop
+returns-2 c =
+    order-done _ _ _ _ _ _ _ (c .before .before .before .before .before .pre .0) _ _ _ _ _ (c .loop-test .left) (c .before .loop .inv .0)
+
+pub create-node-constraints-spec : {M : Type 1} → statement M
+create-node-constraints-spec =
+    tie.close
+    (tie.spec
+    Inv-loop
+    μ-loop
+    loop-holds
+    narrow16-requires
+    request-rows-requires
+    (λ c. search needs)
+    same-length
+    same-length-2
+    returns
+    (λ c. search needs)
+    (λ c. search needs)
+    (λ c. search needs)
+    loop-again
+    same-length-3
+    same-length-4
+    returns-2)

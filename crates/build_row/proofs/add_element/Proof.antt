@@ -1,0 +1,69 @@
+-- `build_row::add_element` meets its contract: `Added.antt` has what it promises, from the place that `place_of` found. Assumes nothing.
+use Prim.Native.Nat.{_<_}
+use mathlib.Core.Path.{_≡_, sym, _∙_}
+use mathlib.Core.Logic.{⊎-elim}
+use native.Mathlib.Omega.{arith}
+use lib.ListN.{length}
+use Rattle.build_row.proofs.Added.{Absent, place-free, element-added, element-inserted}
+use borrow.Author.Needs.{needs}
+use Rattle.build_row.proofs.add_element.Statement.{statement}
+use Rattle.build_row.proofs.add_element.Tie as tie
+
+-- past the tests the column is not in the row, so that a place is free
+absent : (c : tie.Joined1)
+    → let a = c .before .before .before .before .before .before .args in
+    Absent (a .columns .now) (a .n) (a .column .0) (c .before .place-of .result)
+absent c =
+    let e = c .before .before .before .before .wide .ensures .0 in
+    ⊎-elim (λ w l q. w .2 .left (q ∙ sym e)) (λ w l q. omega arith) (c .if1 .came)
+
+free : (c : tie.Joined1) → c .before .before .before .before .before .before .args .n < 640
+free c =
+    let s = c .before .before .before .before .before .before in
+    let long : length (s .args .columns .now) ≡ 640 = omega arith in
+    place-free _ _ _ _ long (s .pre .0) (s .pre .2) (s .pre .3) (c .before .place-of .ensures) (absent c)
+
+returns : tie.Need-returns
+returns c =
+    let s = c .before .before .before .before .before .before .before .before .before in
+    let e = c .before .before .before .before .before .before .before .wide .ensures .0 in
+    let long : length (s .args .columns .now) ≡ 640 = omega arith in
+    element-added _ _ _ _ long (s .pre .0) (s .pre .2) (s .pre .3) (c .before .before .before .before .place-of .ensures) _ _ (s .pre .1) (c .before .before .before .if1 .taken) (c .before .if2 .taken ∙ e)
+
+insert-column-requires : tie.Need-insert-column-requires
+insert-column-requires c κs =
+    let f = free (c .before) in omega arith
+
+insert-element-requires : tie.Need-insert-element-requires
+insert-element-requires c κs =
+    let f = free (c .before .before .before) in omega arith
+
+returns-2 : tie.Need-returns-2
+returns-2 c =
+    let s = c .before .before .before .before .before .before .before .before .before .before .before .before in
+    let long : length (s .args .columns .now) ≡ 640 = omega arith in
+    let c2 = c .before .before in
+    let c4 = c2 .before .before in
+    let c6 = c4 .before .before in
+    rw (c4 .insert-column .ensures, c2 .insert-element .ensures)
+    (element-inserted _ _ _ _ long (s .pre .0) (s .pre .2) (s .pre .3) (c6 .before .place-of .ensures) _ _ (s .pre .1) (absent c6))
+
+pub add-element-spec : {M : Type 1} → statement M
+add-element-spec =
+    tie.close
+    (tie.spec
+    (λ c κs. search needs)
+    (λ c κs. search needs)
+    (λ c. search needs)
+    (λ c. search needs)
+    (λ c. search needs)
+    (λ c. search needs)
+    (λ c. search needs)
+    (λ c. search needs)
+    (λ c. search needs)
+    returns
+    insert-column-requires
+    insert-element-requires
+    (λ c. search needs)
+    (λ c. search needs)
+    returns-2)

@@ -1,0 +1,49 @@
+-- A programme assembled in a build's work runs. In `words` the columns of the elements stand from 0, the row starts from 4,096 and the shape run's words from 5,121;
+-- in `numbers` the lower bounds of the rows stand from 0, the upper from 1,024 and the elements from 2,048. Assumes nothing.
+use mathlib.Core.Path.{_≡_}
+use Prim.Native.Nat.{ℕ, _*_}
+use mathlib.Core.List.{List, map, flatMap}
+use lib.Seq.{sets}
+use lib.Ieee.{Float}
+use Rattle.laws.specs.Part.{part}
+use Rattle.pywr.specs.declared.Sentinel.{Sentinel}
+use Rattle.pywr.specs.Result.{value, refused}
+use Rattle.pywr.specs.Programme.{Built}
+use Rattle.pywr.specs.Build.{nodeShape, build}
+use Rattle.pywr.specs.Written.{nodeWords, edgeWords, nodeRowWords, storageWords, countWords, rowsOf}
+use Rattle.network_laws.specs.NetworkAt.{nodesAt}
+use Rattle.build_shape.specs.ShapeTables.{edgeEntries, counts}
+use Rattle.build_write.specs.declared.Sizes.{Sizes}
+use Rattle.build_write.specs.Lp.{Few, columnsOf}
+use Rattle.build_append.specs.LpBuilder.{Held}
+use Rattle.build_rows.specs.declared.Assembled.{Assembled}
+
+-- the programme b with its shape, as the work runs hold it
+pub record Laid (s : Sentinel) (b : Built) (z : Sizes) (words : List ℕ) (numbers : List Float) : Type 0 where
+  pub few : Few z
+  pub columns : columnsOf s z ≡ b .programme .columns
+  pub rows : Held (rowsOf (b .programme)) words numbers (record { rows = z .rows; elements = z .elements })
+  pub counts : part 5121 11 words ≡ countWords b
+  pub nodes : part 5132 (2 * z .nodes) words ≡ flatMap nodeWords (b .shape .nodes)
+  pub edges : part 5644 (3 * z .edges) words ≡ flatMap edgeWords (b .shape .mappedEdges)
+  pub nodeRows : part 7180 (4 * z .«node_rows») words ≡ flatMap nodeRowWords (b .shape .nodeRows)
+  pub aggregates : part 24588 (z .aggregates) words ≡ b .shape .aggregates
+  pub storages : part 24652 (6 * z .storages) words ≡ flatMap storageWords (b .shape .virtualStorages)
+
+-- the build's programme is laid out
+pub record Made (s : Sentinel) (file : List ℕ) (z : Sizes) (words : List ℕ) (numbers : List Float) : Type 0 where
+  pub built : Built
+  pub is : build s file ≡ value built
+  pub laid : Laid s built z words numbers
+
+-- what assembling promises, refusals 1 to 11 included
+pub record AfterAssemble (s : Sentinel) (file : List ℕ) (r : Assembled) (words : List ℕ) (numbers : List Float) : Type 0 where
+  pub refusal : (n p : ℕ) → r ≡ Assembled.Refused n p → build s file ≡ refused n p
+  pub made : (z : Sizes) → r ≡ Assembled.Done z → Made s file z words numbers
+
+-- the tables of nodes and edges and the counts, written into `words` behind the rows
+abbrev pub tablesWritten : Sentinel → List ℕ → List ℕ → Sizes → ℕ → List ℕ → List ℕ
+tablesWritten s file table z varying words =
+    sets
+    (sets (sets words 5132 (flatMap nodeWords (map nodeShape (nodesAt file (z .nodes))))) 5644 (flatMap edgeWords (edgeEntries file table (z .nodes) (z .edges))))
+    5121 (counts s z varying)

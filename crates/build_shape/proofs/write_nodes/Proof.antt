@@ -1,0 +1,111 @@
+-- `build_shape::write_nodes` meets its contract. The loop's invariant: the entries of the first i nodes are written. Assumes nothing.
+use mathlib.Core.Path.{_≡_, sym, _∙_, ap}
+use Prim.Native.Nat.{ℕ, _-_, _+_, _*_, _≤_}
+use mathlib.Core.Bool.{Bool}
+use native.Mathlib.Omega.{arith}
+use lib.ListN.{length-set}
+use Rattle.network_node.specs.Node.{nodeAt}
+use Rattle.build_shape.proofs.Table.{NodesWritten, nodes-none, nodes-more, nodes-all, flag-yes, flag-no}
+use borrow.Author.Needs.{needs}
+use Rattle.build_shape.proofs.write_nodes.Statement.{statement}
+use Rattle.build_shape.proofs.write_nodes.Tie as tie
+
+abbrev Inv-loop : tie.InvT-loop
+Inv-loop s nodes words₀ i₀ words i = NodesWritten s words₀ nodes words i
+
+abbrev μ-loop : tie.MeasureT-loop
+μ-loop s nodes words₀ i₀ words i = nodes - i
+
+loop-holds : tie.Need-loop-holds Inv-loop μ-loop
+loop-holds c =
+    nodes-none _ _ _
+
+kind-requires : tie.Need-kind-requires Inv-loop μ-loop
+kind-requires c κs =
+    omega (arith, c .narrow16 .ensures, c .before .before .before .before .before .pre .1)
+
+slice-write-words : tie.Need-slice-write-words Inv-loop μ-loop
+slice-write-words c =
+    omega (arith, c .before .before .before .before .loop .inv .long, c .before .before .before .before .before .before .before .pre .0, c .before .before .before .before .before .before .before .pre .2)
+
+is-constant-requires : tie.Need-is-constant-requires Inv-loop μ-loop
+is-constant-requires c κs =
+    omega (arith, c .before .before .narrow16 .ensures, c .before .before .before .before .before .before .before .pre .1)
+
+slice-write-words-2 : tie.Need-slice-write-words-2 Inv-loop μ-loop
+slice-write-words-2 c =
+    let c6 = c .before .before .before .before .before .before in
+    let c9 = c6 .before .before .before in
+    simp length-set (omega (arith, c6 .loop .inv .long, c9 .pre .0, c9 .pre .2))
+
+loop-again : tie.Need-loop-again Inv-loop μ-loop
+loop-again c =
+    let c1 = c .before in
+    let c2 = c1 .before in
+    let c3 = c2 .before in
+    let c4 = c3 .before in
+    let c5 = c4 .before in
+    let c6 = c5 .before in
+    let c9 = c6 .before .before .before in
+    let e = c4 .narrow16 .ensures in
+    nodes-more _ _ _ _ _ _ _ (c5 .loop-test .taken) (c2 .word .ensures ∙ c3 .kind .ensures ∙ ap (λ (k : ℕ). nodeAt (c9 .args .s .now) (20 * k) .kind) e) (flag-yes _ (sym (c1 .is-constant .ensures ∙ ap (λ (k : ℕ). nodeAt (c9 .args .s .now) (20 * k) .constant) e) ∙ c .if1 .taken)) (c6 .loop .inv)
+
+slice-write-words-3 : tie.Need-slice-write-words-3 Inv-loop μ-loop
+slice-write-words-3 c =
+    let c6 = c .before .before .before .before .before .before in
+    let c9 = c6 .before .before .before in
+    simp length-set (omega (arith, c6 .loop .inv .long, c9 .pre .0, c9 .pre .2))
+
+loop-again-2 : tie.Need-loop-again-2 Inv-loop μ-loop
+loop-again-2 c =
+    let c1 = c .before in
+    let c2 = c1 .before in
+    let c3 = c2 .before in
+    let c4 = c3 .before in
+    let c5 = c4 .before in
+    let c6 = c5 .before in
+    let c9 = c6 .before .before .before in
+    let e = c4 .narrow16 .ensures in
+    nodes-more _ _ _ _ _ _ _ (c5 .loop-test .taken) (c2 .word .ensures ∙ c3 .kind .ensures ∙ ap (λ (k : ℕ). nodeAt (c9 .args .s .now) (20 * k) .kind) e) (flag-no _ (sym (c1 .is-constant .ensures ∙ ap (λ (k : ℕ). nodeAt (c9 .args .s .now) (20 * k) .constant) e) ∙ c .if1 .left)) (c6 .loop .inv)
+
+same-length : tie.Need-same-length Inv-loop μ-loop
+same-length c =
+    c .before .loop .inv .long
+
+returns : tie.Need-returns Inv-loop μ-loop
+returns c =
+    nodes-all _ _ _ _ _ (c .loop-test .left) (c .before .loop .inv)
+
+pub write-nodes-spec : {M : Type 1} → statement M
+write-nodes-spec =
+    tie.close
+    (tie.spec
+    Inv-loop
+    μ-loop
+    loop-holds
+    (λ c κs. search needs)
+    kind-requires
+    (λ c κs. search needs)
+    (λ c. search needs)
+    (λ c. search needs)
+    (λ c. search needs)
+    slice-write-words
+    is-constant-requires
+    (λ c. search needs)
+    (λ c. search needs)
+    (λ c. search needs)
+    (λ c. search needs)
+    slice-write-words-2
+    (λ c. search needs)
+    (λ c. search needs)
+    loop-again
+    (λ c. search needs)
+    (λ c. search needs)
+    (λ c. search needs)
+    (λ c. search needs)
+    slice-write-words-3
+    (λ c. search needs)
+    (λ c. search needs)
+    loop-again-2
+    same-length
+    returns)

@@ -1,0 +1,191 @@
+// The rows of the virtual storages (SolverBuilder::create_virtual_storage_constraints of builder.rs).
+ghost use mathlib.Core.Path.{_≡_};
+ghost use mathlib.Core.List.{List, map};
+ghost use mathlib.Core.Bool.{not};
+ghost use Prim.Native.Nat.{_+_, _*_, _≤_};
+ghost use lib.ListN.{length};
+ghost use lib.Seq.{sets};
+ghost use Rattle.pywr.specs.Rows.{Element, columnMap, virtualStorageRow};
+ghost use Rattle.pywr.specs.VaryingRows.{freshRow};
+ghost use Rattle.pywr.specs.Written.{flagWord, storageWords};
+ghost use Rattle.fields.specs.declared.Checked.the-variants.{Next};
+ghost use Rattle.network_virtual_storage.specs.VirtualStorage.{virtualStorageAt, virtualStorageEnd, checkVirtualStorage};
+ghost use Rattle.network_virtual_storage.specs.PeriodOf.{periodOf};
+ghost use Rattle.build_append.specs.LpBuilder.{Held, Holding};
+ghost use Rattle.build_join.specs.VariableRow.{AfterVariableRow};
+ghost use Rattle.build_node_row.specs.Tables.{networkOf, EdgeTables};
+ghost use Rattle.build_join.specs.JoinedRows.{Gathered, HoldingVarying, AfterVariableRows};
+ghost use Rattle.build_virtual_storages.specs.StorageRows.{storageRows, storageTable};
+use build_append::Filled;
+use build_append::RowsAdded;
+use build_join::VariableRow;
+use network_record::Counts;
+use network_virtual_storage::Period;
+use pywr::Sentinel;
+
+// Gathers the row of the virtual storage at `at`: minus factor times node row, part by part.
+fn virtual_storage_row(
+    s: &[u8],
+    c: Counts,
+    first_in: &[u16; 256],
+    next_in: &[u16; 512],
+    first_out: &[u16; 256],
+    next_out: &[u16; 512],
+    edge_to_col: &[u16; 512],
+    at: usize,
+    columns: &mut [u32; 640],
+    elements: &mut [f64],
+) -> usize
+    requires { ⌜ EdgeTables (now s) c (now «first_in») (now «next_in») (now «first_out») (now «next_out») (now «edge_to_col»)
+        × (checkVirtualStorage (now s) (c .nodes) at ≡ Next (virtualStorageEnd (now s) at)) × (640 ≤ length (now elements)) ⌝ }
+    ensures { λ r. ⌜ Gathered (virtualStorageRow (columnMap (networkOf (now (s .entry)) c)) (virtualStorageAt (now (s .entry)) at)) (now (columns .exit)) (now (elements .exit)) r ⌝ }
+{
+    let parts = network_virtual_storage::part_count(s, at);
+    let mut n: usize = 0;
+    let mut k: usize = 0;
+    while k < parts {
+        let node = network_virtual_storage::part_node(s, at, k);
+        let factor = network_virtual_storage::part_factor(s, at, k);
+        n = build_node_row::add_node(
+            s,
+            c,
+            first_in,
+            next_in,
+            first_out,
+            next_out,
+            edge_to_col,
+            node,
+            -factor,
+            columns,
+            elements,
+            n,
+        );
+        k += 1;
+    }
+    n
+}
+
+// The row of the virtual storage at `at` is gathered behind the elements so far and asked for.
+fn add_virtual_storage_row(
+    s: &[u8],
+    c: Counts,
+    first_in: &[u16; 256],
+    next_in: &[u16; 512],
+    first_out: &[u16; 256],
+    next_out: &[u16; 512],
+    edge_to_col: &[u16; 512],
+    at: usize,
+    sentinel: Sentinel,
+    words: &mut [u16],
+    numbers: &mut [f64],
+    columns: &mut [u32; 640],
+    f: Filled,
+) -> VariableRow
+    requires { ⌜ EdgeTables (now s) c (now «first_in») (now «next_in») (now «first_out») (now «next_out») (now «edge_to_col»)
+        × (checkVirtualStorage (now s) (c .nodes) at ≡ Next (virtualStorageEnd (now s) at))
+        × (24844 ≤ length (now words)) × (6784 ≤ length (now numbers)) × Holding (now words) (now numbers) f ⌝ }
+    ensures { λ r. ⌜ ((rows : List (List Element)) → Held (map (freshRow sentinel) rows) (now (words .entry)) (now (numbers .entry)) f
+        → AfterVariableRow sentinel rows (virtualStorageRow (columnMap (networkOf (now (s .entry)) c)) (virtualStorageAt (now (s .entry)) at))
+        (now (words .entry)) r (now (words .exit)) (now (numbers .exit))) ⌝ }
+{
+    let from = 2048 + f.elements;
+    let n = virtual_storage_row(
+        s,
+        c,
+        first_in,
+        next_in,
+        first_out,
+        next_out,
+        edge_to_col,
+        at,
+        columns,
+        &mut numbers[from..],
+    );
+    build_join::add_variable_row(words, numbers, columns, n, f, sentinel)
+}
+
+// A period's flag in the table: 0 always, 1 a period.
+fn period_word(always: bool) -> u16
+    ensures { λ r. ⌜ r ≡ flagWord (not always) ⌝ }
+{
+    if always {
+        return 0;
+    }
+    1
+}
+
+// A month or a day in the width of the words.
+fn date_word(date: u8) -> u16
+    ensures { λ r. ⌜ r ≡ date ⌝ }
+{
+    date as u16
+}
+
+// Writes a virtual storage's entry from `at` on: its row, then its period.
+fn put_storage(words: &mut [u16], at: usize, row: u16, period: Period)
+    requires { ⌜ at + 6 ≤ length (now words) ⌝ }
+    ensures { λ _. ⌜ now (words .exit) ≡ sets (now (words .entry)) at (storageWords (record { row = row; period = periodOf period })) ⌝ }
+{
+    words[at] = row;
+    words[at + 1] = period_word(period.always);
+    words[at + 2] = date_word(period.start_month);
+    words[at + 3] = date_word(period.start_day);
+    words[at + 4] = date_word(period.end_month);
+    words[at + 5] = date_word(period.end_day);
+}
+
+// Each virtual storage asks for its row; the row's number and the period are written to the virtual storages' table, from word 24,652 on.
+pub fn create_virtual_storage_constraints(
+    s: &[u8],
+    c: Counts,
+    first_in: &[u16; 256],
+    next_in: &[u16; 512],
+    first_out: &[u16; 256],
+    next_out: &[u16; 512],
+    edge_to_col: &[u16; 512],
+    sentinel: Sentinel,
+    words: &mut [u16],
+    numbers: &mut [f64],
+    columns: &mut [u32; 640],
+    f: Filled,
+) -> RowsAdded
+    requires { ⌜ EdgeTables (now s) c (now «first_in») (now «next_in») (now «first_out») (now «next_out») (now «edge_to_col»)
+        × (24844 ≤ length (now words)) × (6784 ≤ length (now numbers)) × HoldingVarying sentinel (now words) (now numbers) f ⌝ }
+    ensures { λ r. ⌜ ((rows : List (List Element)) → Held (map (freshRow sentinel) rows) (now (words .entry)) (now (numbers .entry)) f
+        → AfterVariableRows sentinel rows (storageRows (networkOf (now (s .entry)) c)) 24652 (6 * c .«virtual_storages») (storageTable (networkOf (now (s .entry)) c))
+        (now (words .entry)) r (now (words .exit)) (now (numbers .exit))) ⌝ }
+{
+    let mut at = c.virtual_storages_at;
+    let mut filled = f;
+    let mut i: usize = 0;
+    while i < c.virtual_storages {
+        let r = add_virtual_storage_row(
+            s,
+            c,
+            first_in,
+            next_in,
+            first_out,
+            next_out,
+            edge_to_col,
+            at,
+            sentinel,
+            words,
+            numbers,
+            columns,
+            filled,
+        );
+        match r {
+            VariableRow::Full => {
+                return RowsAdded::Full;
+            }
+            VariableRow::At(row, more) => {
+                let period = network_virtual_storage::active_period(s, at);
+                put_storage(words, 24652 + 6 * i, build_join::row_word(row), period);
+                filled = more;
+                at = network_virtual_storage::virtual_storage_end(s, at);
+                i += 1;
+            }
+        }
+    }
+    RowsAdded::Done(filled)
+}

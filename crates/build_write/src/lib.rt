@@ -1,0 +1,109 @@
+// An assembled programme written from the work runs into the store's runs (LpBuilder::build of builder.rs).
+ghost use mathlib.Core.Path.{_≡_};
+ghost use Prim.Native.Nat.{ℕ, _+_, _*_, _≤_};
+ghost use lib.ListN.{length};
+ghost use lib.Seq.{sets};
+ghost use Rattle.laws.specs.Part.{part};
+ghost use Rattle.build_write.specs.Lp.{Few, RowStarts, ColumnsWritten, RowsWritten, MatrixWritten, shapeWritten};
+use pywr::Sentinel;
+
+// How much an assembled programme holds.
+pub struct Sizes {
+    pub nodes: usize,
+    pub edges: usize,
+    pub edge_columns: usize,
+    pub sets: usize,
+    pub rows: usize,
+    pub elements: usize,
+    pub node_rows: usize,
+    pub aggregates: usize,
+    pub storages: usize,
+}
+
+// Column bounds and costs: the edges' columns, then the sets' integer columns.
+pub fn write_columns(
+    z: Sizes,
+    sentinel: Sentinel,
+    col_lower: &mut [f64],
+    col_upper: &mut [f64],
+    col_obj_coef: &mut [f64],
+)
+    requires { ⌜ Few z × (640 ≤ length (now «col_lower»)) × (640 ≤ length (now «col_upper»)) × (640 ≤ length (now «col_obj_coef»)) ⌝ }
+    ensures { λ _. ⌜ ColumnsWritten sentinel z (now («col_lower» .entry)) (now («col_upper» .entry)) (now («col_obj_coef» .entry))
+        (now («col_lower» .exit)) (now («col_upper» .exit)) (now («col_obj_coef» .exit)) ⌝ }
+{
+    let e = z.edge_columns;
+    let k = z.sets;
+    runs::fill_f64(col_lower, 0, e + k, 0.0);
+    runs::fill_f64(col_upper, 0, e, sentinel.high());
+    runs::fill_f64(col_upper, e, k, 1.0);
+    runs::fill_f64(col_obj_coef, 0, e + k, 0.0);
+}
+
+// Row bounds.
+pub fn write_rows(z: Sizes, numbers: &[f64], row_lower: &mut [f64], row_upper: &mut [f64])
+    requires { ⌜ Few z × (6784 ≤ length (now numbers)) × (1024 ≤ length (now «row_lower»)) × (1024 ≤ length (now «row_upper»)) ⌝ }
+    ensures { λ _. ⌜ RowsWritten z (now (numbers .entry)) (now («row_lower» .entry)) (now («row_upper» .entry)) (now («row_lower» .exit)) (now («row_upper» .exit)) ⌝ }
+{
+    let k = z.rows;
+    runs::copy_f64(row_lower, 0, numbers, 0, k);
+    runs::copy_f64(row_upper, 0, numbers, 1024, k);
+}
+
+// One row's elements, written at the front of the run lent.
+fn write_row(elements: &mut [f64], row: &[f64])
+    requires { ⌜ length (now row) ≤ length (now elements) ⌝ }
+    ensures { λ _. ⌜ now (elements .exit) ≡ sets (now (elements .entry)) 0 (now (row .entry)) ⌝ }
+{
+    runs::copy_f64(elements, 0, row, 0, row.len());
+}
+
+// The elements row by row: each row is written into the element run from its start.
+fn write_elements(z: Sizes, words: &[u16], numbers: &[f64], elements: &mut [f64])
+    requires { ⌜ Few z × RowStarts z (now words) × (24844 ≤ length (now words)) × (6784 ≤ length (now numbers)) × (4096 ≤ length (now elements)) ⌝ }
+    ensures { λ _. ⌜ now (elements .exit) ≡ sets (now (elements .entry)) 0 (part 2048 (z .elements) (now (numbers .entry))) ⌝ }
+{
+    let rows = z.rows;
+    let mut r: usize = 0;
+    while r < rows {
+        let start = fields::wide16(words[4096 + r]);
+        let end = fields::wide16(words[4096 + r + 1]);
+        let row = &numbers[2048 + start..2048 + end];
+        write_row(&mut elements[start..], row);
+        r += 1;
+    }
+}
+
+// Elements, their columns, and the row starts.
+pub fn write_matrix(
+    z: Sizes,
+    words: &[u16],
+    numbers: &[f64],
+    elements: &mut [f64],
+    columns: &mut [u16],
+    row_starts: &mut [u32],
+)
+    requires { ⌜ Few z × RowStarts z (now words) × (24844 ≤ length (now words)) × (6784 ≤ length (now numbers))
+        × (4096 ≤ length (now elements)) × (4096 ≤ length (now columns)) × (1025 ≤ length (now «row_starts»)) ⌝ }
+    ensures { λ _. ⌜ MatrixWritten z (now (words .entry)) (now (numbers .entry)) (now (elements .entry)) (now (columns .entry)) (now («row_starts» .entry))
+        (now (elements .exit)) (now (columns .exit)) (now («row_starts» .exit)) ⌝ }
+{
+    let k = z.elements;
+    let n = z.rows + 1;
+    write_elements(z, words, numbers, elements);
+    runs::copy_u16(columns, 0, words, 0, k);
+    runs::widen_u16(row_starts, 0, words, 4096, n);
+}
+
+// The shape run: counts and tables.
+pub fn write_shape(z: Sizes, words: &[u16], shape: &mut [u16])
+    requires { ⌜ Few z × (24844 ≤ length (now words)) × (19723 ≤ length (now shape)) ⌝ }
+    ensures { λ _. ⌜ now (shape .exit) ≡ shapeWritten z (now (words .entry)) (now (shape .entry)) ⌝ }
+{
+    runs::copy_u16(shape, 0, words, 5121, 11);
+    runs::copy_u16(shape, 11, words, 5132, 2 * z.nodes);
+    runs::copy_u16(shape, 523, words, 5644, 3 * z.edges);
+    runs::copy_u16(shape, 2059, words, 7180, 4 * z.node_rows);
+    runs::copy_u16(shape, 19467, words, 24588, z.aggregates);
+    runs::copy_u16(shape, 19531, words, 24652, 6 * z.storages);
+}

@@ -1,3 +1,0 @@
-pub mod AddingRows
-pub mod LentRow
-pub mod NodeRows

@@ -1,1 +1,0 @@
-// Rows that become the last rows of a programme in turn. Laws only.

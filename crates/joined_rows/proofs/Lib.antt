@@ -1,2 +1,0 @@
-pub mod JoinedLaws
-pub mod GatherLaws

@@ -1,0 +1,66 @@
+-- `network_edge::pair_among` meets its contract. The invariant: the answer is that of the edges from `at` on. Assumes nothing.
+use Rattle.pywr.specs.Bytes.{le16}
+use native.Mathlib.Omega.{arith}
+use native.Mathlib.Nat.{sub-zero}
+use mathlib.Core.Path.{_≡_, sym, _∙_}
+use Prim.Native.Nat.{_+_, _*_, _-_, _<_, _≤_}
+use Rattle.network_edge.specs.Edge.{pairAmong}
+use Rattle.network_edge.proofs.Loops.{pair-here, pair-next, pair-end}
+use borrow.Author.Needs.{needs}
+use Rattle.network_edge.proofs.pair_among.Statement.{statement}
+use Rattle.network_edge.proofs.pair_among.Tie as tie
+
+abbrev Inv-loop : tie.InvT-loop
+Inv-loop s count start f t pair at₀ i₀ at i =
+    (i ≤ count) × (at ≡ start + 6 * i) × (pairAmong s count start f t ≡ pairAmong s (count - i) at f t)
+
+abbrev μ-loop : tie.MeasureT-loop
+μ-loop s count start f t pair at₀ i₀ at i = count - i
+
+loop-holds : tie.Need-loop-holds Inv-loop μ-loop
+loop-holds c =
+    (search needs, search needs, rw sub-zero)
+
+returns : tie.Need-returns Inv-loop μ-loop
+returns c =
+    let c1 = c .before in
+    let c2 = c1 .before in
+    let c3 = c2 .before in
+    let c4 = c3 .before in
+    let c5 = c4 .before in
+    let c6 = c5 .before in
+    let c7 = c6 .before in
+    let k = c4 .loop .at + 2 in
+    let h : le16 (c7 .before .args .s .now) k < 65536 = omega (arith, c7 .shared-slice-known .given k, c7 .shared-slice-known .given (k + 1)) in
+    rw (← (c6 .wide16 .ensures .0), ← (c5 .wide162 .ensures .0))
+    (sym (c4 .loop .inv .2 ∙ pair-here _ _ _ _ _ _ (c3 .loop-test .taken) h (c6 .wide16 .ensures .1) (sym (c1 .wide32 .ensures .0 ∙ c2 .u32-at .ensures) ∙ c .if1 .taken)))
+
+loop-again : tie.Need-loop-again Inv-loop μ-loop
+loop-again c =
+    (search needs, search needs, c .before .before .before .before .loop .inv .2 ∙ pair-next _ _ _ _ _ _ (c .before .before .before .loop-test .taken) (λ q. c .if1 .left (c .before .wide32 .ensures .0 ∙ c .before .before .u32-at .ensures ∙ q)))
+
+returns-2 : tie.Need-returns-2 Inv-loop μ-loop
+returns-2 c =
+    let c2 = c .before .before in
+    rw (← (c2 .before .wide16 .ensures .0), ← (c2 .wide162 .ensures .0)) (sym (c .before .loop .inv .2 ∙ pair-end _ _ _ _ _ _ (c .loop-test .left)))
+
+pub pair-among-spec : {M : Type 1} → statement M
+pair-among-spec =
+    tie.close
+    (tie.spec
+    Inv-loop
+    μ-loop
+    (λ c κs. search needs)
+    (λ c κs. search needs)
+    (λ c. search needs)
+    (λ c. search needs)
+    loop-holds
+    (λ c. search needs)
+    (λ c κs. search needs)
+    (λ c κs. search needs)
+    returns
+    (λ c. search needs)
+    (λ c. search needs)
+    (λ c. search needs)
+    loop-again
+    returns-2)

@@ -1,0 +1,66 @@
+-- `network_virtual_storage::check_virtual_storage` meets its contract: at each return, what each field answered. Assumes nothing.
+use native.Mathlib.Omega.{arith}
+use mathlib.Core.Path.{sym, _∙_}
+use Rattle.fields.proofs.Within.{byte-within}
+use Rattle.network_virtual_storage.specs.VirtualStorage.{checkVirtualStorage}
+use borrow.Author.Needs.{needs}
+use Rattle.network_virtual_storage.proofs.check_virtual_storage.Statement.{statement}
+use Rattle.network_virtual_storage.proofs.check_virtual_storage.Tie as tie
+
+check-parts-requires : tie.Need-check-parts-requires
+check-parts-requires c κs =
+    let h = byte-within _ _ _ _ _ _ (sym (c .before .before .before .byte-field2 .ensures) ∙ c .before .c2 .given .1) in omega (arith, h .0)
+
+returns : tie.Need-returns
+unfolding checkVirtualStorage
+returns c =
+    (rw (← (c .before .before .before .byte-field .ensures), c .before .k .given .1), tt)
+
+returns-2 : tie.Need-returns-2
+unfolding checkVirtualStorage
+returns-2 c =
+    (rw (← (c .before .before .before .before .before .before .before .byte-field .ensures), c .before .before .before .before .before .k2 .given .1, ← (c .before .before .before .check-dates .ensures), c .before .d .given .1), tt)
+
+returns-3 : tie.Need-returns-3
+unfolding checkVirtualStorage
+returns-3 c =
+    let c1 = c .before in
+    let c3 = c1 .before .before in
+    let c4 = c3 .before in
+    let c6 = c4 .before .before in
+    let c8 = c6 .before .before in
+    let c10 = c8 .before .before in
+    (rw (← (c10 .byte-field .ensures), c8 .k2 .given .1, ← (c6 .check-dates .ensures), c4 .enum-told .given .1, ← (c3 .byte-field2 .ensures), c1 .c .given .1), tt)
+
+returns-4 : tie.Need-returns-4
+unfolding checkVirtualStorage
+returns-4 c =
+    let c2 = c .before .before in
+    let c4 = c2 .before .before in
+    let c5 = c4 .before in
+    let c7 = c5 .before .before in
+    let c9 = c7 .before .before in
+    let c11 = c9 .before .before in
+    (rw (← (c11 .byte-field .ensures), c9 .k2 .given .1, ← (c7 .check-dates .ensures), c5 .enum-told .given .1, ← (c4 .byte-field2 .ensures), c2 .c2 .given .1) (c .check-parts .ensures .0), c .check-parts .ensures .1)
+
+pub check-virtual-storage-spec : {M : Type 1} → statement M
+check-virtual-storage-spec =
+    tie.close
+    (tie.spec
+    (λ c. search needs)
+    (λ c κs. search needs)
+    (λ c. search needs)
+    (λ c. search needs)
+    (λ c κs. search needs)
+    (λ c. search needs)
+    (λ c. search needs)
+    (λ c. search needs)
+    (λ c κs. search needs)
+    (λ c. search needs)
+    (λ c. search needs)
+    (λ c. search needs)
+    check-parts-requires
+    returns
+    returns-2
+    returns-3
+    returns-4)

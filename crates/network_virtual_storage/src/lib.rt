@@ -1,0 +1,173 @@
+// A virtual storage of the network file: the check of its `VS` record, and its fields.
+ghost use mathlib.Core.Path.{_≡_};
+ghost use mathlib.Core.Bool.{true};
+ghost use Prim.Native.Nat.{_+_, _*_, _<_, _≤_};
+ghost use lib.ListN.{length};
+ghost use Rattle.pywr.specs.Bytes.{byte, le64};
+ghost use Rattle.pywr.specs.Numbers.{isSmall};
+ghost use Rattle.pywr.specs.NetworkFile.{leastDate, mostDate};
+ghost use Rattle.fields.specs.Field.{NextWithin};
+ghost use Rattle.fields.specs.Records.{checkEach};
+ghost use Rattle.network_virtual_storage.specs.VirtualStorage.{partAt, periodAt, virtualStorageEnd, checkPart, checkDates, checkVirtualStorage};
+ghost use Rattle.network_virtual_storage.specs.PeriodOf.{periodOf};
+use fields::Checked;
+use fields::Field;
+use pywr::NodeIndex;
+
+// When a virtual storage is active: always, or from the start to the end, both included.
+pub struct Period {
+    pub always: bool,
+    pub start_month: u8,
+    pub start_day: u8,
+    pub end_month: u8,
+    pub end_day: u8,
+}
+
+fn least_date(period: usize) -> usize
+    ensures { λ r. ⌜ r ≡ leastDate period ⌝ }
+{
+    if period == 0 {
+        return 0;
+    }
+    1
+}
+
+fn most_date(period: usize, most: usize) -> usize
+    ensures { λ r. ⌜ r ≡ mostDate period most ⌝ }
+{
+    if period == 0 {
+        return 0;
+    }
+    most
+}
+
+// `count` parts, from `at`.
+fn check_parts(s: &[u8], place: usize, nodes: usize, count: usize, at: usize) -> Checked
+    requires { ⌜ at ≤ length (now s) ⌝ }
+    ensures { λ r. ⌜ (r ≡ checkEach (checkPart (now (s .entry)) place nodes) count at) × NextWithin r (length (now (s .entry))) ⌝ }
+{
+    let mut here = at;
+    let mut i: usize = 0;
+    while i < count {
+        let f = fields::node_field(s, place, here, nodes);
+        match f {
+            Field::Refused(n, p) => {
+                return Checked::Refused(n, p);
+            }
+            Field::Value(_) => {
+                let r = fields::check_factor(s, place, here + 2);
+                match r {
+                    Checked::Refused(n, p) => {
+                        return Checked::Refused(n, p);
+                    }
+                    Checked::Next(_) => {
+                        here += 10;
+                        i += 1;
+                    }
+                }
+            }
+        }
+    }
+    Checked::Next(here)
+}
+
+// The four date bytes of the record at `at`.
+fn check_dates(s: &[u8], at: usize, period: usize) -> Checked
+    requires { ⌜ at + 2 ≤ length (now s) ⌝ }
+    ensures { λ r. ⌜ r ≡ checkDates (now (s .entry)) at period ⌝ }
+{
+    let least = least_date(period);
+    let month = most_date(period, 12);
+    let day = most_date(period, 31);
+    let a = fields::byte_field(s, at, at + 3, least, month);
+    match a {
+        Field::Refused(n, p) => Checked::Refused(n, p),
+        Field::Value(_) => {
+            let b = fields::byte_field(s, at, at + 4, least, day);
+            match b {
+                Field::Refused(n, p) => Checked::Refused(n, p),
+                Field::Value(_) => {
+                    let c = fields::byte_field(s, at, at + 5, least, month);
+                    match c {
+                        Field::Refused(n, p) => Checked::Refused(n, p),
+                        Field::Value(_) => {
+                            let d = fields::byte_field(s, at, at + 6, least, day);
+                            match d {
+                                Field::Refused(n, p) => Checked::Refused(n, p),
+                                Field::Value(_) => Checked::Next(at + 7),
+                            }
+                        }
+                    }
+                }
+            }
+        }
+    }
+}
+
+// The virtual storage whose record stands at `at`, of a network with `nodes` nodes.
+pub fn check_virtual_storage(s: &[u8], nodes: usize, at: usize) -> Checked
+    requires { ⌜ at + 2 ≤ length (now s) ⌝ }
+    ensures { λ r. ⌜ (r ≡ checkVirtualStorage (now (s .entry)) nodes at) × NextWithin r (length (now (s .entry))) ⌝ }
+{
+    let k = fields::byte_field(s, at, at + 2, 0, 1);
+    match k {
+        Field::Refused(n, p) => Checked::Refused(n, p),
+        Field::Value(period) => {
+            let d = check_dates(s, at, period);
+            match d {
+                Checked::Refused(n, p) => Checked::Refused(n, p),
+                Checked::Next(_) => {
+                    let c = fields::byte_field(s, at, at + 7, 1, 64);
+                    match c {
+                        Field::Refused(n, p) => Checked::Refused(n, p),
+                        Field::Value(count) => check_parts(s, at, nodes, count, at + 8),
+                    }
+                }
+            }
+        }
+    }
+}
+
+// The fields of the record at `at`, and where it ends.
+pub fn active_period(s: &[u8], at: usize) -> Period
+    requires { ⌜ at + 8 ≤ length (now s) ⌝ }
+    ensures { λ r. ⌜ periodOf r ≡ periodAt (now (s .entry)) at ⌝ }
+{
+    Period {
+        always: s[at + 2] == 0,
+        start_month: s[at + 3],
+        start_day: s[at + 4],
+        end_month: s[at + 5],
+        end_day: s[at + 6],
+    }
+}
+
+pub fn part_count(s: &[u8], at: usize) -> usize
+    requires { ⌜ at + 8 ≤ length (now s) ⌝ }
+    ensures { λ r. ⌜ (r ≡ byte (now (s .entry)) (at + 7)) × (r < 256) ⌝ }
+{
+    fields::wide8(s[at + 7])
+}
+
+pub fn virtual_storage_end(s: &[u8], at: usize) -> usize
+    requires { ⌜ at + 8 ≤ length (now s) ⌝ }
+    ensures { λ r. ⌜ r ≡ virtualStorageEnd (now (s .entry)) at ⌝ }
+{
+    at + 8 + 10 * part_count(s, at)
+}
+
+// Part k of the record at `at`: its node, and its factor, whose pattern passed.
+pub fn part_node(s: &[u8], at: usize, k: usize) -> NodeIndex
+    requires { ⌜ (virtualStorageEnd (now s) at ≤ length (now s)) × (k < byte (now s) (at + 7)) ⌝ }
+    ensures { λ r. ⌜ r .0 ≡ partAt (now (s .entry)) (at + 8 + 10 * k) .node ⌝ }
+{
+    NodeIndex(fields::u16_at(s, at + 8 + 10 * k))
+}
+
+pub fn part_factor(s: &[u8], at: usize, k: usize) -> f64
+    requires { ⌜ (virtualStorageEnd (now s) at ≤ length (now s)) × (k < byte (now s) (at + 7)) × (isSmall (le64 (now s) (at + 8 + 10 * k + 2)) ≡ true) ⌝ }
+    ensures { λ r. ⌜ r ≡ partAt (now (s .entry)) (at + 8 + 10 * k) .factor ⌝ }
+{
+    let b = fields::u64_at(s, at + 8 + 10 * k + 2);
+    f64::from_bits(b)
+}

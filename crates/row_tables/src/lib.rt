@@ -1,1 +1,0 @@
-// The tables that rows are made from. Definitions only.

@@ -1,0 +1,40 @@
+-- `set_coefficient` meets its contract. Assumes nothing.
+use mathlib.Core.Path.{refl}
+use native.Mathlib.Omega.{arith}
+use borrow.Author.Needs.{needs}
+use Rattle.step_coefficients.proofs.set_coefficient.Statement.{statement}
+use Rattle.step_coefficients.proofs.set_coefficient.Tie as tie
+
+column-place-requires : tie.Need-column-place-requires
+column-place-requires c κs =
+    let c2 = c .before .before in
+    let c7 = c2 .before .before .before .before .before in
+    (omega arith, rw (c2 .wide-start .ensures .0, c .wide-start2 .ensures .0) (c7 .pre .4))
+
+returns : tie.Need-returns
+returns c =
+    let p = c .column-place .ensures in
+    record {
+      place = c .column-place .result;
+      from = omega (arith, p .0, c .before .before .before .wide-start .ensures .0);
+      under = omega (arith, p .1, c .before .wide-start2 .ensures .0);
+      on = p .2;
+      stored = refl;
+    }
+
+pub set-coefficient-spec : {M : Type 1} → statement M
+set-coefficient-spec =
+    tie.close
+    (tie.spec
+    (λ c. search needs)
+    (λ c. search needs)
+    (λ c κs. search needs)
+    (λ c. search needs)
+    (λ c. search needs)
+    (λ c. search needs)
+    (λ c κs. search needs)
+    column-place-requires
+    (λ c. search needs)
+    (λ c. search needs)
+    (λ c. search needs)
+    returns)

@@ -1,0 +1,41 @@
+// The coefficients of a step: one element of a row set (apply_updated_coefficients of builder.rs).
+use pywr::ColumnIndex;
+use store_rows::wide_start;
+ghost use mathlib.Core.Path.{_≡_};
+ghost use mathlib.Core.Bool.{true};
+ghost use Prim.Native.Nat.{_+_, _<_, _≤_};
+ghost use lib.ListN.{length, getD};
+ghost use lib.Seq.{slice};
+ghost use Rattle.pywr.specs.Network.{listed};
+ghost use Rattle.step_coefficients.specs.RowCoefficients.{CoefficientSet};
+
+// The place of a column in the row from `start` up to `end`, looked for from the end, where a row's integer columns stand.
+fn column_place(columns: &[u16], start: usize, end: usize, column: ColumnIndex) -> usize
+    requires { ⌜ (end ≤ length (now columns)) × (listed (column .0) (slice start end (now columns)) ≡ true) ⌝ }
+    ensures { λ r. ⌜ (start ≤ r) × (r < end) × (getD (now (columns .entry)) r 0 ≡ column .0) ⌝ }
+{
+    let mut k = end - 1;
+    while columns[k] != column.0 {
+        k -= 1;
+    }
+    k
+}
+
+// The element on a column of a row is set.
+pub fn set_coefficient(
+    elements: &mut [f64],
+    columns: &[u16],
+    row_starts: &[u32],
+    row: usize,
+    column: ColumnIndex,
+    value: f64,
+)
+    requires { ⌜ (row + 1 < length (now «row_starts»)) × (getD (now «row_starts») (row + 1) 0 ≤ 4096) × (4096 ≤ length (now columns)) × (4096 ≤ length (now elements))
+        × (listed (column .0) (slice (getD (now «row_starts») row 0) (getD (now «row_starts») (row + 1) 0) (now columns)) ≡ true) ⌝ }
+    ensures { λ _. ⌜ CoefficientSet (now (columns .entry)) (now («row_starts» .entry)) row (column .0) value (now (elements .entry)) (now (elements .exit)) ⌝ }
+{
+    let start = wide_start(row_starts[row]);
+    let end = wide_start(row_starts[row + 1]);
+    let place = column_place(columns, start, end, column);
+    elements[place] = value;
+}

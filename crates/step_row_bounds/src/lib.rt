@@ -1,0 +1,95 @@
+// Row bounds of a step: varying rows reset to the sentinels, and tightened by intervals (reset_row_bounds and apply_row_bounds of builder.rs).
+use extremes::greater;
+use extremes::lesser;
+use pywr::Interval;
+use store_shape::VARYING_COUNT;
+use store_shape::kept_sentinel;
+use store_shape::wide;
+ghost use mathlib.Core.Path.{_≡_};
+ghost use Prim.Native.Nat.{_+_, _<_, _≤_};
+ghost use mathlib.Core.List.{List, map};
+ghost use lib.ListN.{length, getD};
+ghost use lib.Ieee.{Float};
+ghost use Rattle.pywr.specs.Interval.{tighten, sentinels};
+ghost use Rattle.pywr.specs.Programme.{Row};
+ghost use Rattle.pywr.specs.Store.{sentinelOf, entries};
+ghost use Rattle.pywr.specs.Step.{bounded, applyIntervals};
+ghost use Rattle.step_work.specs.Held.{heldAt, heldFrom};
+ghost use Rattle.step_row_bounds.specs.RowBounds.{BoundsWritten, RowTightened, RowTable};
+
+// Where the upper bounds of the work run's intervals start.
+const UPPERS_AT: usize = 352;
+
+// Interval k of a step's work run.
+pub fn held_interval(work: &[f64], k: usize) -> Interval
+    requires { ⌜ (704 ≤ length (now work)) × (k < 352) ⌝ }
+    ensures { λ r. ⌜ r ≡ heldAt (now (work .entry)) k ⌝ }
+{
+    Interval {
+        lower: work[k],
+        upper: work[UPPERS_AT + k],
+    }
+}
+
+// Every varying row's bounds become the store's sentinels.
+pub fn reset_row_bounds(row_lower: &mut [f64], row_upper: &mut [f64], shape: &[u16])
+    requires { ⌜ (19723 ≤ length (now shape)) × (getD (now shape) 5 0 ≤ 1024) × (1024 ≤ length (now «row_lower»)) × (1024 ≤ length (now «row_upper»)) ⌝ }
+    ensures { λ _. ⌜ ((rows : List Row) → length rows ≡ getD (now (shape .entry)) 5 0
+        → BoundsWritten (map (bounded (sentinels (sentinelOf (getD (now (shape .entry)) 0 0)))) rows)
+        (now («row_lower» .entry)) (now («row_upper» .entry)) (now («row_lower» .exit)) (now («row_upper» .exit))) ⌝ }
+{
+    let sentinel = kept_sentinel(shape);
+    let rows = wide(shape[VARYING_COUNT]);
+    runs::fill_f64(row_lower, 0, rows, sentinel.low());
+    runs::fill_f64(row_upper, 0, rows, sentinel.high());
+}
+
+fn tighten(held: Interval, by: Interval) -> Interval
+    ensures { λ r. ⌜ r ≡ tighten held by ⌝ }
+{
+    Interval {
+        lower: greater(held.lower, by.lower),
+        upper: lesser(held.upper, by.upper),
+    }
+}
+
+// A row's bounds tightened by an interval: a looser bound is ignored.
+pub fn apply_row_bounds(row_lower: &mut [f64], row_upper: &mut [f64], row: usize, by: Interval)
+    requires { ⌜ (row < length (now «row_lower»)) × (row < length (now «row_upper»)) ⌝ }
+    ensures { λ _. ⌜ RowTightened row by (now («row_lower» .entry)) (now («row_upper» .entry)) (now («row_lower» .exit)) (now («row_upper» .exit)) ⌝ }
+{
+    let held = Interval {
+        lower: row_lower[row],
+        upper: row_upper[row],
+    };
+    let bounds = tighten(held, by);
+    row_lower[row] = bounds.lower;
+    row_upper[row] = bounds.upper;
+}
+
+// The intervals from `first` on, applied one after another to the rows that a table of the shape run names.
+pub fn apply_intervals(
+    row_lower: &mut [f64],
+    row_upper: &mut [f64],
+    shape: &[u16],
+    table: usize,
+    words: usize,
+    count: usize,
+    work: &[f64],
+    first: usize,
+)
+    requires { ⌜ RowTable (now shape) table words count × (1024 ≤ length (now «row_lower»)) × (1024 ≤ length (now «row_upper»)) × (704 ≤ length (now work)) × (first + count ≤ 352) ⌝ }
+    ensures { λ _. ⌜ ((rows : List Row) (lower upper : List Float) → length rows ≡ getD (now (shape .entry)) 5 0
+        → BoundsWritten rows lower upper (now («row_lower» .entry)) (now («row_upper» .entry))
+        → BoundsWritten (applyIntervals (entries (λ at. getD (now (shape .entry)) at 0) words table count) (heldFrom (now (work .entry)) first count) rows)
+        lower upper (now («row_lower» .exit)) (now («row_upper» .exit))) ⌝ }
+{
+    let mut at = table;
+    let mut i: usize = 0;
+    while i < count {
+        let row = wide(shape[at]);
+        apply_row_bounds(row_lower, row_upper, row, held_interval(work, first + i));
+        at += words;
+        i += 1;
+    }
+}

@@ -1,0 +1,111 @@
+-- What the tables of a well shaped store give to the rows of a step. Assumes nothing.
+use mathlib.Core.Path.{_≡_}
+use Prim.Native.Nat.{ℕ, _+_, _*_, _<_, _≤_}
+use native.Mathlib.Omega.{arith}
+use mathlib.Core.Bool.{Bool, true, _&&_, _||_}
+use mathlib.Core.List.{List}
+use lib.ListN.{getD}
+use lib.Seq.{slice}
+use lib.Dec.{T, leb, ltb, eqb, ltb→lt, eqb→eq}
+use lib.Ieee.{Float}
+use lib.Ieee.Fits.{and-l, and-r}
+use Rattle.laws.proofs.Tests.{of-true, to-true, or-elim}
+use Rattle.pywr.specs.Network.{listed}
+use Rattle.pywr.specs.Store.{Store, word, nodeCount, edgeColumnCount, setCount, varyingCount, rowCount, nodeRowCount, aggregateCount, storageCount, columnsOfRow}
+use Rattle.pywr.specs.Misshapen.{columnsRise, rowColumnsRise, nodeRowFits, aggregateFits, storageFits}
+use Rattle.store_shape.proofs.Entries.{entry-passes}
+use Rattle.store.proofs.Passed.{shaped}
+use Rattle.step_row_bounds.specs.RowBounds.{RowTable}
+use Rattle.step_node_rows.specs.NodeConstraintBounds.{NodeRowFits, VaryingFit}
+use Rattle.step_rows.specs.ConstraintBounds.{StepRuns}
+
+pub record Fitting (columns rowStarts shape : List ℕ) : Type 0 where
+  pub varying : VaryingFit columns rowStarts shape
+  pub node-rows-few : getD shape 8 0 ≤ 4352
+  pub node-rows : (k : ℕ) → k < getD shape 8 0 → NodeRowFits columns rowStarts shape (2059 + 4 * k)
+  pub aggregates-few : getD shape 9 0 ≤ 64
+  pub storages-few : getD shape 10 0 ≤ 32
+  pub aggregates : RowTable shape 19467 1 (getD shape 9 0)
+  pub storages : RowTable shape 19531 6 (getD shape 10 0)
+
+module _ (s : Store) where
+  row-rises : (r : ℕ) → rowColumnsRise s r ≡ true → columnsRise (edgeColumnCount s + setCount s) 0 (slice (getD (s .rowStarts) r 0) (getD (s .rowStarts) (r + 1) 0) (s .columns)) ≡ true
+  unfolding rowColumnsRise columnsOfRow
+  row-rises r e = e
+
+  node-row-fits : (at : ℕ) → nodeRowFits s at ≡ true → NodeRowFits (s .columns) (s .rowStarts) (s .shape) at
+  unfolding nodeRowFits columnsOfRow
+  node-row-fits at q =
+      let a : Bool = ltb (word s at) (nodeCount s) in
+      let b : Bool = ltb (word s (at + 1)) (varyingCount s) in
+      let c : Bool = leb (word s (at + 2)) 2 in
+      let d : Bool = eqb (word s (at + 2)) 0 in
+      let e : Bool = ltb (word s (at + 3)) (setCount s) in
+      let f : Bool = listed (edgeColumnCount s + word s (at + 3)) (slice (getD (s .rowStarts) (word s (at + 1)) 0) (getD (s .rowStarts) (word s (at + 1) + 1) 0) (s .columns)) in
+      let t = of-true (a && b && c && (d || (e && f))) q in
+      let ab : T (a && b) = and-l (a && b) c (and-l (a && b && c) (d || (e && f)) t) in
+      let ef : (word s (at + 2) ≡ 0 → ⊥) → T (e && f) = (λ n. or-elim d (e && f) (and-r (a && b && c) (d || (e && f)) t) (λ u. absurd (n (eqb→eq (word s (at + 2)) 0 u))) (λ u. u)) in
+      record {
+        node = ltb→lt (word s at) (nodeCount s) (and-l a b ab);
+        row = ltb→lt (word s (at + 1)) (varyingCount s) (and-r a b ab);
+        set = λ n. ltb→lt (word s (at + 3)) (setCount s) (and-l e f (ef n));
+        column = λ n. to-true f (and-r e f (ef n));
+      }
+
+  aggregate-row : (at : ℕ) → aggregateFits s at ≡ true → word s at < varyingCount s
+  unfolding aggregateFits
+  aggregate-row at q = ltb→lt (word s at) (varyingCount s) (of-true (ltb (word s at) (varyingCount s)) q)
+
+  storage-row : (at : ℕ) → storageFits s at ≡ true → word s at < varyingCount s
+  unfolding storageFits
+  storage-row at q =
+      let a : Bool = ltb (word s at) (varyingCount s) in
+      let b : Bool = leb (word s (at + 1)) 1 in
+      ltb→lt (word s at) (varyingCount s) (and-l a b (of-true (a && b) q))
+
+  pub fitting : {work : List Float} → StepRuns s work → Fitting (s .columns) (s .rowStarts) (s .shape)
+  fitting p =
+      let h = shaped s (p .well-shaped) in
+      let n = h .counts in
+      let few : varyingCount s ≤ 1024 = omega (arith, n .rows) in
+      record {
+        varying =
+            record {
+              rows =
+                  record {
+                    columns-long = p .columns-long;
+                    starts-long = p .row-starts-long;
+                    shape-long = p .shape-long;
+                    edge-columns = n .edge-columns;
+                    sets = n .sets;
+                    rows = n .rows;
+                    kept = n .kept;
+                    starts = h .starts;
+                  };
+              nodes = n .nodes;
+              rise = λ r lt.
+                  let q : 0 + 1 * r ≡ r = omega arith in
+                  let e : rowColumnsRise s r ≡ true = rw q at (entry-passes (rowColumnsRise s) 1 (rowCount s) 0 (h .columns) r (omega arith)) in
+                  row-rises r e;
+            };
+        node-rows-few = n .node-rows;
+        node-rows = λ k lt. node-row-fits (2059 + 4 * k) (entry-passes (nodeRowFits s) 4 (nodeRowCount s) 2059 (h .node-rows) k lt);
+        aggregates-few = n .aggregates;
+        storages-few = n .storages;
+        aggregates =
+            record {
+              shape-long = p .shape-long;
+              varying = few;
+              some-words = omega arith;
+              within = omega (arith, n .aggregates);
+              rows = λ k lt. aggregate-row (19467 + 1 * k) (entry-passes (aggregateFits s) 1 (aggregateCount s) 19467 (h .aggregates) k lt);
+            };
+        storages =
+            record {
+              shape-long = p .shape-long;
+              varying = few;
+              some-words = omega arith;
+              within = omega (arith, n .storages);
+              rows = λ k lt. storage-row (19531 + 6 * k) (entry-passes (storageFits s) 6 (storageCount s) 19531 (h .storages) k lt);
+            };
+      }

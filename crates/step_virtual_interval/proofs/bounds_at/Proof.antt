@@ -1,0 +1,23 @@
+-- `bounds_at` meets its contract. Assumes nothing.
+use Rattle.step_file.specs.Decoded.{storageStepAt}
+use borrow.Author.Needs.{needs}
+use Rattle.step_virtual_interval.proofs.bounds_at.Statement.{statement}
+use Rattle.step_virtual_interval.proofs.bounds_at.Tie as tie
+
+returns : tie.Need-returns
+unfolding storageStepAt
+returns c =
+    rw (← (c .before .before .before .f64-at .ensures), ← (c .before .before .f64-at2 .ensures), ← (c .before .f64-at3 .ensures)) (c .virtual-bounds .ensures)
+
+pub bounds-at-spec : {M : Type 1} → statement M
+bounds-at-spec =
+    tie.close
+    (tie.spec
+    (λ c. search needs)
+    (λ c κs. search needs)
+    (λ c. search needs)
+    (λ c κs. search needs)
+    (λ c. search needs)
+    (λ c κs. search needs)
+    (λ c κs. search needs)
+    returns)

@@ -1,0 +1,47 @@
+// The interval of a virtual storage on the date of a step (virtual_storage.rs).
+use fields::f64_at;
+use pywr::Interval;
+use pywr::NodeBounds;
+use pywr::Sentinel;
+ghost use mathlib.Core.Path.{_≡_};
+ghost use Prim.Native.Nat.{_+_, _≤_};
+ghost use lib.ListN.{length};
+ghost use Rattle.step_file.specs.Decoded.{storageStepAt};
+ghost use Rattle.step_virtual_interval.specs.VirtualInterval.{storageAt};
+
+fn wide_u16(x: u8) -> u16
+    ensures { λ r. ⌜ r ≡ x ⌝ }
+{
+    x as u16
+}
+
+// The available and missing volume of the virtual storage whose record stands at `at`.
+fn bounds_at(file: &[u8], at: usize) -> NodeBounds
+    requires { ⌜ at + 26 ≤ length (now file) ⌝ }
+    ensures { λ r. ⌜ r ≡ storageStepAt (now (file .entry)) at ⌝ }
+{
+    let min = f64_at(file, at + 2);
+    let max = f64_at(file, at + 10);
+    let volume = f64_at(file, at + 18);
+    step_bounds::virtual_bounds(min, max, volume)
+}
+
+// A virtual storage's interval on the step's date; both sentinels outside its period.
+pub fn storage_interval(
+    file: &[u8],
+    shape: &[u16],
+    place: usize,
+    at: usize,
+    days: f64,
+    sentinel: Sentinel,
+) -> Interval
+    requires { ⌜ (4 ≤ length (now file)) × (at + 26 ≤ length (now file)) × (place + 6 ≤ length (now shape)) ⌝ }
+    ensures { λ r. ⌜ r ≡ storageAt sentinel days (now (shape .entry)) (now (file .entry)) place at ⌝ }
+{
+    let month = wide_u16(file[2]);
+    let day = wide_u16(file[3]);
+    if step_period::is_active_at(shape, place, month, day) {
+        return step_bounds::interval_of(days, bounds_at(file, at));
+    }
+    step_bounds::sentinels(sentinel)
+}

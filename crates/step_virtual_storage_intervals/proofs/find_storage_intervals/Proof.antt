@@ -1,0 +1,89 @@
+-- `find_storage_intervals` meets its contract. The loop's invariant: i intervals are written, none of them crossed. Assumes nothing.
+use mathlib.Core.Path.{refl, _∙_}
+use Prim.Native.Nat.{_+_, _-_}
+use native.Mathlib.Omega.{arith}
+use lib.ListN.{length-set}
+use Rattle.step_virtual_storage_intervals.specs.StorageIntervals.{storageNumbered}
+use Rattle.step_work.proofs.WrittenLaws.{Passed, passed-none, passed-more, passed-stops, passed-all}
+use borrow.Author.Needs.{needs}
+use Rattle.step_virtual_storage_intervals.proofs.find_storage_intervals.Statement.{statement}
+use Rattle.step_virtual_storage_intervals.proofs.find_storage_intervals.Tie as tie
+
+abbrev Inv-loop : tie.InvT-loop
+Inv-loop file shape days sentinel work₀ first storages i₀ work i = Passed (storageNumbered sentinel days shape file) 320 storages work₀ work i
+
+abbrev μ-loop : tie.MeasureT-loop
+μ-loop file shape days sentinel work₀ first storages i₀ work i = storages - i
+
+loop-holds : tie.Need-loop-holds Inv-loop μ-loop
+loop-holds c =
+    passed-none _ _ _ _
+
+same-length : tie.Need-same-length Inv-loop μ-loop
+same-length c =
+    c .before .before .before .before .loop .inv .writing .long
+
+returns : tie.Need-returns Inv-loop μ-loop
+unfolding storageNumbered
+returns c =
+    let c2 = c .before .before in
+    let c3 = c2 .before in
+    let c4 = c3 .before in
+    let c5 = c4 .before in
+    let c7 = c5 .before .before in
+    rw (← (c5 .wide .ensures .0))
+    (passed-stops _ _ (c3 .loop-test .taken) (c2 .storage-interval .ensures ∙ rw (c7 .stores-at .ensures)) (c .before .is-crossed .ensures) (c4 .loop .inv) 15 (c .if1 .taken))
+
+slice-write-work-2 : tie.Need-slice-write-work-2 Inv-loop μ-loop
+slice-write-work-2 c =
+    let c2 = c .before .before in
+    let c4 = c2 .before .before in
+    omega (arith, length-set (c4 .loop .work) (320 + c4 .loop .i) (c2 .storage-interval .result .lower), c4 .loop .inv .writing .long)
+
+loop-again : tie.Need-loop-again Inv-loop μ-loop
+unfolding storageNumbered
+loop-again c =
+    let c2 = c .before .before in
+    let c3 = c2 .before in
+    let c4 = c3 .before in
+    let c7 = c4 .before .before .before in
+    passed-more _ _ (c3 .loop-test .taken) (c2 .storage-interval .ensures ∙ rw (c7 .stores-at .ensures)) (c .before .is-crossed .ensures) (c4 .loop .inv) _ refl (search needs)
+    (search needs) (c .if1 .left)
+
+same-length-2 : tie.Need-same-length-2 Inv-loop μ-loop
+same-length-2 c =
+    c .before .loop .inv .writing .long
+
+returns-2 : tie.Need-returns-2 Inv-loop μ-loop
+returns-2 c =
+    rw (← (c .before .before .wide .ensures .0)) (passed-all 15 (c .loop-test .left) (c .before .loop .inv))
+
+pub find-storage-intervals-spec : {M : Type 1} → statement M
+find-storage-intervals-spec =
+    tie.close
+    (tie.spec
+    Inv-loop
+    μ-loop
+    (λ c κs. search needs)
+    (λ c. search needs)
+    (λ c κs. search needs)
+    loop-holds
+    (λ c. search needs)
+    (λ c. search needs)
+    (λ c. search needs)
+    (λ c. search needs)
+    (λ c κs. search needs)
+    (λ c κs. search needs)
+    same-length
+    returns
+    (λ c. search needs)
+    (λ c. search needs)
+    (λ c. search needs)
+    (λ c. search needs)
+    (λ c. search needs)
+    slice-write-work-2
+    (λ c. search needs)
+    (λ c. search needs)
+    loop-again
+    same-length-2
+    returns-2)

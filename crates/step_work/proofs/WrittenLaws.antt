@@ -1,0 +1,106 @@
+-- A loop that writes intervals into the work run one after another. Assumes nothing.
+use mathlib.Core.Path.{_≡_, refl, sym, ap, ap₂, _∙_}
+use Prim.Native.Nat.{ℕ, _+_, _<_, _≤_}
+use native.Mathlib.Nat.{zero-add}
+use native.Mathlib.Omega.{arith}
+use borrow.Author.Count.{below-none, below-more}
+use mathlib.Core.List.{List}
+use mathlib.Core.Bool.{Bool, true, false}
+use lib.ListN.{length, set, length-set}
+use lib.Seq.{getD-set-same, getD-set-other}
+use lib.Ieee.{Float}
+use Rattle.pywr.specs.declared.Answer.the-variants.{Accepted, Refused}
+use Rattle.pywr.specs.declared.Interval.{Interval}
+use Rattle.pywr.specs.Numbers.{zero64}
+use Rattle.pywr.specs.StepIntervals.{isCrossed}
+use Rattle.step_work.specs.Held.{heldAt}
+use Rattle.step_work.specs.Written.{Written, crossedAnswer, Looked}
+use Rattle.step_work.proofs.CrossedLaws.{none-crossed, first-crossed}
+
+-- x written at place k
+abbrev pub put : List Float → ℕ → Interval → List Float
+put w k x = set (set w k (x .lower)) (352 + k) (x .upper)
+
+put-same : (w : List Float) (k : ℕ) (x : Interval) → k < 352 → 704 ≤ length w → heldAt (put w k x) k ≡ x
+unfolding heldAt
+put-same w k x lt long =
+    ap₂ (λ (a b : Float). record { lower = a; upper = b })
+    (getD-set-other (set w k (x .lower)) (352 + k) k (x .upper) zero64 (λ e. omega arith) ∙ getD-set-same w k (x .lower) zero64 (omega arith))
+    (getD-set-same (set w k (x .lower)) (352 + k) (x .upper) zero64 (omega (arith, length-set w k (x .lower))))
+
+put-other : (w : List Float) (k j : ℕ) (x : Interval) → k < 352 → j < k → heldAt (put w k x) j ≡ heldAt w j
+unfolding heldAt
+put-other w k j x lt less =
+    ap₂ (λ (a b : Float). record { lower = a; upper = b })
+    (getD-set-other (set w k (x .lower)) (352 + k) j (x .upper) zero64 (λ e. omega arith) ∙ getD-set-other w k j (x .lower) zero64 (λ e. omega arith))
+    (getD-set-other (set w k (x .lower)) (352 + k) (352 + j) (x .upper) zero64 (λ e. omega arith) ∙ getD-set-other w k (352 + j) (x .lower) zero64 (λ e. omega arith))
+
+module _ (f : ℕ → Interval) (base count : ℕ) where
+  -- i intervals are written
+  pub record Writing (w₀ w : List Float) (i : ℕ) : Type 0 where
+    pub few : i ≤ count
+    pub long : length w ≡ length w₀
+    pub so-far : Written f base i w₀ w
+
+  -- and none of them is crossed
+  pub record Passed (w₀ w : List Float) (i : ℕ) : Type 0 where
+    pub writing : Writing w₀ w i
+    pub ordered : (k : ℕ) → k < i → isCrossed (f k) ≡ false
+
+  pub writing-none : (w : List Float) → Writing w w 0
+  writing-none w =
+      record {
+        few = omega arith;
+        long = refl;
+        so-far = record { held = below-none (λ (k : ℕ). heldAt w (base + k) ≡ f k); kept = λ k lt. refl };
+      }
+
+  pub passed-none : (w : List Float) → Passed w w 0
+  passed-none w = record { writing = writing-none w; ordered = below-none (λ (k : ℕ). isCrossed (f k) ≡ false) }
+
+module _ {f : ℕ → Interval} {base count : ℕ} {w₀ w : List Float} {i : ℕ} where
+  pub writing-more : (at : ℕ) (x : Interval) → at ≡ base + i → base + count ≤ 352 → 704 ≤ length w₀ → i < count → x ≡ f i
+      → Writing f base count w₀ w i → Writing f base count w₀ (put w at x) (i + 1)
+  writing-more at x q room enough lt e h =
+      record {
+        few = omega arith;
+        long = length-set (set w at (x .lower)) (352 + at) (x .upper) ∙ length-set w at (x .lower) ∙ h .long;
+        so-far =
+            record {
+              held =
+                  below-more (λ (k : ℕ). heldAt (put w at x) (base + k) ≡ f k) i
+                  (λ k b. put-other w at (base + k) x (omega arith) (omega arith) ∙ h .so-far .held k b)
+                  (ap (heldAt (put w at x)) (sym q) ∙ put-same w at x (omega arith) (omega (arith, h .long)) ∙ e);
+              kept = λ k b. put-other w at k x (omega arith) (omega arith) ∙ h .so-far .kept k b;
+            };
+      }
+
+  pub writing-all : count ≤ i → Writing f base count w₀ w i → Written f base count w₀ w
+  writing-all le h = let e : i ≡ count = omega (arith, h .few) in rw e at (h .so-far)
+
+  module _ (x : Interval) (b : Bool) (lt : i < count) (e : x ≡ f i) (is : b ≡ isCrossed x) (h : Passed f base count w₀ w i) where
+    pub passed-more : (at : ℕ) → at ≡ base + i → base + count ≤ 352 → 704 ≤ length w₀ → b ≡ false → Passed f base count w₀ (put w at x) (i + 1)
+    passed-more at q room enough uncrossed =
+        record {
+          writing = writing-more at x q room enough lt e (h .writing);
+          ordered = below-more (λ (k : ℕ). isCrossed (f k) ≡ false) i (h .ordered) (ap isCrossed (sym e) ∙ sym is ∙ uncrossed);
+        }
+
+    -- the first crossed interval refuses
+    pub passed-stops : (number : ℕ) → b ≡ true → Looked number f base count w₀ (Refused number i) w
+    unfolding crossedAnswer
+    passed-stops number crossed =
+        let all : (k : ℕ) → k < i → isCrossed (f (0 + k)) ≡ false = λ k less. ap (λ (n : ℕ). isCrossed (f n)) (zero-add k) ∙ h .ordered k less in
+        let here : isCrossed (f (0 + i)) ≡ true = ap (λ (n : ℕ). isCrossed (f n)) (zero-add i) ∙ ap isCrossed (sym e) ∙ sym is ∙ crossed in
+        record {
+          answer = ap (λ (n : ℕ). Refused number n) (sym (zero-add i)) ∙ sym (ap (crossedAnswer number) (first-crossed f count 0 0 i lt all here));
+          written = λ a. absurd (let z : _≡_ {A = ℕ} 0 1 = cc in omega arith);
+        }
+
+  pub passed-all : (number : ℕ) → count ≤ i → Passed f base count w₀ w i → Looked number f base count w₀ Accepted w
+  unfolding crossedAnswer
+  passed-all number le h =
+      record {
+        answer = sym (ap (crossedAnswer number) (none-crossed f count 0 0 (λ k lt. ap (λ (n : ℕ). isCrossed (f n)) (zero-add k) ∙ h .ordered k (omega (arith, h .writing .few)))));
+        written = λ a. writing-all le (h .writing);
+      }

@@ -1,0 +1,64 @@
+-- `step` is safe and ends. That an array of the store is as long as its type says is known of the parameter, at the start: too far back to be found
+-- for the last four that are lent. Assumes nothing.
+use mathlib.Core.Path.{_≡_}
+use lib.ListN.{length}
+use borrow.Author.Needs.{needs}
+use Rattle.test_cases.proofs.step.Statement.{statement}
+use Rattle.test_cases.proofs.step.Tie as tie
+
+abbrev start : tie.After-shape → tie.Start
+start a = a .before .before .before .before .before .before .before .before .before .before
+
+elements-known : (s : tie.Start) → length (s .args .store .elements) ≡ 4096
+elements-known s = search needs
+
+elements-length : tie.Need-slice-aggregate-front-mut-4
+elements-length c = search (needs, elements-known (start (c .before .before .before .before .before .before .before .before .before .before .before)))
+
+columns-known : (s : tie.Start) → length (s .args .store .columns) ≡ 4096
+columns-known s = search needs
+
+columns-length : tie.Need-slice-aggregate-front-u16
+columns-length c = search (needs, columns-known (start (c .before .before .before .before .before .before .before .before .before .before .before .before .before)))
+
+row-starts-known : (s : tie.Start) → length (s .args .store .«row_starts») ≡ 1025
+row-starts-known s = search needs
+
+row-starts-length : tie.Need-slice-aggregate-front-u32
+row-starts-length c = search (needs, row-starts-known (start (c .before .before .before .before .before .before .before .before .before .before .before .before .before .before .before)))
+
+shape-known : (s : tie.Start) → length (s .args .store .shape) ≡ 19723
+shape-known s = search needs
+
+shape-length : tie.Need-slice-aggregate-front-u16-2
+shape-length c = search (needs, shape-known (start (c .before .before .before .before .before .before .before .before .before .before .before .before .before .before .before .before .before)))
+
+pub step-spec : {M : Type 1} → statement M
+step-spec =
+    tie.close
+    (tie.spec
+    (λ c. search needs)
+    (λ c κs. search needs)
+    (λ c. search needs)
+    (λ c κs. search needs)
+    (λ c. search needs)
+    (λ c κs. search needs)
+    (λ c. search needs)
+    (λ c κs. search needs)
+    (λ c. search needs)
+    (λ c κs. search needs)
+    elements-length
+    (λ c κs. search needs)
+    columns-length
+    (λ c κs. search needs)
+    row-starts-length
+    (λ c κs. search needs)
+    shape-length
+    (λ c κs. search needs)
+    (λ c. search needs)
+    (λ c κs. search needs)
+    (λ c κs. search needs)
+    (λ c κs. search needs)
+    (λ c. search needs)
+    (λ c κs. search needs)
+    (λ c. search needs))

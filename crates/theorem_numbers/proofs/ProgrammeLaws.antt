@@ -1,0 +1,207 @@
+-- `NoNaN`, `NoMinusZero` and `EqualBits`: after an accepted build and any list of steps no bound, cost or element of the programme is NaN, after the build no
+-- element is −0.0, and rows that join are equal bit for bit. Assumes nothing.
+use mathlib.Core.Path.{_≡_, refl, sym, ap, ap₂, _∙_, subst}
+use Prim.Native.Nat.{ℕ, suc, _≤_}
+use mathlib.Core.Bool.{Bool, true, false, not, _&&_, Bool·beq}
+use mathlib.Core.List.{List, [], _∷_}
+use mathlib.Core.Option.{Option, none as no-file, some}
+use lib.ListN.{length, length-map}
+use lib.Dec.{T, eqb, eqb→eq}
+use lib.Ieee.{Float, nan, inf, fin, binary64, isNan, eq}
+use lib.Ieee.Fits.{and-i, and-l, and-r}
+use Rattle.laws.proofs.Tests.{of-true, to-true}
+use Rattle.doubles.proofs.Units.{eq-same}
+use Rattle.pywr.specs.declared.Sentinel.{Sentinel}
+use Rattle.pywr.specs.Result.{value}
+use Rattle.pywr.specs.Network.{Network}
+use Rattle.pywr.specs.NetworkFile.{parseNetwork}
+use Rattle.pywr.specs.Rows.{Element, element, columnMap}
+use Rattle.pywr.specs.VariableRows.{sameRow}
+use Rattle.pywr.specs.Programme.{Column, Row, Programme, Shape, Built}
+use Rattle.pywr.specs.Build.{assemble, programmeOf, build}
+use Rattle.pywr.specs.StepFile.{StepFile}
+use Rattle.pywr.specs.Step.{periodOf, periods}
+use Rattle.pywr.specs.Plans.{allFrom}
+use Rattle.pywr.specs.Store.{Store, programmeIn}
+use Rattle.pywr.specs.Calls.{buildAnswer, buildStore, storeOfStep, isAccepted}
+use Rattle.pywr.specs.Correspondence.{storeAfter, reports, lastAccepted}
+use Rattle.pywr.proofs.BoundLaws.{IsBound}
+use Rattle.pywr.proofs.MassLaws.{Every}
+use Rattle.pywr.proofs.ListLaws.{AllMem}
+use Rattle.pywr.proofs.Represents.{Represents, programme-back}
+use Rattle.pywr.proofs.RunLaws.{bind-value, after, after-held, Reached, run}
+use Rattle.pywr.proofs.ReadLaws.{Sound, read-sound}
+use Rattle.pywr.proofs.StepReadLaws.{StepSound, step-sound, intervals-sound}
+use Rattle.pywr.proofs.DemandThree.{accepted-value, build-accepted, build-represents}
+use Rattle.theorem_numbers.specs.ProgrammeNumbers.{isNumber, columnWithoutNaN, elementWithoutNaN, rowWithoutNaN, withoutNaN, isMinusZero, rowWithoutMinusZero, withoutMinusZero, NoNaN, NoMinusZero, askedRows, EqualBits}
+use Rattle.theorem_numbers.proofs.SumBounds.{plain-bits}
+use Rattle.theorem_numbers.proofs.ReadBounds.{read-small, costs-small}
+use Rattle.theorem_numbers.proofs.ElementBounds.{Plain, AllPlain}
+use Rattle.theorem_numbers.proofs.BuildNumbers.{RowOk, ColumnOk, ProgrammeOk, edges-few, build-ok, asked-plain}
+use Rattle.theorem_numbers.proofs.StepNumbers.{stepped-ok}
+
+-- ---- the tests
+
+all-pass : {A : Type 0} (P : A → Type 0) (test : A → Bool) → ((x : A) → P x → T (test x)) → (xs : List A) (i : ℕ) → Every P xs → T (allFrom (λ (j : ℕ) (x : A). test x) i xs)
+unfolding allFrom
+all-pass P test h [] i us = tt
+all-pass {A} P test h (x ∷ xs) i us = and-i (test x) (allFrom (λ (j : ℕ) (y : A). test y) (suc i) xs) (h x (us .0)) (all-pass P test h xs (suc i) (us .1))
+
+is-number : (x : Float) → IsBound x → T (isNumber x)
+unfolding isNumber isNan
+is-number nan b = b .1
+is-number (inf s) b = tt
+is-number (fin s m e) b = tt
+
+column-without : (c : Column) → ColumnOk c → T (columnWithoutNaN c)
+unfolding columnWithoutNaN
+column-without c ok =
+    and-i (isNumber (c .lower) && isNumber (c .upper)) (isNumber (c .cost))
+    (and-i (isNumber (c .lower)) (isNumber (c .upper)) (is-number (c .lower) (ok .lower)) (is-number (c .upper) (ok .upper))) (is-number (c .cost) (ok .cost))
+
+element-without : (e : Element) → IsBound (e .factor) → T (elementWithoutNaN e)
+unfolding elementWithoutNaN
+element-without e b = is-number (e .factor) b
+
+row-without : (r : Row) → RowOk IsBound r → T (rowWithoutNaN r)
+unfolding rowWithoutNaN
+row-without r ok =
+    and-i (isNumber (r .lower) && isNumber (r .upper)) (allFrom (λ (i : ℕ) (e : Element). elementWithoutNaN e) 0 (r .elements))
+    (and-i (isNumber (r .lower)) (isNumber (r .upper)) (is-number (r .lower) (ok .lower)) (is-number (r .upper) (ok .upper)))
+    (all-pass (λ (e : Element). IsBound (e .factor)) elementWithoutNaN element-without (r .elements) 0 (ok .elements))
+
+nan-pass : (p : Programme) → ProgrammeOk IsBound p → T (withoutNaN p)
+unfolding withoutNaN
+nan-pass p ok =
+    let cols : Bool = allFrom (λ (i : ℕ) (c : Column). columnWithoutNaN c) 0 (p .columns) in
+    let vary : Bool = allFrom (λ (i : ℕ) (r : Row). rowWithoutNaN r) 0 (p .varying) in
+    let fix : Bool = allFrom (λ (i : ℕ) (r : Row). rowWithoutNaN r) 0 (p .fixed) in
+    and-i (cols && vary) fix
+    (and-i cols vary (all-pass ColumnOk columnWithoutNaN column-without (p .columns) 0 (ok .columns)) (all-pass (RowOk IsBound) rowWithoutNaN row-without (p .varying) 0 (ok .varying)))
+    (all-pass (RowOk IsBound) rowWithoutNaN row-without (p .fixed) 0 (ok .fixed))
+
+row-without-minus-zero : (r : Row) → RowOk Plain r → T (rowWithoutMinusZero r)
+unfolding rowWithoutMinusZero
+row-without-minus-zero r ok = all-pass (λ (e : Element). Plain (e .factor)) (λ (e : Element). not (isMinusZero (e .factor))) (λ e u. plain-bits (e .factor) (u .bound .0) (u .plain)) (r .elements) 0 (ok .elements)
+
+minus-zero-pass : (p : Programme) → ProgrammeOk Plain p → T (withoutMinusZero p)
+unfolding withoutMinusZero
+minus-zero-pass p ok =
+    and-i (allFrom (λ (i : ℕ) (r : Row). rowWithoutMinusZero r) 0 (p .varying)) (allFrom (λ (i : ℕ) (r : Row). rowWithoutMinusZero r) 0 (p .fixed))
+    (all-pass (RowOk Plain) rowWithoutMinusZero row-without-minus-zero (p .varying) 0 (ok .varying)) (all-pass (RowOk Plain) rowWithoutMinusZero row-without-minus-zero (p .fixed) 0 (ok .fixed))
+
+-- what is plain is a number
+every-weaker : {A : Type 0} (P Q : A → Type 0) → ((x : A) → P x → Q x) → (xs : List A) → Every P xs → Every Q xs
+every-weaker P Q h [] us = tt
+every-weaker P Q h (x ∷ xs) us = (h x (us .0), every-weaker P Q h xs (us .1))
+
+row-weaker : (r : Row) → RowOk Plain r → RowOk IsBound r
+row-weaker r ok = record { lower = ok .lower; upper = ok .upper; elements = every-weaker (λ (e : Element). Plain (e .factor)) (λ (e : Element). IsBound (e .factor)) (λ e u. u .bound) (r .elements) (ok .elements) }
+
+weaker : (p : Programme) → ProgrammeOk Plain p → ProgrammeOk IsBound p
+weaker p ok = record { columns = ok .columns; varying = every-weaker (RowOk Plain) (RowOk IsBound) row-weaker (p .varying) (ok .varying); fixed = every-weaker (RowOk Plain) (RowOk IsBound) row-weaker (p .fixed) (ok .fixed) }
+
+-- ---- any list of steps
+
+module _ (s : Store) (b : Built) (held : Represents s b) (few : length (b .shape .mappedEdges) ≤ 512) (ok : ProgrammeOk IsBound (b .programme)) where
+  periods-length : length (periods (b .shape)) ≡ length (b .shape .virtualStorages)
+  unfolding periods
+  periods-length = length-map (b .shape .virtualStorages) periodOf
+
+  reached-ok : (o : Option (List ℕ)) (t : Store) → Reached s b held o t → ProgrammeOk IsBound (programmeIn t)
+  unfolding Reached
+  reached-ok no-file t h = subst (ProgrammeOk IsBound) (sym (ap programmeIn h ∙ programme-back s b held)) ok
+  reached-ok (some file) t h =
+      let f : StepFile = h .0 in
+      let shape : Shape = b .shape in
+      let a : ℕ = length (shape .aggregates) in
+      let sound : StepSound a (length (periods shape)) f = subst (λ (v : ℕ). StepSound a v f) (sym periods-length) (step-sound (shape .nodes) a (length (shape .virtualStorages)) file f (h .1)) in
+      subst (ProgrammeOk IsBound) (sym (ap programmeIn (h .2) ∙ programme-back (storeOfStep s (value f)) (after s b held f) (after-held s b held f)))
+      (stepped-ok shape f (b .programme) a (length (periods shape)) few (costs-small (shape .nodes) a (length (shape .virtualStorages)) file f (h .1)) (intervals-sound (b .programme .sentinel) (periods shape) a f sound) ok)
+
+-- ---- the laws
+
+accepted-network : (networkFile : List ℕ) (s : Sentinel) (old : Store) (words : List ℕ) (numbers : List Float) → isAccepted (buildAnswer s networkFile old words numbers) ≡ true
+    → (net : Network) × (parseNetwork networkFile ≡ value net)
+unfolding buildAnswer build
+accepted-network networkFile s old words numbers accepted =
+    let v = accepted-value (buildAnswer s networkFile old words numbers) accepted in
+    let a = bind-value _ _ (v .0) (v .1) in
+    let b = bind-value _ _ (v .0) (a .2) in
+    (b .0, b .1)
+
+module _ (networkFile : List ℕ) (s : Sentinel) (old : Store) (words : List ℕ) (numbers : List Float) (accepted : isAccepted (buildAnswer s networkFile old words numbers) ≡ true) where
+  net : Network
+  net = accepted-network networkFile s old words numbers accepted .0
+
+  parsed : parseNetwork networkFile ≡ value net
+  unfolding net
+  parsed = accepted-network networkFile s old words numbers accepted .1
+
+  sound : Sound net
+  sound = read-sound networkFile net parsed
+
+  held : Represents (buildStore s networkFile old words numbers) (programmeOf s net)
+  held = build-represents s net old networkFile words numbers sound (build-accepted s net old networkFile words numbers parsed accepted)
+
+  built : ProgrammeOk Plain (programmeOf s net .programme)
+  built = build-ok s net (sound .good) (read-small networkFile net parsed)
+
+  few : length (programmeOf s net .shape .mappedEdges) ≤ 512
+  unfolding programmeOf assemble columnMap
+  few = edges-few net (sound .good)
+
+pub no-nan : NoNaN
+unfolding Reached
+no-nan networkFile s old words numbers accepted calls =
+    let store : Store = buildStore s networkFile old words numbers in
+    let b : Built = programmeOf s (net networkFile s old words numbers accepted) in
+    let h : Represents store b = held networkFile s old words numbers accepted in
+    let p : Programme = programmeIn (storeAfter store calls) in
+    to-true (withoutNaN p)
+    (nan-pass p
+    (reached-ok store b h (few networkFile s old words numbers accepted) (weaker (b .programme) (built networkFile s old words numbers accepted)) (lastAccepted no-file (reports store calls)) (storeAfter store calls)
+    (run store b h calls store no-file refl)))
+
+pub no-minus-zero : NoMinusZero
+no-minus-zero networkFile s old words numbers accepted =
+    let store : Store = buildStore s networkFile old words numbers in
+    let b : Built = programmeOf s (net networkFile s old words numbers accepted) in
+    to-true (withoutMinusZero (programmeIn store))
+    (minus-zero-pass (programmeIn store) (subst (ProgrammeOk Plain) (sym (programme-back store b (held networkFile s old words numbers accepted))) (built networkFile s old words numbers accepted)))
+
+-- ---- rows that join
+
+same-bool : (s t : Bool) → T (Bool·beq s t) → s ≡ t
+same-bool true true h = refl
+same-bool true false h = absurd h
+same-bool false true h = absurd h
+same-bool false false h = refl
+
+same-double : (x y : Float) → Plain x → Plain y → T (eq x y) → x ≡ y
+unfolding eq
+same-double nan y u v h = absurd h
+same-double (inf s) nan u v h = absurd h
+same-double (inf s) (inf t) u v h = ap inf (same-bool s t h)
+same-double (inf s) (fin t n d) u v h = absurd h
+same-double (fin s m e) nan u v h = absurd h
+same-double (fin s m e) (inf t) u v h = absurd h
+same-double (fin s m e) (fin t n d) u v h = eq-same binary64 (fin s m e) (fin t n d) (u .bound .0) (v .bound .0) tt tt (u .plain) (v .plain) h
+
+same-row : (a b : List Element) → AllPlain a → AllPlain b → T (sameRow a b) → a ≡ b
+unfolding sameRow
+same-row [] [] us vs h = refl
+same-row [] (y ∷ ys) us vs h = absurd h
+same-row (x ∷ xs) [] us vs h = absurd h
+same-row (x ∷ xs) (y ∷ ys) us vs h =
+    let c : Bool = eqb (x .column) (y .column) in
+    let q : Bool = eq (x .factor) (y .factor) in
+    let front : T (c && q) = and-l (c && q) (sameRow xs ys) h in
+    ap₂ (λ (e : Element) (es : List Element). e ∷ es)
+    (ap₂ element (eqb→eq (x .column) (y .column) (and-l c q front)) (same-double (x .factor) (y .factor) (us .0) (vs .0) (and-r c q front)))
+    (same-row xs ys (us .1) (vs .1) (and-r (c && q) (sameRow xs ys) h))
+
+pub equal-bits : EqualBits
+equal-bits networkFile net parsed a b ma mb e =
+    let plain : AllMem AllPlain (askedRows net) = asked-plain net (read-sound networkFile net parsed .good) (read-small networkFile net parsed) in
+    same-row a b (plain a ma) (plain b mb) (of-true (sameRow a b) e)

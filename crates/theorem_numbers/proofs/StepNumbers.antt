@@ -1,0 +1,173 @@
+-- A step whose file was read leaves numbers: costs are sums of at most 1,024 terms, bounds and coefficients come from the file's intervals. Assumes nothing.
+use mathlib.Core.Path.{refl}
+use Prim.Native.Nat.{ℕ, zero, suc, _+_, _*_, _≤_}
+use native.Mathlib.Omega.{arith}
+use mathlib.Core.Bool.{Bool, true, false, cond}
+use mathlib.Core.List.{List, [], _∷_, map, List·Memᴰ·head, List·Memᴰ·tail}
+use lib.ListN.{length, getD, set, replicate}
+use lib.Dec.{eqb, lit≤}
+use lib.Ieee.{Float, binary64, add, div, neg}
+use Rattle.doubles.proofs.Units.{finite-number}
+use Rattle.doubles.proofs.Order.{neg-num, larger-num, smaller-num}
+use Rattle.pywr.specs.declared.Sentinel.{Sentinel}
+use Rattle.pywr.specs.declared.Interval.{Interval}
+use Rattle.pywr.specs.Numbers.{zero64, two64, lesser, greater}
+use Rattle.pywr.specs.Network.{link, storage}
+use Rattle.pywr.specs.ColEdgeMap.{MappedEdge}
+use Rattle.pywr.specs.Rows.{Element, element}
+use Rattle.pywr.specs.Programme.{Column, Row, Programme, NodeShape, RowType, continuous, binaryUpper, binaryLower, NodeRow, Shape}
+use Rattle.pywr.specs.Interval.{tighten, sentinels}
+use Rattle.pywr.specs.StepFile.{NodeStep, StepFile}
+use Rattle.pywr.specs.StepIntervals.{intervals, Intervals}
+use Rattle.pywr.specs.Costs.{outgoingCost, incomingCost, edgeCost, kindAt, costAt, addCosts, stepCosts}
+use Rattle.pywr.specs.Step.{adjust, bounded, applyRowBounds, setFactor, withFactor, applyInterval, applyNodeRows, applyIntervals, rowOf, stepRows, periods, withCosts, stepped}
+use Rattle.pywr.proofs.BoundLaws.{IsBound, IsInterval}
+use Rattle.pywr.proofs.VaryingLaws.{sentinels-interval}
+use Rattle.pywr.proofs.MassLaws.{Every}
+use Rattle.pywr.proofs.ListLaws.{AllMem}
+use Rattle.pywr.proofs.StepReadLaws.{at-interval, IntervalsOk}
+use Rattle.theorem_numbers.proofs.SumBounds.{Within, mostTerms, add-within, wider, neg-within, half-within, zero-within}
+use Rattle.theorem_numbers.proofs.ReadBounds.{SmallCost}
+use Rattle.theorem_numbers.proofs.BuildNumbers.{RowOk, ColumnOk, ProgrammeOk, every-replicate}
+
+-- ---- rows
+
+abbrev Ok : Row → Type 0
+Ok r = RowOk IsBound r
+
+bounded-ok : (i : Interval) → IsInterval i → (r : Row) → Ok r → Ok (bounded i r)
+unfolding bounded
+bounded-ok i ii r ok = record { lower = ii .lower; upper = ii .upper; elements = ok .elements }
+
+tighten-interval : (a b : Interval) → IsInterval a → IsInterval b → IsInterval (tighten a b)
+unfolding tighten greater lesser
+tighten-interval a b ia ib =
+    record { lower = larger-num binary64 (a .lower) (b .lower) (ia .lower) (ib .lower); upper = smaller-num binary64 (a .upper) (b .upper) (ia .upper) (ib .upper) }
+
+apply-ok : (i : Interval) → IsInterval i → (r : Row) → Ok r → Ok (applyRowBounds i r)
+unfolding applyRowBounds
+apply-ok i ii r ok =
+    let held : Interval = record { lower = r .lower; upper = r .upper } in
+    bounded-ok (tighten held i) (tighten-interval held i (record { lower = ok .lower; upper = ok .upper }) ii) r ok
+
+set-factor : (c : ℕ) (x : Float) → IsBound x → (es : List Element) → Every (λ (e : Element). IsBound (e .factor)) es → Every (λ (e : Element). IsBound (e .factor)) (setFactor c x es)
+unfolding setFactor
+set-factor c x b [] us = tt
+set-factor c x b (e ∷ es) us = go (eqb (e .column) c) (set-factor c x b es (us .1))
+  where
+    go : (t : Bool) → Every (λ (e : Element). IsBound (e .factor)) (setFactor c x es) → Every (λ (e : Element). IsBound (e .factor)) (cond t (element c x ∷ es) (e ∷ setFactor c x es))
+    go true ih = (b, us .1)
+    go false ih = (us .0, ih)
+
+factor-ok : (c : ℕ) (x : Float) → IsBound x → (r : Row) → Ok r → Ok (withFactor c x r)
+unfolding withFactor
+factor-ok c x b r ok = record { lower = ok .lower; upper = ok .upper; elements = set-factor c x b (r .elements) (ok .elements) }
+
+interval-ok : (t : RowType) (c : ℕ) (i : Interval) → IsInterval i → (r : Row) → Ok r → Ok (applyInterval t c i r)
+unfolding applyInterval
+interval-ok continuous c i ii r ok = apply-ok i ii r ok
+interval-ok binaryUpper c i ii r ok = factor-ok c (i .upper) (ii .upper) r ok
+interval-ok binaryLower c i ii r ok = factor-ok c (neg (i .lower)) (neg-num binary64 (i .lower) (ii .lower)) r ok
+
+adjust-ok : (g : Row → Row) → ((r : Row) → Ok r → Ok (g r)) → (k : ℕ) (rows : List Row) → Every Ok rows → Every Ok (adjust g k rows)
+unfolding adjust
+adjust-ok g h k [] us = tt
+adjust-ok g h zero (x ∷ xs) us = (h x (us .0), us .1)
+adjust-ok g h (suc k) (x ∷ xs) us = (us .0, adjust-ok g h k xs (us .1))
+
+node-rows-ok : (s : Sentinel) (edges : ℕ) (is : List Interval) → AllMem IsInterval is → (ns : List NodeRow) (rows : List Row) → Every Ok rows → Every Ok (applyNodeRows s edges is ns rows)
+unfolding applyNodeRows
+node-rows-ok s edges is ii [] rows us = us
+node-rows-ok s edges is ii (n ∷ ns) rows us =
+    let i : Interval = getD is (n .node) (sentinels s) in
+    let g : Row → Row = applyInterval (n .rowType) (edges + n .set) i in
+    node-rows-ok s edges is ii ns (adjust g (n .row) rows) (adjust-ok g (λ r ok. interval-ok (n .rowType) (edges + n .set) i (at-interval s is (n .node) ii) r ok) (n .row) rows us)
+
+intervals-ok : (rs : List ℕ) (is : List Interval) → AllMem IsInterval is → (rows : List Row) → Every Ok rows → Every Ok (applyIntervals rs is rows)
+unfolding applyIntervals
+intervals-ok [] is ii rows us = us
+intervals-ok (r ∷ rs) [] ii rows us = us
+intervals-ok (r ∷ rs) (i ∷ is) ii rows us =
+    intervals-ok rs is (λ j m. ii j (List·Memᴰ·tail m)) (adjust (applyRowBounds i) r rows) (adjust-ok (applyRowBounds i) (λ x ok. apply-ok i (ii i (List·Memᴰ·head refl)) x ok) r rows us)
+
+reset-ok : (s : Sentinel) (rows : List Row) → Every Ok rows → Every Ok (map (bounded (sentinels s)) rows)
+reset-ok s [] us = tt
+reset-ok s (x ∷ xs) us = (bounded-ok (sentinels s) (sentinels-interval s) x (us .0), reset-ok s xs (us .1))
+
+rows-ok : (s : Sentinel) (shape : Shape) (a v : ℕ) (i : Intervals) → IntervalsOk a v i → (rows : List Row) → Every Ok rows → Every Ok (stepRows s shape i rows)
+unfolding stepRows
+rows-ok s shape a v i ii rows us =
+    let reset : List Row = map (bounded (sentinels s)) rows in
+    let nodes : List Row = applyNodeRows s (shape .edgeColumns) (i .nodes) (shape .nodeRows) reset in
+    let groups : List Row = applyIntervals (shape .aggregates) (i .aggregates) nodes in
+    intervals-ok (map rowOf (shape .virtualStorages)) (i .virtualStorages) (ii .storages-are) groups
+    (intervals-ok (shape .aggregates) (i .aggregates) (ii .aggregates-are) nodes (node-rows-ok s (shape .edgeColumns) (i .nodes) (ii .nodes) (shape .nodeRows) reset (reset-ok s rows us)))
+
+-- ---- costs
+
+cost-at : (steps : List NodeStep) (n : ℕ) → AllMem SmallCost steps → Within 1 (costAt steps n)
+unfolding costAt
+cost-at [] n small = zero-within 1
+cost-at (x ∷ xs) zero small = small x (List·Memᴰ·head refl)
+cost-at (x ∷ xs) (suc n) small = cost-at xs n (λ y m. small y (List·Memᴰ·tail m))
+
+cond-within : (n : ℕ) (b : Bool) (x y : Float) → Within n x → Within n y → Within n (cond b x y)
+cond-within n true x y u v = u
+cond-within n false x y u v = v
+
+edge-cost : (k l : ℕ) (x y : Float) → Within 1 x → Within 1 y → Within 2 (edgeCost k x l y)
+unfolding edgeCost outgoingCost incomingCost
+edge-cost k l x y u v =
+    add-within 1 1 (outgoingCost k x) (incomingCost l y) (lit≤ tt)
+    (cond-within 1 (eqb k link) (div binary64 x two64) (cond (eqb k storage) (neg x) x) (half-within 1 x u) (cond-within 1 (eqb k storage) (neg x) x (neg-within 1 x u) u))
+    (cond-within 1 (eqb l link) (div binary64 y two64) y (half-within 1 y v) v)
+
+module _ (P : Float → Type 0) where
+  every-set : (xs : List Float) (i : ℕ) (x : Float) → P x → Every P xs → Every P (set xs i x)
+  every-set [] i x p us = tt
+  every-set (y ∷ ys) zero x p us = (p, us .1)
+  every-set (y ∷ ys) (suc i) x p us = (us .0, every-set ys i x p (us .1))
+
+  every-get : (xs : List Float) (i : ℕ) (d : Float) → P d → Every P xs → P (getD xs i d)
+  every-get [] i d p us = p
+  every-get (y ∷ ys) zero d p us = us .0
+  every-get (y ∷ ys) (suc i) d p us = every-get ys i d p (us .1)
+
+more-all : (a b : ℕ) (xs : List Float) → a ≤ b → Every (Within a) xs → Every (Within b) xs
+more-all a b [] h us = tt
+more-all a b (x ∷ xs) h us = (wider a b x h (us .0), more-all a b xs h (us .1))
+
+costs-within : (shapes : List NodeShape) (steps : List NodeStep) → AllMem SmallCost steps → (ps : List MappedEdge) (n : ℕ) (costs : List Float) → n + length ps * 2 ≤ mostTerms → Every (Within n) costs
+    → Every (Within (n + length ps * 2)) (addCosts shapes steps ps costs)
+unfolding addCosts
+costs-within shapes steps small [] n costs room us = more-all n (n + 0 * 2) costs (omega arith) us
+costs-within shapes steps small (p ∷ ps) n costs room us =
+    let old : Float = getD costs (p .column) zero64 in
+    let cost : Float = edgeCost (kindAt shapes (p .from)) (costAt steps (p .from)) (kindAt shapes (p .to)) (costAt steps (p .to)) in
+    let sum : Within (n + 2) (add binary64 old cost) =
+    add-within n 2 old cost (omega arith) (every-get (Within n) costs (p .column) zero64 (zero-within n) us)
+    (edge-cost (kindAt shapes (p .from)) (kindAt shapes (p .to)) (costAt steps (p .from)) (costAt steps (p .to)) (cost-at steps (p .from) small) (cost-at steps (p .to) small)) in
+    let next : List Float = set costs (p .column) (add binary64 old cost) in
+    more-all (n + 2 + length ps * 2) (n + suc (length ps) * 2) (addCosts shapes steps ps next) (omega arith)
+    (costs-within shapes steps small ps (n + 2) next (omega arith) (every-set (Within (n + 2)) costs (p .column) (add binary64 old cost) sum (more-all n (n + 2) costs (omega arith) us)))
+
+with-costs : (n : ℕ) (cs : List Column) (xs : List Float) → Every ColumnOk cs → Every (Within n) xs → Every ColumnOk (withCosts cs xs)
+unfolding withCosts
+with-costs n [] xs oks us = tt
+with-costs n (c ∷ cs) [] oks us = tt
+with-costs n (c ∷ cs) (x ∷ xs) oks us =
+    (record { lower = oks .0 .lower; upper = oks .0 .upper; cost = (us .0 .fit, finite-number x (us .0 .isFinite)) }, with-costs n cs xs (oks .1) (us .1))
+
+-- ---- the whole step
+
+pub stepped-ok : (shape : Shape) (f : StepFile) (p : Programme) (a v : ℕ) → length (shape .mappedEdges) ≤ 512 → AllMem SmallCost (f .nodes) → IntervalsOk a v (intervals (p .sentinel) (periods shape) f)
+    → ProgrammeOk IsBound p → ProgrammeOk IsBound (stepped shape f p)
+unfolding stepped stepCosts
+stepped-ok shape f p a v few small ii ok =
+    let n : ℕ = length (p .columns) in
+    record {
+      columns = with-costs (0 + length (shape .mappedEdges) * 2) (p .columns) (stepCosts shape n (f .nodes)) (ok .columns)
+          (costs-within (shape .nodes) (f .nodes) small (shape .mappedEdges) 0 (replicate n zero64) (omega arith) (every-replicate (Within 0) n zero64 (zero-within 0)));
+      varying = rows-ok (p .sentinel) shape a v (intervals (p .sentinel) (periods shape) f) ii (p .varying) (ok .varying);
+      fixed = ok .fixed;
+    }
