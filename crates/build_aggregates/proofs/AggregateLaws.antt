@@ -24,7 +24,7 @@ use Rattle.network_record.specs.declared.Counts.{Counts}
 use Rattle.build_row.specs.RowBuilder.{gathered, Rising}
 use Rattle.build_node_row.specs.Tables.{networkOf}
 use Rattle.build_node_row.specs.NodeAdded.{NodeAdded}
-use Rattle.build_join.specs.JoinedRows.{Gathered}
+use Rattle.build_row.specs.Gathered.{Gathered}
 use Rattle.build_join.proofs.GatherLaws.{Adding, adding-none, adding-more, adding-all}
 use Rattle.build_aggregates.specs.AggregateRows.{aggregateRows}
 

@@ -9,10 +9,11 @@ ghost use Rattle.pywr.specs.VaryingRows.{freshRow};
 ghost use Rattle.fields.specs.declared.Checked.the-variants.{Next};
 ghost use Rattle.network_aggregate.specs.AggregatedNode.{setAt, setEnd, aggregateAt, aggregateEnd, checkAggregate};
 ghost use Rattle.build_row.specs.RowBuilder.{gathered, Rising};
-ghost use Rattle.build_append.specs.LpBuilder.{Held, Holding};
+ghost use Rattle.build_append.specs.LpBuilder.{RowsHeld, Holding};
 ghost use Rattle.build_join.specs.VariableRow.{AfterVariableRow};
 ghost use Rattle.build_node_row.specs.Tables.{networkOf, EdgeTables};
-ghost use Rattle.build_join.specs.JoinedRows.{Gathered, HoldingVarying, AfterVariableRows};
+ghost use Rattle.build_row.specs.Gathered.{Gathered};
+ghost use Rattle.build_join.specs.JoinedRows.{HoldingVarying, AfterVariableRows};
 ghost use Rattle.build_aggregates.specs.AggregateRows.{aggregateRows, aggregateTable};
 use build_append::Filled;
 use build_append::RowsAdded;
@@ -124,7 +125,7 @@ fn add_aggregate_row(
     requires { ⌜ EdgeTables (now s) c (now «first_in») (now «next_in») (now «first_out») (now «next_out») (now «edge_to_col»)
         × (checkAggregate (now s) (c .nodes) at ≡ Next (aggregateEnd (now s) at))
         × (24844 ≤ length (now words)) × (6784 ≤ length (now numbers)) × Holding (now words) (now numbers) f ⌝ }
-    ensures { λ r. ⌜ ((rows : List (List Element)) → Held (map (freshRow sentinel) rows) (now (words .entry)) (now (numbers .entry)) f
+    ensures { λ r. ⌜ ((rows : List (List Element)) → RowsHeld (map (freshRow sentinel) rows) (now (words .entry)) (now (numbers .entry)) f
         → AfterVariableRow sentinel rows (aggregateRow (columnMap (networkOf (now (s .entry)) c)) (aggregateAt (now (s .entry)) at))
         (now (words .entry)) r (now (words .exit)) (now (numbers .exit))) ⌝ }
 {
@@ -161,7 +162,7 @@ pub fn create_aggregated_node_constraints(
 ) -> RowsAdded
     requires { ⌜ EdgeTables (now s) c (now «first_in») (now «next_in») (now «first_out») (now «next_out») (now «edge_to_col»)
         × (24844 ≤ length (now words)) × (6784 ≤ length (now numbers)) × HoldingVarying sentinel (now words) (now numbers) f ⌝ }
-    ensures { λ r. ⌜ ((rows : List (List Element)) → Held (map (freshRow sentinel) rows) (now (words .entry)) (now (numbers .entry)) f
+    ensures { λ r. ⌜ ((rows : List (List Element)) → RowsHeld (map (freshRow sentinel) rows) (now (words .entry)) (now (numbers .entry)) f
         → AfterVariableRows sentinel rows (aggregateRows (networkOf (now (s .entry)) c)) 24588 (c .aggregates) aggregateTable
         (now (words .entry)) r (now (words .exit)) (now (numbers .exit))) ⌝ }
 {

@@ -12,14 +12,14 @@ use Rattle.laws.proofs.Sets.{sets-next, take-whole, part-same, part-before, par
 use Rattle.laws.proofs.Runs.{map-snoc}
 use Rattle.pywr.specs.Programme.{Row}
 use Rattle.pywr.specs.Build.{elementCount}
-use Rattle.pywr.specs.Written.{startsFrom, columnsIn, factorsIn, lowerOf, upperOf}
+use Rattle.pywr.specs.Written.{startsFrom, columnsIn, valuesIn, lowerOf, upperOf}
 use Rattle.pywr.proofs.FitLaws.{elements-append}
 use Rattle.build_row.specs.RowBuilder.{gathered, Rising}
-use Rattle.build_append.specs.LpBuilder.{Held, withinCeilings, AfterRows}
+use Rattle.build_append.specs.LpBuilder.{RowsHeld, withinCeilings, AfterRows}
 use Rattle.build_append.specs.declared.Filled.{Filled}
 use Rattle.build_append.specs.declared.RowsAdded.the-variants.{Done, Full}
-use Rattle.build_append.proofs.RowLaws.{part-more, drop-sets, flat-snoc, starts-snoc, rising-under, gathered-length, gathered-columns, gathered-factors}
-use Rattle.build_append.proofs.HeldLaws.{held-few, over-rows, over-elements}
+use Rattle.build_append.proofs.RowLaws.{part-more, drop-sets, flat-snoc, starts-snoc, rising-under, gathered-length, gathered-columns, gathered-values}
+use Rattle.build_append.proofs.RowsHeldLaws.{held-few, over-rows, over-elements}
 
 -- ---- the column numbers put into words
 
@@ -38,17 +38,17 @@ module _ (columns words₀ words : List ℕ) (at n i : ℕ) (long : n ≤ length
 rows-full : (rows : List Row) (words : List ℕ) (numbers : List Float) → withinCeilings rows ≡ false → AfterRows rows words Full words numbers
 rows-full rows words numbers over = record { held = λ f e. absurd (let z : _≡_ {A = ℕ} 0 1 = cc in omega arith); full = λ e. over; kept = refl }
 
-rows-done : (rows : List Row) (words words′ : List ℕ) (numbers : List Float) (f : Filled) → Held rows words′ numbers f → drop 5121 words′ ≡ drop 5121 words
+rows-done : (rows : List Row) (words words′ : List ℕ) (numbers : List Float) (f : Filled) → RowsHeld rows words′ numbers f → drop 5121 words′ ≡ drop 5121 words
     → AfterRows rows words (Done f) words′ numbers
 rows-done rows words words′ numbers f held kept =
-    record { held = λ g e. subst (Held rows words′ numbers) (same f g e) held; full = λ e. absurd (let z : _≡_ {A = ℕ} 0 1 = cc in omega arith); kept = kept }
+    record { held = λ g e. subst (RowsHeld rows words′ numbers) (same f g e) held; full = λ e. absurd (let z : _≡_ {A = ℕ} 0 1 = cc in omega arith); kept = kept }
   where
     same : (f g : Filled) → Done f ≡ Done g → f ≡ g
     same f g e = cc
 
 -- ---- the gathered row behind the rows held
 
-module _ (rows : List Row) (lower upper : Float) (columns words : List ℕ) (numbers : List Float) (f : Filled) (n : ℕ) (held : Held rows words numbers f) where
+module _ (rows : List Row) (lower upper : Float) (columns words : List ℕ) (numbers : List Float) (f : Filled) (n : ℕ) (held : RowsHeld rows words numbers f) where
   abbrev r : ℕ
   r = f .rows
 
@@ -98,11 +98,11 @@ module _ (rows : List Row) (lower upper : Float) (columns words : List ℕ) (num
       unfolding columnsIn
       columns-are = sym (gathered-columns columns (drop (2048 + e) numbers) n (omega arith) behind)
 
-      factors-are : part (2048 + e) n numbers ≡ factorsIn row
-      unfolding factorsIn
-      factors-are = sym (gathered-factors columns (drop (2048 + e) numbers) n (omega arith) behind)
+      values-are : part (2048 + e) n numbers ≡ valuesIn row
+      unfolding valuesIn
+      values-are = sym (gathered-values columns (drop (2048 + e) numbers) n (omega arith) behind)
 
-      row-held : Held more withRow withBounds (record { rows = r + 1; elements = e + n })
+      row-held : RowsHeld more withRow withBounds (record { rows = r + 1; elements = e + n })
       unfolding elementCount lowerOf upperOf
       row-held =
           let er : r ≡ length rows = held .rowCount in
@@ -138,10 +138,10 @@ module _ (rows : List Row) (lower upper : Float) (columns words : List ℕ) (num
                 (part-same withLower (upper ∷ []) (1024 + r) 1 refl (omega (arith, length-set numbers r lower)))
                 ∙ sym (map-snoc upperOf rows row);
             elements =
-                part-more withBounds (flatMap factorsIn rows) (factorsIn row) 2048 e (2048 + e) n (elementCount more) refl counts
+                part-more withBounds (flatMap valuesIn rows) (valuesIn row) 2048 e (2048 + e) n (elementCount more) refl counts
                 (part-after withLower (upper ∷ []) (1024 + r) 2048 e (omega arith) ∙ part-after numbers (lower ∷ []) r 2048 e (omega arith) ∙ rw ee (held .elements))
-                (part-after withLower (upper ∷ []) (1024 + r) (2048 + e) n (omega arith) ∙ part-after numbers (lower ∷ []) r (2048 + e) n (omega arith) ∙ factors-are)
-                ∙ sym (flat-snoc factorsIn rows row);
+                (part-after withLower (upper ∷ []) (1024 + r) (2048 + e) n (omega arith) ∙ part-after numbers (lower ∷ []) r (2048 + e) n (omega arith) ∙ values-are)
+                ∙ sym (flat-snoc valuesIn rows row);
           }
 
       -- the columns put, the next start and the two bounds written

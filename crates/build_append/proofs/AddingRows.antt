@@ -7,31 +7,31 @@ use mathlib.Core.List.{List, [], _∷_, _++_, append-assoc, append-nil}
 use lib.ListN.{drop}
 use lib.Ieee.{Float}
 use Rattle.pywr.specs.Programme.{Row}
-use Rattle.build_append.specs.LpBuilder.{Held, Holding, withinCeilings, AfterRows}
+use Rattle.build_append.specs.LpBuilder.{RowsHeld, Holding, withinCeilings, AfterRows}
 use Rattle.build_append.specs.declared.Filled.{Filled}
 use Rattle.build_append.specs.declared.RowsAdded.{RowsAdded}
 use Rattle.build_append.specs.declared.RowsAdded.the-variants.{Done, Full}
-use Rattle.build_append.proofs.HeldLaws.{over-more}
+use Rattle.build_append.proofs.RowsHeldLaws.{over-more}
 
 -- of the whole list of rows all but the rest are held
 pub record Adding (whole rest : List Row) (words₀ words : List ℕ) (numbers : List Float) (f : Filled) : Type 0 where
   pub rows : List Row
   pub whole-is : whole ≡ rows ++ rest
-  pub held : Held rows words numbers f
+  pub held : RowsHeld rows words numbers f
   pub kept : drop 5121 words ≡ drop 5121 words₀
 
 -- what adding these rows promises, whatever rows are held
 abbrev pub Adds : List Row → List ℕ → List Float → Filled → RowsAdded → List ℕ → List Float → Type 0
-Adds new words numbers f r words′ numbers′ = (rows : List Row) → Held rows words numbers f → AfterRows (rows ++ new) words r words′ numbers′
+Adds new words numbers f r words′ numbers′ = (rows : List Row) → RowsHeld rows words numbers f → AfterRows (rows ++ new) words r words′ numbers′
 
-pub adding-first : (rows all : List Row) (words : List ℕ) (numbers : List Float) (f : Filled) → Held rows words numbers f → Adding (rows ++ all) all words words numbers f
+pub adding-first : (rows all : List Row) (words : List ℕ) (numbers : List Float) (f : Filled) → RowsHeld rows words numbers f → Adding (rows ++ all) all words words numbers f
 adding-first rows all words numbers f h = record { rows = rows; whole-is = refl; held = h; kept = refl }
 
 -- no row more
 pub adds-none : (words : List ℕ) (numbers : List Float) (f : Filled) → Adds [] words numbers f (Done f) words numbers
 adds-none words numbers f rows h =
     record {
-      held = λ g e. let q : f ≡ g = cc in rw (append-nil rows) (subst (Held rows words numbers) q h);
+      held = λ g e. let q : f ≡ g = cc in rw (append-nil rows) (subst (RowsHeld rows words numbers) q h);
       full = λ e. absurd (let z : _≡_ {A = ℕ} 0 1 = cc in omega arith);
       kept = refl;
     }

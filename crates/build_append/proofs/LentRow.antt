@@ -12,7 +12,7 @@ use Rattle.build_append.specs.LpBuilder.{Holding}
 use Rattle.build_append.specs.declared.Filled.{Filled}
 use Rattle.build_append.specs.declared.RowsAdded.{RowsAdded}
 use Rattle.build_append.specs.declared.RowsAdded.the-variants.{Done}
-use Rattle.build_append.proofs.HeldLaws.{held-few, held-lent, lent-written}
+use Rattle.build_append.proofs.RowsHeldLaws.{held-few, held-lent, lent-written}
 use Rattle.build_append.proofs.AddingRows.{Adds, adds-none}
 
 -- there is room for a row of 640 elements

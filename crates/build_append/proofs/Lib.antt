@@ -1,6 +1,6 @@
 pub mod RowLaws
-pub mod HeldLaws
+pub mod RowsHeldLaws
 pub mod AddLaws
 pub mod AddingRows
 pub mod LentRow
-pub mod NodeRows
+pub mod NodeFixedRows

@@ -67,12 +67,12 @@ columns-of [] xs h = refl
 columns-of (c ∷ cs) [] h = absurd (omega arith)
 columns-of (c ∷ cs) (x ∷ xs) h = ap (λ (l : List ℕ). c ∷ l) (columns-of cs xs (omega arith))
 
-factors-of : (cs : List ℕ) (xs : List Float) → length cs ≡ length xs → map (λ (e : Element). e .factor) (elementsOf cs xs) ≡ xs
+values-of : (cs : List ℕ) (xs : List Float) → length cs ≡ length xs → map (λ (e : Element). e .value) (elementsOf cs xs) ≡ xs
 unfolding elementsOf
-factors-of [] [] h = refl
-factors-of [] (x ∷ xs) h = absurd (omega arith)
-factors-of (c ∷ cs) [] h = absurd (omega arith)
-factors-of (c ∷ cs) (x ∷ xs) h = ap (λ (l : List Float). x ∷ l) (factors-of cs xs (omega arith))
+values-of [] [] h = refl
+values-of [] (x ∷ xs) h = absurd (omega arith)
+values-of (c ∷ cs) [] h = absurd (omega arith)
+values-of (c ∷ cs) (x ∷ xs) h = ap (λ (l : List Float). x ∷ l) (values-of cs xs (omega arith))
 
 count-of : (cs : List ℕ) (xs : List Float) → length cs ≡ length xs → length (elementsOf cs xs) ≡ length cs
 unfolding elementsOf
@@ -88,16 +88,16 @@ module _ (columns : List ℕ) (elements : List Float) (n : ℕ) (hc : n ≤ leng
   unfolding gathered
   gathered-columns = columns-of (take n columns) (take n elements) both-long
 
-  pub gathered-factors : map (λ (e : Element). e .factor) (gathered columns elements n) ≡ take n elements
+  pub gathered-values : map (λ (e : Element). e .value) (gathered columns elements n) ≡ take n elements
   unfolding gathered
-  gathered-factors = factors-of (take n columns) (take n elements) both-long
+  gathered-values = values-of (take n columns) (take n elements) both-long
 
   pub gathered-length : length (gathered columns elements n) ≡ n
   unfolding gathered
   gathered-length = count-of (take n columns) (take n elements) both-long ∙ length-take-le n columns hc
 
 -- a row from its columns and factors
-pub elements-back : (es : List Element) → elementsOf (map (λ (e : Element). e .column) es) (map (λ (e : Element). e .factor) es) ≡ es
+pub elements-back : (es : List Element) → elementsOf (map (λ (e : Element). e .column) es) (map (λ (e : Element). e .value) es) ≡ es
 unfolding elementsOf
 elements-back [] = refl
 elements-back (e ∷ es) = ap (λ (l : List Element). e ∷ l) (elements-back es)

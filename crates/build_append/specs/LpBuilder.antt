@@ -11,7 +11,7 @@ use Rattle.laws.specs.Part.{part}
 use Rattle.pywr.specs.Rows.{Element}
 use Rattle.pywr.specs.Programme.{Row}
 use Rattle.pywr.specs.Build.{elementCount}
-use Rattle.pywr.specs.Written.{startsFrom, columnsIn, factorsIn, lowerOf, upperOf}
+use Rattle.pywr.specs.Written.{startsFrom, columnsIn, valuesIn, lowerOf, upperOf}
 use Rattle.build_append.specs.declared.Filled.{Filled}
 use Rattle.build_append.specs.declared.RowsAdded.{RowsAdded}
 use Rattle.build_append.specs.declared.RowsAdded.the-variants.{Done, Full}
@@ -20,7 +20,7 @@ use Rattle.build_append.specs.declared.RowsAdded.the-variants.{Done, Ful
 abbrev pub elementLists : List Row → List (List Element)
 elementLists rows = map (λ (row : Row). row .elements) rows
 
-pub record Held (rows : List Row) (words : List ℕ) (numbers : List Float) (f : Filled) : Type 0 where
+pub record RowsHeld (rows : List Row) (words : List ℕ) (numbers : List Float) (f : Filled) : Type 0 where
   pub rowCount : f .rows ≡ length rows
   pub elementsCount : f .elements ≡ elementCount rows
   pub fewRows : length rows ≤ 1024
@@ -29,12 +29,12 @@ pub record Held (rows : List Row) (words : List ℕ) (numbers : List Float) (f :
   pub starts : part 4096 (length rows + 1) words ≡ startsFrom 0 rows
   pub lowers : part 0 (length rows) numbers ≡ map lowerOf rows
   pub uppers : part 1024 (length rows) numbers ≡ map upperOf rows
-  pub elements : part 2048 (elementCount rows) numbers ≡ flatMap factorsIn rows
+  pub elements : part 2048 (elementCount rows) numbers ≡ flatMap valuesIn rows
 
 -- some rows are held
 pub record Holding (words : List ℕ) (numbers : List Float) (f : Filled) : Type 0 where
   pub rows : List Row
-  pub held : Held rows words numbers f
+  pub held : RowsHeld rows words numbers f
 
 -- "at most .. 1,024 rows, 4,096 elements"
 unfoldable pub withinCeilings : List Row → Bool
@@ -42,6 +42,6 @@ withinCeilings rows = leb (length rows) 1024 && leb (elementCount rows) 4096
 
 -- the work runs hold these rows, or the rows are over the ceilings; the words from 5,121 on stay
 pub record AfterRows (rows : List Row) (words : List ℕ) (r : RowsAdded) (words′ : List ℕ) (numbers′ : List Float) : Type 0 where
-  pub held : (f : Filled) → r ≡ Done f → Held rows words′ numbers′ f
+  pub held : (f : Filled) → r ≡ Done f → RowsHeld rows words′ numbers′ f
   pub full : r ≡ Full → withinCeilings rows ≡ false
   pub kept : drop 5121 words′ ≡ drop 5121 words

@@ -8,7 +8,7 @@ ghost use lib.Seq.{sets};
 ghost use lib.Ieee.{Float};
 ghost use Rattle.pywr.specs.Programme.{Row};
 ghost use Rattle.build_row.specs.RowBuilder.{gathered, Rising};
-ghost use Rattle.build_append.specs.LpBuilder.{Held, AfterRows};
+ghost use Rattle.build_append.specs.LpBuilder.{RowsHeld, AfterRows};
 
 // How many rows and elements the work runs hold.
 pub struct Filled {
@@ -25,7 +25,7 @@ pub enum RowsAdded {
 // No rows yet.
 pub fn start_rows(words: &mut [u16])
     requires { ⌜ 24844 ≤ length (now words) ⌝ }
-    ensures { λ _. ⌜ ((numbers : List Float) → Held [] (now (words .exit)) numbers (record { rows = 0; elements = 0 })) × (drop 5121 (now (words .exit)) ≡ drop 5121 (now (words .entry))) ⌝ }
+    ensures { λ _. ⌜ ((numbers : List Float) → RowsHeld [] (now (words .exit)) numbers (record { rows = 0; elements = 0 })) × (drop 5121 (now (words .exit)) ≡ drop 5121 (now (words .entry))) ⌝ }
 {
     words[4096] = 0;
 }
@@ -67,7 +67,7 @@ pub fn add_fixed_row(
     bounds: pywr::Interval,
 ) -> RowsAdded
     requires { ⌜ (24844 ≤ length (now words)) × (6784 ≤ length (now numbers)) × (n ≤ 640) × (f .rows ≤ 1024) × (f .elements ≤ 4096) × Rising (now columns) n ⌝ }
-    ensures { λ r. ⌜ ((rows : List Row) → Held rows (now (words .entry)) (now (numbers .entry)) f
+    ensures { λ r. ⌜ ((rows : List Row) → RowsHeld rows (now (words .entry)) (now (numbers .entry)) f
         → AfterRows (rows ++ (record { lower = bounds .lower; upper = bounds .upper; elements = gathered (now (columns .entry)) (drop (2048 + f .elements) (now (numbers .entry))) n } ∷ []))
         (now (words .entry)) r (now (words .exit)) (now (numbers .exit))) ⌝ }
 {

@@ -3,13 +3,13 @@ ghost use mathlib.Core.Path.{_≡_};
 ghost use Prim.Native.Nat.{_*_, _<_, _≤_};
 ghost use mathlib.Core.List.{List, [], _∷_, _++_};
 ghost use lib.ListN.{length};
-ghost use Rattle.pywr.specs.ExclusiveSets.{setsListing};
+ghost use Rattle.pywr.specs.ExclusiveSets.{setsWithNode};
 ghost use Rattle.pywr.specs.Rows.{columnMap, nodeRow};
 ghost use Rattle.pywr.specs.FixedRows.{exclusiveRows, constantRowsFrom};
 ghost use Rattle.pywr.specs.Programme.{Row};
 ghost use Rattle.network_node.specs.Node.{nodeAt};
-ghost use Rattle.build_append.specs.LpBuilder.{Held, Holding, AfterRows};
-ghost use Rattle.build_node_row.specs.Tables.{networkOf, EdgeTables, ListingTables};
+ghost use Rattle.build_append.specs.LpBuilder.{RowsHeld, Holding, AfterRows};
+ghost use Rattle.build_node_row.specs.Tables.{networkOf, EdgeTables, MembershipTables};
 ghost use Rattle.build_node_row.specs.EdgeColumns.{edgeColumns};
 use build_append::Filled;
 use build_append::RowsAdded;
@@ -35,7 +35,7 @@ fn add_node_row(
 ) -> RowsAdded
     requires { ⌜ EdgeTables (now s) c (now «first_in») (now «next_in») (now «first_out») (now «next_out») (now «edge_to_col») × (node .0 < c .nodes)
         × (24844 ≤ length (now words)) × (6784 ≤ length (now numbers)) × Holding (now words) (now numbers) f ⌝ }
-    ensures { λ r. ⌜ ((rows : List Row) → Held rows (now (words .entry)) (now (numbers .entry)) f
+    ensures { λ r. ⌜ ((rows : List Row) → RowsHeld rows (now (words .entry)) (now (numbers .entry)) f
         → AfterRows (rows ++ (record { lower = nodeAt (now (s .entry)) (20 * node .0) .min; upper = nodeAt (now (s .entry)) (20 * node .0) .max; elements = nodeRow (columnMap (networkOf (now (s .entry)) c)) (node .0) } ∷ []))
         (now (words .entry)) r (now (words .exit)) (now (numbers .exit))) ⌝ }
 {
@@ -67,7 +67,7 @@ fn add_node_row(
     )
 }
 
-// The rows of a constant node in the exclusive sets that list it, once for each listing: listing j is of the set numbered j / 16.
+// The rows of a constant node in the exclusive sets that list it, once for each membership: membership j is of the set numbered j / 16.
 fn add_exclusive_rows(
     s: &[u8],
     c: Counts,
@@ -77,8 +77,8 @@ fn add_exclusive_rows(
     next_out: &[u16; 512],
     edge_to_col: &[u16; 512],
     edge_columns: usize,
-    first_listing: &[u16; 256],
-    next_listing: &[u16; 2048],
+    first_membership: &[u16; 256],
+    next_membership: &[u16; 2048],
     node: NodeIndex,
     sentinel: Sentinel,
     words: &mut [u16],
@@ -87,17 +87,17 @@ fn add_exclusive_rows(
     f: Filled,
 ) -> RowsAdded
     requires { ⌜ EdgeTables (now s) c (now «first_in») (now «next_in») (now «first_out») (now «next_out») (now «edge_to_col») × (node .0 < c .nodes)
-        × («edge_columns» ≡ edgeColumns (now s) c) × ListingTables (now s) c (now «first_listing») (now «next_listing»)
+        × («edge_columns» ≡ edgeColumns (now s) c) × MembershipTables (now s) c (now «first_membership») (now «next_membership»)
         × (24844 ≤ length (now words)) × (6784 ≤ length (now numbers)) × Holding (now words) (now numbers) f ⌝ }
-    ensures { λ r. ⌜ ((rows : List Row) → Held rows (now (words .entry)) (now (numbers .entry)) f
-        → AfterRows (rows ++ exclusiveRows sentinel (columnMap (networkOf (now (s .entry)) c)) (node .0) (nodeAt (now (s .entry)) (20 * node .0)) (setsListing (node .0) 0 (columnMap (networkOf (now (s .entry)) c) .sets)))
+    ensures { λ r. ⌜ ((rows : List Row) → RowsHeld rows (now (words .entry)) (now (numbers .entry)) f
+        → AfterRows (rows ++ exclusiveRows sentinel (columnMap (networkOf (now (s .entry)) c)) (node .0) (nodeAt (now (s .entry)) (20 * node .0)) (setsWithNode (node .0) 0 (columnMap (networkOf (now (s .entry)) c) .sets)))
         (now (words .entry)) r (now (words .exit)) (now (numbers .exit))) ⌝ }
 {
     let k = fields::wide16(node.0);
     let mut filled = f;
-    let mut link = fields::wide16(first_listing[k]);
+    let mut link = fields::wide16(first_membership[k]);
     while link != 0 {
-        let listing = link - 1;
+        let membership = link - 1;
         let r = build_set_rows::add_bounded_rows(
             s,
             c,
@@ -108,7 +108,7 @@ fn add_exclusive_rows(
             edge_to_col,
             edge_columns,
             node,
-            listing / 16,
+            membership / 16,
             sentinel,
             words,
             numbers,
@@ -121,7 +121,7 @@ fn add_exclusive_rows(
             }
             RowsAdded::Done(g) => {
                 filled = g;
-                link = fields::wide16(next_listing[listing]);
+                link = fields::wide16(next_membership[membership]);
             }
         }
     }
@@ -138,8 +138,8 @@ fn add_constant_rows(
     next_out: &[u16; 512],
     edge_to_col: &[u16; 512],
     edge_columns: usize,
-    first_listing: &[u16; 256],
-    next_listing: &[u16; 2048],
+    first_membership: &[u16; 256],
+    next_membership: &[u16; 2048],
     node: NodeIndex,
     sentinel: Sentinel,
     words: &mut [u16],
@@ -148,9 +148,9 @@ fn add_constant_rows(
     f: Filled,
 ) -> RowsAdded
     requires { ⌜ EdgeTables (now s) c (now «first_in») (now «next_in») (now «first_out») (now «next_out») (now «edge_to_col») × (node .0 < c .nodes)
-        × («edge_columns» ≡ edgeColumns (now s) c) × ListingTables (now s) c (now «first_listing») (now «next_listing»)
+        × («edge_columns» ≡ edgeColumns (now s) c) × MembershipTables (now s) c (now «first_membership») (now «next_membership»)
         × (24844 ≤ length (now words)) × (6784 ≤ length (now numbers)) × Holding (now words) (now numbers) f ⌝ }
-    ensures { λ r. ⌜ ((rows : List Row) → Held rows (now (words .entry)) (now (numbers .entry)) f
+    ensures { λ r. ⌜ ((rows : List Row) → RowsHeld rows (now (words .entry)) (now (numbers .entry)) f
         → AfterRows (rows ++ constantRowsFrom sentinel (columnMap (networkOf (now (s .entry)) c)) (node .0) (nodeAt (now (s .entry)) (20 * node .0) ∷ []))
         (now (words .entry)) r (now (words .exit)) (now (numbers .exit))) ⌝ }
 {
@@ -158,7 +158,7 @@ fn add_constant_rows(
         return RowsAdded::Done(f);
     }
     let k = fields::wide16(node.0);
-    if first_listing[k] == 0 {
+    if first_membership[k] == 0 {
         return add_node_row(
             s,
             c,
@@ -183,8 +183,8 @@ fn add_constant_rows(
         next_out,
         edge_to_col,
         edge_columns,
-        first_listing,
-        next_listing,
+        first_membership,
+        next_membership,
         node,
         sentinel,
         words,
@@ -204,8 +204,8 @@ pub fn create_constant_constraints(
     next_out: &[u16; 512],
     edge_to_col: &[u16; 512],
     edge_columns: usize,
-    first_listing: &[u16; 256],
-    next_listing: &[u16; 2048],
+    first_membership: &[u16; 256],
+    next_membership: &[u16; 2048],
     sentinel: Sentinel,
     words: &mut [u16],
     numbers: &mut [f64],
@@ -213,9 +213,9 @@ pub fn create_constant_constraints(
     f: Filled,
 ) -> RowsAdded
     requires { ⌜ EdgeTables (now s) c (now «first_in») (now «next_in») (now «first_out») (now «next_out») (now «edge_to_col»)
-        × («edge_columns» ≡ edgeColumns (now s) c) × ListingTables (now s) c (now «first_listing») (now «next_listing»)
+        × («edge_columns» ≡ edgeColumns (now s) c) × MembershipTables (now s) c (now «first_membership») (now «next_membership»)
         × (24844 ≤ length (now words)) × (6784 ≤ length (now numbers)) × Holding (now words) (now numbers) f ⌝ }
-    ensures { λ r. ⌜ ((rows : List Row) → Held rows (now (words .entry)) (now (numbers .entry)) f
+    ensures { λ r. ⌜ ((rows : List Row) → RowsHeld rows (now (words .entry)) (now (numbers .entry)) f
         → AfterRows (rows ++ constantRowsFrom sentinel (columnMap (networkOf (now (s .entry)) c)) 0 (networkOf (now (s .entry)) c .nodes))
         (now (words .entry)) r (now (words .exit)) (now (numbers .exit))) ⌝ }
 {
@@ -232,8 +232,8 @@ pub fn create_constant_constraints(
             next_out,
             edge_to_col,
             edge_columns,
-            first_listing,
-            next_listing,
+            first_membership,
+            next_membership,
             NodeIndex(fields::narrow16(i)),
             sentinel,
             words,

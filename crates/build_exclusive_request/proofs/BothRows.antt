@@ -14,7 +14,7 @@ use Rattle.network_record.specs.declared.Counts.{Counts}
 use Rattle.build_col_edge_map.proofs.EdgeColumns.{columns-few}
 use Rattle.build_node_row.specs.Tables.{networkOf, EdgeTables}
 use Rattle.build_node_row.specs.EdgeColumns.{edgeColumns}
-use Rattle.build_node_table.specs.NodeRows.{AfterRequests}
+use Rattle.build_node_table.specs.NodeTable.{AfterRequests}
 use Rattle.build_node_table.specs.declared.NodeRowsAdded.{NodeRowsAdded}
 use Rattle.build_node_table.specs.declared.NodeRowsAdded.the-variants.{Full}
 use Rattle.build_node_table.proofs.Table.{full-later}

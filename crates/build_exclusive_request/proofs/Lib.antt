@@ -1,2 +1,2 @@
 mod BothRows
-mod Listings
+mod Memberships

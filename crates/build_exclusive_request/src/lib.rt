@@ -1,13 +1,13 @@
-// The rows that a node asks for where exclusive sets list it: an upper and a lower one for each listing.
+// The rows that a node asks for where exclusive sets list it: an upper and a lower one for each membership.
 ghost use mathlib.Core.Path.{_≡_};
 ghost use mathlib.Core.List.{List, [], _∷_, _++_};
 ghost use Prim.Native.Nat.{_+_, _<_, _≤_};
 ghost use lib.ListN.{length};
 ghost use Rattle.pywr.specs.Rows.{columnMap};
 ghost use Rattle.pywr.specs.VaryingRows.{RowRequest, exclusiveRequests};
-ghost use Rattle.build_node_row.specs.Tables.{networkOf, EdgeTables, ListingTables};
+ghost use Rattle.build_node_row.specs.Tables.{networkOf, EdgeTables, MembershipTables};
 ghost use Rattle.build_node_row.specs.EdgeColumns.{edgeColumns};
-ghost use Rattle.build_node_table.specs.NodeRows.{NodeRowsHeld, NodeRowsHolding, AfterRequests, requestsBefore, listedRequests};
+ghost use Rattle.build_node_table.specs.NodeTable.{NodeRowsHeld, NodeRowsHolding, AfterRequests, requestsBefore, listedRequests};
 use build_node_table::NodeRows;
 use build_node_table::NodeRowsAdded;
 use network_record::Counts;
@@ -90,7 +90,7 @@ fn request_bounded_rows(
     }
 }
 
-// A node asks for two rows for each of its listings: listing j is of the set numbered j / 16.
+// A node asks for two rows for each of its memberships: membership j is of the set numbered j / 16.
 pub fn request_exclusive_rows(
     s: &[u8],
     c: Counts,
@@ -100,8 +100,8 @@ pub fn request_exclusive_rows(
     next_out: &[u16; 512],
     edge_to_col: &[u16; 512],
     edge_columns: usize,
-    first_listing: &[u16; 256],
-    next_listing: &[u16; 2048],
+    first_membership: &[u16; 256],
+    next_membership: &[u16; 2048],
     node: NodeIndex,
     sentinel: Sentinel,
     words: &mut [u16],
@@ -110,7 +110,7 @@ pub fn request_exclusive_rows(
     rows: NodeRows,
 ) -> NodeRowsAdded
     requires { ⌜ EdgeTables (now s) c (now «first_in») (now «next_in») (now «first_out») (now «next_out») (now «edge_to_col») × (node .0 < c .nodes)
-        × («edge_columns» ≡ edgeColumns (now s) c) × ListingTables (now s) c (now «first_listing») (now «next_listing»)
+        × («edge_columns» ≡ edgeColumns (now s) c) × MembershipTables (now s) c (now «first_membership») (now «next_membership»)
         × (24844 ≤ length (now words)) × (6784 ≤ length (now numbers))
         × NodeRowsHeld sentinel (requestsBefore (columnMap (networkOf (now s) c)) (node .0)) (now words) (now numbers) rows
         × (length (requestsBefore (columnMap (networkOf (now s) c)) (node .0) ++ listedRequests (columnMap (networkOf (now s) c)) (node .0)) ≤ 4352) ⌝ }
@@ -119,9 +119,9 @@ pub fn request_exclusive_rows(
 {
     let k = fields::wide16(node.0);
     let mut held = rows;
-    let mut link = first_listing[k];
+    let mut link = first_membership[k];
     while link != 0 {
-        let listing = link - 1;
+        let membership = link - 1;
         let r = request_bounded_rows(
             s,
             c,
@@ -132,7 +132,7 @@ pub fn request_exclusive_rows(
             edge_to_col,
             edge_columns,
             node,
-            listing / 16,
+            membership / 16,
             sentinel,
             words,
             numbers,
@@ -145,7 +145,7 @@ pub fn request_exclusive_rows(
             }
             NodeRowsAdded::Done(more) => {
                 held = more;
-                link = next_listing[fields::wide16(listing)];
+                link = next_membership[fields::wide16(membership)];
             }
         }
     }

@@ -46,8 +46,8 @@ module _ (file : List ℕ) (n e a v place : ℕ) (h : Sections file n e a v plac
       let g = ends-under (aggregateEnd file) 540 (20 * n + 6 * e) a (λ k l. aggregate-under file n _ (aggregate-accepted file n e a v place h k l)) in
       let s = ends-under (virtualStorageEnd file) 648 (aggregateStart file n e a) v
       (λ k l. let p = virtual-storage-accepted file n e a v place h k l in omega (arith, p .most)) in
-      let q = ap (recordsEnd (virtualStorageEnd file) v) (h .storages) in
-      omega (arith, h .ends, h .few-nodes, h .few-edges, h .few-aggregates, h .few-storages, g, s, q)
+      let q = ap (recordsEnd (virtualStorageEnd file) v) (h .virtualStorages) in
+      omega (arith, h .ends, h .few-nodes, h .few-edges, h .few-aggregates, h .few-virtual-storages, g, s, q)
 
   pub aggregate-passed-256 : (k : ℕ) → k < a → AggregatePassed file 256 (aggregateStart file n e k)
   aggregate-passed-256 k l =

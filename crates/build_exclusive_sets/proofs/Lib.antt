@@ -4,4 +4,4 @@ pub mod AddSets
 pub mod Accepted
 pub mod CollectSets
 pub mod ListMembers
-pub mod ListingLaws
+pub mod MembershipLaws

@@ -1,4 +1,4 @@
--- The listings of every node: one more member in front of them, and one more set. Assumes nothing.
+-- The memberships of every node: one more member in front of them, and one more set. Assumes nothing.
 use Prim.Native.Nat.{ℕ, suc, _+_, _*_, _<_, _≤_}
 use mathlib.Core.Path.{_≡_, refl, sym, _∙_, subst}
 use mathlib.Core.Logic.{_⊎_, inl, inr}
@@ -15,14 +15,14 @@ use Rattle.pywr.specs.Bytes.{byte, le16}
 use Rattle.pywr.specs.Network.{keepIf}
 use Rattle.network_aggregate.specs.AggregatedNode.{setAt}
 use Rattle.laws.specs.Linked.{Later, Linked}
-use Rattle.build_exclusive_sets.specs.Sets.{setsAt, placesIn, listingsOf, Listings}
+use Rattle.build_exclusive_sets.specs.Sets.{setsAt, placesIn, membershipsOf, Memberships}
 use Rattle.laws.proofs.LinkedLaws.{linked-store, linked-put}
 use Rattle.build_exclusive_sets.proofs.SameSet.{set-length, member-at}
 use Rattle.build_exclusive_sets.proofs.SetNumber.{sets-next, sets-end}
 
 module _ (first next : List ℕ) where
-  listings-same : (low : ℕ) (of of′ : ℕ → List ℕ) → ((n : ℕ) → of n ≡ of′ n) → Listings low first next of → Listings low first next of′
-  listings-same low of of′ e h = record {
+  memberships-same : (low : ℕ) (of of′ : ℕ → List ℕ) → ((n : ℕ) → of n ≡ of′ n) → Memberships low first next of → Memberships low first next of′
+  memberships-same low of of′ e h = record {
     long-first = h .long-first;
     long-next = h .long-next;
     linked = λ n l. subst (λ (js : List ℕ). Linked 2048 next (getD first n 0) js) (e n) (h .linked n l);
@@ -33,16 +33,16 @@ module _ (first next : List ℕ) where
   lower low low′ f h (inl e) = inl e
   lower low low′ f h (inr l) = inr (omega arith)
 
-  listings-lower : (low low′ : ℕ) (of : ℕ → List ℕ) → low′ ≤ low → Listings low first next of → Listings low′ first next of
-  listings-lower low low′ of l h = record {
+  memberships-lower : (low low′ : ℕ) (of : ℕ → List ℕ) → low′ ≤ low → Memberships low first next of → Memberships low′ first next of
+  memberships-lower low low′ of l h = record {
     long-first = h .long-first;
     long-next = h .long-next;
     linked = h .linked;
     behind = λ n k. lower low low′ (getD first n 0) l (h .behind n k);
   }
 
-  -- listing j of node m
-  module _ (j m : ℕ) (of : ℕ → List ℕ) (h : Listings (j + 1) first next of) (few : m < 256) (small : j < 2048) where
+  -- membership j of node m
+  module _ (j m : ℕ) (of : ℕ → List ℕ) (h : Memberships (j + 1) first next of) (few : m < 256) (small : j < 2048) where
     later : (n : ℕ) → n < 256 → Later j (getD first n 0)
     later n l = subst (λ (k : ℕ). (getD first n 0 ≡ 0) ⊎ (k < getD first n 0)) (add-one j) (h .behind n l)
 
@@ -66,8 +66,8 @@ module _ (first next : List ℕ) where
     over n l true e = inr (let q = stored n e in omega arith)
     over n l false e = rw (kept n e) (lower (j + 1) j (getD first n 0) (omega arith) (h .behind n l))
 
-    listings-put : Listings j (set first m (j + 1)) (set next j (getD first m 0)) (λ n. keepIf (eqb m n) j (of n))
-    listings-put = record {
+    memberships-put : Memberships j (set first m (j + 1)) (set next j (getD first m 0)) (λ n. keepIf (eqb m n) j (of n))
+    memberships-put = record {
       long-first = length-set first m (j + 1) ∙ h .long-first;
       long-next = length-set next j (getD first m 0) ∙ h .long-next;
       linked = λ n l. put n l (eqb m n) refl;
@@ -86,12 +86,12 @@ module _ (file : List ℕ) (k at : ℕ) (of : ℕ → List ℕ) where
   withMembers i n = placesIn n (16 * k + i) (drop i (setAt file at)) ++ of n
 
   module _ (first next : List ℕ) where
-    pub members-none : (size : ℕ) → size ≡ byte file at → size ≤ 16 → Listings (16 * k + 16) first next of → Listings (16 * k + size) first next (withMembers size)
+    pub members-none : (size : ℕ) → size ≡ byte file at → size ≤ 16 → Memberships (16 * k + 16) first next of → Memberships (16 * k + size) first next (withMembers size)
     unfolding placesIn
     members-none size e l h =
-        listings-same first next (16 * k + size) of (withMembers size)
+        memberships-same first next (16 * k + size) of (withMembers size)
         (λ n. rw (drop-of-length-le (setAt file at) {i = size} (omega (arith, set-length file at))))
-        (listings-lower first next (16 * k + 16) (16 * k + size) of (omega arith) h)
+        (memberships-lower first next (16 * k + 16) (16 * k + size) of (omega arith) h)
 
     member-opened : (i n : ℕ) → i < byte file at → keepIf (eqb (le16 file (at + 1 + 2 * i)) n) (16 * k + i) (withMembers (i + 1) n) ≡ withMembers i n
     unfolding placesIn
@@ -100,29 +100,29 @@ module _ (file : List ℕ) (k at : ℕ) (of : ℕ → List ℕ) where
         rw (drop-next (setAt file at) i 0 (omega (arith, set-length file at)), member-at file at i l, e)
         (keep-append (eqb (le16 file (at + 1 + 2 * i)) n) (16 * k + i) (placesIn n (16 * k + (i + 1)) (drop (i + 1) (setAt file at))) (of n))
 
-    pub members-more : (i m : ℕ) → i < byte file at → m ≡ le16 file (at + 1 + 2 * i) → m < 256 → 16 * k + i < 2048 → Listings (16 * k + (i + 1)) first next (withMembers (i + 1))
-        → Listings (16 * k + i) (set first m (16 * k + i + 1)) (set next (16 * k + i) (getD first m 0)) (withMembers i)
+    pub members-more : (i m : ℕ) → i < byte file at → m ≡ le16 file (at + 1 + 2 * i) → m < 256 → 16 * k + i < 2048 → Memberships (16 * k + (i + 1)) first next (withMembers (i + 1))
+        → Memberships (16 * k + i) (set first m (16 * k + i + 1)) (set next (16 * k + i) (getD first m 0)) (withMembers i)
     members-more i m l q few small h =
         let e : 16 * k + (i + 1) ≡ 16 * k + i + 1 = omega arith in
-        listings-same (set first m (16 * k + i + 1)) (set next (16 * k + i) (getD first m 0)) (16 * k + i) (λ n. keepIf (eqb m n) (16 * k + i) (withMembers (i + 1) n)) (withMembers i)
+        memberships-same (set first m (16 * k + i + 1)) (set next (16 * k + i) (getD first m 0)) (16 * k + i) (λ n. keepIf (eqb m n) (16 * k + i) (withMembers (i + 1) n)) (withMembers i)
         (λ n. rw q (member-opened i n l))
-        (listings-put first next (16 * k + i) m (withMembers (i + 1)) (subst (λ (low : ℕ). Listings low first next (withMembers (i + 1))) e h) few small)
+        (memberships-put first next (16 * k + i) m (withMembers (i + 1)) (subst (λ (low : ℕ). Memberships low first next (withMembers (i + 1))) e h) few small)
 
-    pub members-all : (i : ℕ) → i ≤ 0 → Listings (16 * k + i) first next (withMembers i) → Listings (16 * k) first next (λ n. placesIn n (16 * k) (setAt file at) ++ of n)
+    pub members-all : (i : ℕ) → i ≤ 0 → Memberships (16 * k + i) first next (withMembers i) → Memberships (16 * k) first next (λ n. placesIn n (16 * k) (setAt file at) ++ of n)
     members-all i l h =
         let e : 16 * k + i ≡ 16 * k = omega arith in
         let z : i ≡ 0 = omega arith in
-        listings-same first next (16 * k) (withMembers i) (λ n. placesIn n (16 * k) (setAt file at) ++ of n)
+        memberships-same first next (16 * k) (withMembers i) (λ n. placesIn n (16 * k) (setAt file at) ++ of n)
         (λ n. rw (e, z))
-        (listings-lower first next (16 * k + i) (16 * k) (withMembers i) (omega arith) h)
+        (memberships-lower first next (16 * k + i) (16 * k) (withMembers i) (omega arith) h)
 
--- the listings in the sets numbered from k
+-- the memberships in the sets numbered from k
 abbrev pub fromSet : List ℕ → List ℕ → ℕ → ℕ → ℕ → List ℕ
-fromSet file places count k n = listingsOf n k (drop k (setsAt file places count))
+fromSet file places count k n = membershipsOf n k (drop k (setsAt file places count))
 
 module _ (file places : List ℕ) (count : ℕ) (long : count ≤ length places) (first next : List ℕ) where
-  pub sets-none : length first ≡ 256 → length next ≡ 2048 → ((n : ℕ) → n < 256 → getD first n 0 ≡ 0) → Listings (16 * count) first next (fromSet file places count count)
-  unfolding listingsOf
+  pub sets-none : length first ≡ 256 → length next ≡ 2048 → ((n : ℕ) → n < 256 → getD first n 0 ≡ 0) → Memberships (16 * count) first next (fromSet file places count count)
+  unfolding membershipsOf
   sets-none lf ln z = record {
     long-first = lf;
     long-next = ln;
@@ -130,9 +130,9 @@ module _ (file places : List ℕ) (count : ℕ) (long : count ≤ length places)
     behind = λ n l. inl (z n l);
   }
 
-  pub sets-more : (k at : ℕ) → k < count → at ≡ getD places k 0 → Listings (16 * k) first next (λ n. placesIn n (16 * k) (setAt file at) ++ fromSet file places count (k + 1) n)
-      → Listings (16 * k) first next (fromSet file places count k)
-  unfolding listingsOf
+  pub sets-more : (k at : ℕ) → k < count → at ≡ getD places k 0 → Memberships (16 * k) first next (λ n. placesIn n (16 * k) (setAt file at) ++ fromSet file places count (k + 1) n)
+      → Memberships (16 * k) first next (fromSet file places count k)
+  unfolding membershipsOf
   sets-more k at l q h =
-      listings-same first next (16 * k) (λ n. placesIn n (16 * k) (setAt file at) ++ fromSet file places count (k + 1) n) (fromSet file places count k)
+      memberships-same first next (16 * k) (λ n. placesIn n (16 * k) (setAt file at) ++ fromSet file places count (k + 1) n) (fromSet file places count k)
       (λ n. rw (sets-next file places count long k l, q, add-one k)) h

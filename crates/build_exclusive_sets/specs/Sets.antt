@@ -1,4 +1,4 @@
--- The distinct exclusive sets by the offsets of their records, and the listings of a node: listing 16 k + i is member i of the set numbered k. Assumes nothing.
+-- The distinct exclusive sets by the offsets of their records, and the memberships of a node: membership 16 k + i is member i of the set numbered k. Assumes nothing.
 use Prim.Native.Nat.{ℕ, suc, _*_, _<_, _≤_}
 use mathlib.Core.Path.{_≡_}
 use mathlib.Core.Logic.{_⊎_}
@@ -30,13 +30,13 @@ unfoldable pub placesIn : ℕ → ℕ → List ℕ → List ℕ
 placesIn n j [] = []
 placesIn n j (m ∷ ms) = keepIf (eqb m n) j (placesIn n (suc j) ms)
 
--- the listings of node n in the sets numbered from k
-unfoldable pub listingsOf : ℕ → ℕ → List (List ℕ) → List ℕ
-listingsOf n k [] = []
-listingsOf n k (s ∷ ss) = placesIn n (16 * k) s ++ listingsOf n (suc k) ss
+-- the memberships of node n in the sets numbered from k
+unfoldable pub membershipsOf : ℕ → ℕ → List (List ℕ) → List ℕ
+membershipsOf n k [] = []
+membershipsOf n k (s ∷ ss) = placesIn n (16 * k) s ++ membershipsOf n (suc k) ss
 
--- every node's listings so far, none of them under `low`
-pub record Listings (low : ℕ) (first next : List ℕ) (of : ℕ → List ℕ) : Type 0 where
+-- every node's memberships so far, none of them under `low`
+pub record Memberships (low : ℕ) (first next : List ℕ) (of : ℕ → List ℕ) : Type 0 where
   pub long-first : length first ≡ 256
   pub long-next : length next ≡ 2048
   pub linked : (n : ℕ) → n < 256 → Linked 2048 next (getD first n 0) (of n)

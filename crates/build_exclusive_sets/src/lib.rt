@@ -9,7 +9,7 @@ ghost use Rattle.network_aggregate.specs.AggregatedNode.{setAt, setEnd, aggrega
 ghost use Rattle.network_laws.specs.Passed.{SetPassed, AggregatePassed};
 ghost use Rattle.network_record.specs.Counts.{networkOf, SectionsOf};
 ghost use Rattle.laws.specs.Linked.{Linked};
-ghost use Rattle.build_exclusive_sets.specs.Sets.{setsAt, SetsFit, Collected, placesIn, listingsOf, Listings};
+ghost use Rattle.build_exclusive_sets.specs.Sets.{setsAt, SetsFit, Collected, placesIn, membershipsOf, Memberships};
 use network_record::Counts;
 
 // How many sets there are, or more than 128.
@@ -110,11 +110,11 @@ pub fn collect_sets(s: &[u8], c: Counts, set_at: &mut [u16; 128]) -> Sets
     Sets::Count(count)
 }
 
-// The members of the set numbered k, whose record stands at `at`, each in front of the listings so far.
+// The members of the set numbered k, whose record stands at `at`, each in front of the memberships so far.
 fn list_set(s: &[u8], k: usize, at: usize, first: &mut [u16; 256], next: &mut [u16; 2048])
     requires { ⌜ (k < 128) × SetPassed (now s) 256 at ⌝ }
-    ensures { λ _. ⌜ ((of : ℕ → List ℕ) → Listings (16 * k + 16) (now (first .entry)) (now (next .entry)) of
-        → Listings (16 * k) (now (first .exit)) (now (next .exit)) (λ n. placesIn n (16 * k) (setAt (now (s .entry)) at) ++ of n)) ⌝ }
+    ensures { λ _. ⌜ ((of : ℕ → List ℕ) → Memberships (16 * k + 16) (now (first .entry)) (now (next .entry)) of
+        → Memberships (16 * k) (now (first .exit)) (now (next .exit)) (λ n. placesIn n (16 * k) (setAt (now (s .entry)) at) ++ of n)) ⌝ }
 {
     let mut i = network_aggregate::set_size(s, at);
     while 0 < i {
@@ -126,7 +126,7 @@ fn list_set(s: &[u8], k: usize, at: usize, first: &mut [u16; 256], next: &mut [u
     }
 }
 
-// The listings of every node as linked lists: listing 16 k + i is member i of the set numbered k.
+// The memberships of every node as linked lists: membership 16 k + i is member i of the set numbered k.
 pub fn list_members(
     s: &[u8],
     set_at: &[u16; 128],
@@ -136,7 +136,7 @@ pub fn list_members(
 )
     requires { ⌜ SetsFit (now s) (now «set_at») sets × (length (now next) ≡ 2048) ⌝ }
     ensures { λ _. ⌜ ((n : ℕ) → n < 256 → Linked 2048 (now (next .exit)) (getD (now (first .exit)) n 0)
-        (listingsOf n 0 (setsAt (now (s .entry)) (now («set_at» .entry)) sets))) ⌝ }
+        (membershipsOf n 0 (setsAt (now (s .entry)) (now («set_at» .entry)) sets))) ⌝ }
 {
     *first = [0u16; 256];
     let mut k = sets;

@@ -17,7 +17,7 @@ use Rattle.fields.specs.Records.{recordsAt, recordsEnd}
 use Rattle.fields.proofs.RecordLaws.{end-more, records-left, records-over}
 use Rattle.network_aggregate.specs.AggregatedNode.{aggregateAt, aggregateEnd}
 use Rattle.build_row.specs.RowBuilder.{gathered}
-use Rattle.build_append.specs.LpBuilder.{Held, AfterRows}
+use Rattle.build_append.specs.LpBuilder.{RowsHeld, AfterRows}
 use Rattle.build_append.specs.declared.Filled.{Filled}
 use Rattle.build_append.specs.declared.RowsAdded.{RowsAdded}
 use Rattle.build_append.specs.declared.RowsAdded.the-variants.{Done, Full}
@@ -63,7 +63,7 @@ module _ (file places : List ℕ) (count edgeColumns at : ℕ) (columns : List �
 pub record AddingAggregates (file : List ℕ) (MapIs : ColumnMap → Type 0) (start count : ℕ) (words₀ : List ℕ) (numbers₀ : List Float) (f₀ : Filled) (words : List ℕ) (numbers : List Float) (f : Filled) (at i : ℕ) : Type 0 where
   pub within : i ≤ count
   pub stands : at ≡ recordsEnd (aggregateEnd file) i start
-  pub adding : (map : ColumnMap) → MapIs map → (rows : List Row) → Held rows words₀ numbers₀ f₀
+  pub adding : (map : ColumnMap) → MapIs map → (rows : List Row) → RowsHeld rows words₀ numbers₀ f₀
       → Adding (rows ++ exclusivityRows map (recordsAt (aggregateAt file) (aggregateEnd file) count start)) (exclusivityRows map (recordsAt (aggregateAt file) (aggregateEnd file) (count - i) at)) words₀ words numbers f
 
 module _ (file : List ℕ) (MapIs : ColumnMap → Type 0) (start count : ℕ) (words₀ : List ℕ) (numbers₀ : List Float) (f₀ : Filled) where
@@ -85,7 +85,7 @@ module _ (file : List ℕ) (MapIs : ColumnMap → Type 0) (start count : ℕ) (w
       abbrev rest : ColumnMap → List Row
       rest map = exclusivityRows map (recordsAt (aggregateAt file) (aggregateEnd file) (count - (i + 1)) (aggregateEnd file at))
 
-      here : (map : ColumnMap) → MapIs map → (rows : List Row) → Held rows words₀ numbers₀ f₀ → Adding (whole map rows) (exclusivityRows map (aggregateAt file at ∷ []) ++ rest map) words₀ words numbers f
+      here : (map : ColumnMap) → MapIs map → (rows : List Row) → RowsHeld rows words₀ numbers₀ f₀ → Adding (whole map rows) (exclusivityRows map (aggregateAt file at ∷ []) ++ rest map) words₀ words numbers f
       here map m rows k = rw (records-left (aggregateEnd file) count i at lt (aggregateAt file), split map (aggregateAt file at) (recordsAt (aggregateAt file) (aggregateEnd file) (count - (i + 1)) (aggregateEnd file at))) at (h .adding map m rows k)
 
       pub aggregate-more : (g : Filled) → r ≡ Done g → AddingAggregates file MapIs start count words₀ numbers₀ f₀ words′ numbers′ g (aggregateEnd file at) (i + 1)
@@ -96,10 +96,10 @@ module _ (file : List ℕ) (MapIs : ColumnMap → Type 0) (start count : ℕ) (w
             adding = λ map m rows k. adding-more (whole map rows) _ (rest map) words₀ words numbers f (here map m rows k) r words′ numbers′ (added map m) g e;
           }
 
-      pub aggregate-over : r ≡ Full → (map : ColumnMap) → MapIs map → (rows : List Row) → Held rows words₀ numbers₀ f₀ → AfterRows (whole map rows) words₀ Full words′ numbers′
+      pub aggregate-over : r ≡ Full → (map : ColumnMap) → MapIs map → (rows : List Row) → RowsHeld rows words₀ numbers₀ f₀ → AfterRows (whole map rows) words₀ Full words′ numbers′
       aggregate-over e map m rows k = adding-over (whole map rows) _ (rest map) words₀ words numbers f (here map m rows k) r words′ numbers′ (added map m) e
 
-    pub aggregates-done : count ≤ i → (map : ColumnMap) → MapIs map → (rows : List Row) → Held rows words₀ numbers₀ f₀ → AfterRows (whole map rows) words₀ (Done f) words numbers
+    pub aggregates-done : count ≤ i → (map : ColumnMap) → MapIs map → (rows : List Row) → RowsHeld rows words₀ numbers₀ f₀ → AfterRows (whole map rows) words₀ (Done f) words numbers
     unfolding exclusivityRows
     aggregates-done l map m rows k =
         adding-done (whole map rows) _ words₀ words numbers f (h .adding map m rows k) (ap (exclusivityRows map) (records-over (aggregateEnd file) count i at l (aggregateAt file)))

@@ -12,7 +12,7 @@ use Rattle.pywr.specs.ExclusiveSets.{exclusiveSets, setNumber}
 use Rattle.pywr.specs.ColEdgeMap.{columns}
 use Rattle.pywr.specs.Rows.{columnMap}
 use Rattle.pywr.proofs.ListLaws.{found-below}
-use Rattle.pywr.proofs.ListingLaws.{From, from-at}
+use Rattle.pywr.proofs.MembershipLaws.{From, from-at}
 use Rattle.fields.specs.Records.{recordsAt, recordsEnd}
 use Rattle.fields.proofs.RecordLaws.{end-after}
 use Rattle.network_aggregate.specs.AggregatedNode.{setAt, setEnd, aggregateAt, aggregateEnd}

@@ -13,7 +13,7 @@ ghost use Rattle.pywr.specs.Programme.{Row};
 ghost use Rattle.network_aggregate.specs.AggregatedNode.{aggregateAt};
 ghost use Rattle.network_laws.specs.Sections.{Sections};
 ghost use Rattle.build_exclusive_sets.specs.Sets.{setsAt, SetsFit};
-ghost use Rattle.build_append.specs.LpBuilder.{Held, Holding, AfterRows};
+ghost use Rattle.build_append.specs.LpBuilder.{RowsHeld, Holding, AfterRows};
 ghost use Rattle.build_node_row.specs.Tables.{networkOf};
 ghost use Rattle.build_exclusivity.specs.ExclusivityRow.{KnownSets, MapOf, ExclusivityRow};
 use build_append::Filled;
@@ -72,7 +72,7 @@ fn add_exclusivity_row(
         × (aggregateAt (now s) at .exclusive ≡ true → KnownSets (now s) (now «set_at») sets at)
         × (24844 ≤ length (now words)) × (6784 ≤ length (now numbers)) × Holding (now words) (now numbers) f ⌝ }
     ensures { λ r. ⌜ ((map : ColumnMap) → MapOf (now (s .entry)) (now («set_at» .entry)) sets «edge_columns» map
-        → (rows : List Row) → Held rows (now (words .entry)) (now (numbers .entry)) f
+        → (rows : List Row) → RowsHeld rows (now (words .entry)) (now (numbers .entry)) f
         → AfterRows (rows ++ exclusivityRows map (aggregateAt (now (s .entry)) at ∷ [])) (now (words .entry)) r (now (words .exit)) (now (numbers .exit))) ⌝ }
 {
     if network_aggregate::is_exclusive(s, at) {
@@ -116,7 +116,7 @@ pub fn create_mutual_exclusivity_constraints(
         × SetsFit (now s) (now «set_at») sets × (setsAt (now s) (now «set_at») sets ≡ exclusiveSets (networkOf (now s) c))
         × («edge_columns» ≡ ColEdgeMap.columns (networkOf (now s) c) .count) × («edge_columns» ≤ 512)
         × (24844 ≤ length (now words)) × (6784 ≤ length (now numbers)) × Holding (now words) (now numbers) f ⌝ }
-    ensures { λ r. ⌜ ((rows : List Row) → Held rows (now (words .entry)) (now (numbers .entry)) f
+    ensures { λ r. ⌜ ((rows : List Row) → RowsHeld rows (now (words .entry)) (now (numbers .entry)) f
         → AfterRows (rows ++ exclusivityRows (columnMap (networkOf (now (s .entry)) c)) (networkOf (now (s .entry)) c .aggregates))
         (now (words .entry)) r (now (words .exit)) (now (numbers .exit))) ⌝ }
 {

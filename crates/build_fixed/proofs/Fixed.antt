@@ -13,8 +13,8 @@ use Rattle.pywr.specs.Build.{assemble, programmeOf}
 use Rattle.build_append.specs.declared.Filled.{Filled}
 use Rattle.build_append.specs.declared.RowsAdded.{RowsAdded}
 use Rattle.build_append.specs.declared.RowsAdded.the-variants.{Done, Full}
-use Rattle.build_append.specs.LpBuilder.{Held, Holding, withinCeilings, AfterRows}
-use Rattle.build_append.proofs.HeldLaws.{over-more}
+use Rattle.build_append.specs.LpBuilder.{RowsHeld, Holding, withinCeilings, AfterRows}
+use Rattle.build_append.proofs.RowsHeldLaws.{over-more}
 use Rattle.build_append.proofs.AddingRows.{Adds}
 
 module _ (new more : List Row) (words words₁ : List ℕ) (numbers numbers₁ : List Float) (f : Filled) where
@@ -25,7 +25,7 @@ module _ (new more : List Row) (words words₁ : List ℕ) (numbers numbers₁ :
       let second = b (rows ++ new) (first .held g refl) in
       let e : (rows ++ new) ++ more ≡ rows ++ (new ++ more) = append-assoc rows new more in
       record {
-        held = λ k q. subst (λ (x : List Row). Held x words₂ numbers₂ k) e (second .held k q);
+        held = λ k q. subst (λ (x : List Row). RowsHeld x words₂ numbers₂ k) e (second .held k q);
         full = λ q. ap withinCeilings (sym e) ∙ second .full q;
         kept = second .kept ∙ first .kept;
       }

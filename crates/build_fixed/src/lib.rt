@@ -7,7 +7,7 @@ ghost use Rattle.pywr.specs.Programme.{Row};
 ghost use Rattle.pywr.specs.Build.{programmeOf};
 ghost use Rattle.build_node_row.specs.EdgeColumns.{edgeColumns};
 ghost use Rattle.build_node_row.specs.Tables.{networkOf, EdgeTables, SetTables};
-ghost use Rattle.build_append.specs.LpBuilder.{Held, Holding, AfterRows};
+ghost use Rattle.build_append.specs.LpBuilder.{RowsHeld, Holding, AfterRows};
 use build_append::Filled;
 use build_append::RowsAdded;
 use network_record::Counts;
@@ -25,8 +25,8 @@ pub fn add_fixed_rows(
     edge_columns: usize,
     set_at: &[u16; 128],
     sets: usize,
-    first_listing: &[u16; 256],
-    next_listing: &[u16; 2048],
+    first_membership: &[u16; 256],
+    next_membership: &[u16; 2048],
     sentinel: Sentinel,
     words: &mut [u16],
     numbers: &mut [f64],
@@ -34,9 +34,9 @@ pub fn add_fixed_rows(
     f: Filled,
 ) -> RowsAdded
     requires { ⌜ EdgeTables (now s) c (now «first_in») (now «next_in») (now «first_out») (now «next_out») (now «edge_to_col»)
-        × SetTables (now s) c (now «set_at») sets (now «first_listing») (now «next_listing») × («edge_columns» ≡ edgeColumns (now s) c)
+        × SetTables (now s) c (now «set_at») sets (now «first_membership») (now «next_membership») × («edge_columns» ≡ edgeColumns (now s) c)
         × (24844 ≤ length (now words)) × (6784 ≤ length (now numbers)) × Holding (now words) (now numbers) f ⌝ }
-    ensures { λ r. ⌜ ((rows : List Row) → Held rows (now (words .entry)) (now (numbers .entry)) f
+    ensures { λ r. ⌜ ((rows : List Row) → RowsHeld rows (now (words .entry)) (now (numbers .entry)) f
         → AfterRows (rows ++ programmeOf sentinel (networkOf (now (s .entry)) c) .programme .fixed)
         (now (words .entry)) r (now (words .exit)) (now (numbers .exit))) ⌝ }
 {
@@ -65,8 +65,8 @@ pub fn add_fixed_rows(
                 next_out,
                 edge_to_col,
                 edge_columns,
-                first_listing,
-                next_listing,
+                first_membership,
+                next_membership,
                 sentinel,
                 words,
                 numbers,

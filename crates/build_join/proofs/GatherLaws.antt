@@ -15,10 +15,10 @@ use Rattle.fields.proofs.RecordLaws.{records-left, records-over}
 use Rattle.build_row.specs.RowBuilder.{gathered, Rising}
 use Rattle.build_append.specs.declared.Filled.{Filled}
 use Rattle.build_join.specs.declared.VariableRow.{VariableRow}
-use Rattle.build_append.specs.LpBuilder.{Held, Holding}
+use Rattle.build_append.specs.LpBuilder.{RowsHeld, Holding}
 use Rattle.build_join.specs.VariableRow.{AfterVariableRow}
-use Rattle.build_append.proofs.HeldLaws.{held-few, held-lent, lent-written}
-use Rattle.build_join.specs.JoinedRows.{Gathered}
+use Rattle.build_append.proofs.RowsHeldLaws.{held-few, held-lent, lent-written}
+use Rattle.build_row.specs.Gathered.{Gathered}
 
 -- ---- record by record
 
@@ -75,8 +75,8 @@ module _ (words : List ℕ) (numbers : List Float) (f : Filled) (long : 6784 ≤
   holding-lent = record { rows = holding .rows; held = held-lent numbers ys from within (holding .rows) words f (omega arith) (holding .held) }
 
   pub asked-lent : (s : Sentinel) (r : VariableRow) (words′ : List ℕ) (numbers′ : List Float)
-      → ((rows : List (List Element)) → Held (map (freshRow s) rows) words after f → AfterVariableRow s rows (gathered columns (drop from after) n) words r words′ numbers′)
-      → (rows : List (List Element)) → Held (map (freshRow s) rows) words numbers f → AfterVariableRow s rows row words r words′ numbers′
+      → ((rows : List (List Element)) → RowsHeld (map (freshRow s) rows) words after f → AfterVariableRow s rows (gathered columns (drop from after) n) words r words′ numbers′)
+      → (rows : List (List Element)) → RowsHeld (map (freshRow s) rows) words numbers f → AfterVariableRow s rows row words r words′ numbers′
   asked-lent s r words′ numbers′ asked rows held =
       let is : gathered columns (drop from after) n ≡ row = ap (λ (l : List Float). gathered columns l n) (lent-written numbers ys from within) ∙ g .is in
       subst (λ (row : List Element). AfterVariableRow s rows row words r words′ numbers′) is

@@ -23,10 +23,10 @@ use Rattle.build_append.specs.declared.Filled.{Filled}
 use Rattle.build_append.specs.declared.RowsAdded.the-variants.{Done, Full}
 use Rattle.build_join.specs.declared.VariableRow.{VariableRow}
 use Rattle.build_join.specs.declared.VariableRow.the-variants.{At}
-use Rattle.build_append.specs.LpBuilder.{Held, withinCeilings}
+use Rattle.build_append.specs.LpBuilder.{RowsHeld, withinCeilings}
 use Rattle.build_join.specs.VariableRow.{AfterVariableRow}
 use Rattle.build_append.proofs.RowLaws.{part-more}
-use Rattle.build_append.proofs.HeldLaws.{held-agrees, over-more}
+use Rattle.build_append.proofs.RowsHeldLaws.{held-agrees, over-more}
 use Rattle.build_join.specs.JoinedRows.{joined, AfterVariableRows}
 
 -- ---- rows asked for in turn
@@ -94,7 +94,7 @@ part-kept words words′ a n h e =
     let at : (l : List ℕ) → part a n l ≡ take n (drop (a - 5121) (drop 5121 l)) = λ l. ap (take n) (ap (λ (k : ℕ). drop k l) (sym q) ∙ sym (drop-drop (a - 5121) 5121 l)) in
     at words′ ∙ ap (λ (l : List ℕ). take n (drop (a - 5121) l)) e ∙ sym (at words)
 
-held-sets : (rows : List Row) (words : List ℕ) (numbers : List Float) (f : Filled) (b : ℕ) (vs : List ℕ) → 5121 ≤ b → Held rows words numbers f → Held rows (sets words b vs) numbers f
+held-sets : (rows : List Row) (words : List ℕ) (numbers : List Float) (f : Filled) (b : ℕ) (vs : List ℕ) → 5121 ≤ b → RowsHeld rows words numbers f → RowsHeld rows (sets words b vs) numbers f
 held-sets rows words numbers f b vs hb h = held-agrees rows words (sets words b vs) numbers numbers f h (part-before words vs b 0 5121 (omega arith)) refl
 
 -- ---- the loop that asks for the rows
@@ -105,11 +105,11 @@ done-is f g e = cc
 module _ (s : Sentinel) (asked : List (List Element)) (at width : ℕ) (table : List ℕ → List ℕ) (rows : List (List Element)) (words₀ : List ℕ) where
   -- after i rows: they are held, and the table of their places has `width` words for each
   pub record Asked (i : ℕ) (words : List ℕ) (numbers : List Float) (f : Filled) : Type 0 where
-    pub held : Held (map (freshRow s) (joined (take i asked) rows .rows)) words numbers f
+    pub held : RowsHeld (map (freshRow s) (joined (take i asked) rows .rows)) words numbers f
     pub placed : part at (width * i) words ≡ table (joined (take i asked) rows .places)
     pub kept : part 5121 (at - 5121) words ≡ part 5121 (at - 5121) words₀
 
-  pub asked-none : (numbers : List Float) (f : Filled) → table [] ≡ [] → Held (map (freshRow s) rows) words₀ numbers f → Asked 0 words₀ numbers f
+  pub asked-none : (numbers : List Float) (f : Filled) → table [] ≡ [] → RowsHeld (map (freshRow s) rows) words₀ numbers f → Asked 0 words₀ numbers f
   unfolding addVariableRows
   asked-none numbers f e h = record { held = h; placed = rw mul-zero (sym e); kept = refl }
 
@@ -118,7 +118,7 @@ module _ (s : Sentinel) (asked : List (List Element)) (at width : ℕ) (table : 
   asked-all i words numbers f size h e a =
       let all = so-far-all s asked rows i h in
       record {
-        held = λ g q. subst (Held (map (freshRow s) (joined asked rows .rows)) words numbers) (done-is f g q) (rw all at (a .held));
+        held = λ g q. subst (RowsHeld (map (freshRow s) (joined asked rows .rows)) words numbers) (done-is f g q) (rw all at (a .held));
         placed = λ g q. rw (e, ← all) (a .placed);
         full = λ q. absurd (let z : _≡_ {A = ℕ} 0 1 = cc in omega arith);
         kept = a .kept;

@@ -16,13 +16,13 @@ use Rattle.pywr.specs.Programme.{Row}
 use Rattle.pywr.specs.Build.{elementCount}
 use Rattle.pywr.specs.Store.{elementsOf}
 use Rattle.pywr.specs.VariableRows.{sameRow, position}
-use Rattle.pywr.specs.Written.{startsFrom, columnsIn, factorsIn}
+use Rattle.pywr.specs.Written.{startsFrom, columnsIn, valuesIn}
 use Rattle.pywr.proofs.FitLaws.{elements-append}
-use Rattle.pywr.proofs.RowsBack.{columns-length, factors-length}
+use Rattle.pywr.proofs.RowsBack.{columns-length, values-length}
 use Rattle.build_row.specs.RowBuilder.{gathered}
-use Rattle.build_append.specs.LpBuilder.{elementLists, Held, Holding}
+use Rattle.build_append.specs.LpBuilder.{elementLists, RowsHeld, Holding}
 use Rattle.build_append.specs.declared.Filled.{Filled}
-use Rattle.build_append.proofs.HeldLaws.{held-few}
+use Rattle.build_append.proofs.RowsHeldLaws.{held-few}
 use Rattle.build_append.proofs.RowLaws.{part-take, flat-append, elements-back, gathered-length}
 
 -- ---- a held row
@@ -69,8 +69,8 @@ share {A} f h before rest row run e =
     ∙ take-at (f row) (flatMap f rest) m (h row)
 
 split-row : (before rest : List Row) (row : Row) (words : List ℕ) (numbers : List Float) (f : Filled)
-    → Held (before ++ (row ∷ rest)) words numbers f → RowAt words numbers (length before) (row .elements)
-unfolding gathered elementCount columnsIn factorsIn
+    → RowsHeld (before ++ (row ∷ rest)) words numbers f → RowAt words numbers (length before) (row .elements)
+unfolding gathered elementCount columnsIn valuesIn
 split-row before rest row words numbers f held =
     let rows : List Row = before ++ (row ∷ rest) in
     let k : ℕ = length before in
@@ -86,15 +86,15 @@ split-row before rest row words numbers f held =
       start = word k (omega arith) ∙ start-behind 0 before (row ∷ rest) ∙ omega arith;
       next = ap (λ (j : ℕ). getD words j 0) place ∙ word (suc k) (omega arith) ∙ start-next 0 before rest row ∙ omega arith;
       few = omega arith;
-      elements = sym (ap₂ elementsOf (share columnsIn columns-length before rest row words (held .columns)) (ap (take m) (sym (drop-drop a 2048 numbers)) ∙ share factorsIn factors-length before rest row (drop 2048 numbers) (held .elements)) ∙ elements-back (row .elements));
+      elements = sym (ap₂ elementsOf (share columnsIn columns-length before rest row words (held .columns)) (ap (take m) (sym (drop-drop a 2048 numbers)) ∙ share valuesIn values-length before rest row (drop 2048 numbers) (held .elements)) ∙ elements-back (row .elements));
     }
 
-row-at : (rows : List Row) (words : List ℕ) (numbers : List Float) (f : Filled) (k : ℕ) → Held rows words numbers f → k < f .rows
+row-at : (rows : List Row) (words : List ℕ) (numbers : List Float) (f : Filled) (k : ℕ) → RowsHeld rows words numbers f → k < f .rows
     → RowAt words numbers k (getD (elementLists rows) k [])
 row-at rows words numbers f k held h =
     let none : Row = record { lower = nan; upper = nan; elements = [] } in
     let lt : k < length rows = omega (arith, held .rowCount) in
-    let stands = split-row (take k rows) (drop (suc k) rows) (getD rows k none) words numbers f (subst (λ (l : List Row). Held l words numbers f) (split-at rows k none lt) held) in
+    let stands = split-row (take k rows) (drop (suc k) rows) (getD rows k none) words numbers f (subst (λ (l : List Row). RowsHeld l words numbers f) (split-at rows k none lt) held) in
     subst (λ (es : List Element). RowAt words numbers k es) (sym (List·getD-map (λ (r : Row). r .elements) rows k none))
     (subst (λ (j : ℕ). RowAt words numbers j (getD rows k none .elements)) (length-take-le k rows (omega arith)) stands)
 
@@ -111,12 +111,12 @@ lengths-differ [] [] h = absurd (h refl)
 lengths-differ [] (y ∷ ys) h = refl
 lengths-differ (x ∷ xs) [] h = refl
 lengths-differ (x ∷ xs) (y ∷ ys) h =
-    let both : Bool = eqb (x .column) (y .column) && eq (x .factor) (y .factor) in
+    let both : Bool = eqb (x .column) (y .column) && eq (x .value) (y .value) in
     ap (λ (b : Bool). both && b) (lengths-differ xs ys (λ e. h (ap suc e))) ∙ not-and both
 
 -- whether row k of the rows held equals the row
 abbrev pub RowEquals : List ℕ → List Float → Filled → List Element → ℕ → Bool → Type 0
-RowEquals words numbers f row k same = (rows : List Row) → Held rows words numbers f → same ≡ sameRow (getD (elementLists rows) k []) row
+RowEquals words numbers f row k same = (rows : List Row) → RowsHeld rows words numbers f → same ≡ sameRow (getD (elementLists rows) k []) row
 
 -- `at` and `next` were read as the starts of row k and of the next
 module _ (words : List ℕ) (numbers : List Float) (f : Filled) (k at next : ℕ) (lt : k < f .rows) (ea : at ≡ getD words (4096 + k) 0) (en : next ≡ getD words (4096 + k + 1) 0) where
@@ -179,8 +179,8 @@ module _ (words columns : List ℕ) (numbers : List Float) (n at from i : ℕ)
   pub columns-differ : i < n → (getD words (at + i) 0 ≡ getD columns i 0 → ⊥) → same i ≡ false
   columns-differ h d = turn h ∙ rw (ne-eqb (getD words (at + i) 0) (getD columns i 0) d)
 
-  pub factors-differ : i < n → getD words (at + i) 0 ≡ getD columns i 0 → eq (getD numbers (2048 + at + i) nan) (getD numbers (2048 + from + i) nan) ≡ false → same i ≡ false
-  factors-differ h e d = turn h ∙ rw (eq-eqb (getD words (at + i) 0) (getD columns i 0) e, d)
+  pub values-differ : i < n → getD words (at + i) 0 ≡ getD columns i 0 → eq (getD numbers (2048 + at + i) nan) (getD numbers (2048 + from + i) nan) ≡ false → same i ≡ false
+  values-differ h e d = turn h ∙ rw (eq-eqb (getD words (at + i) 0) (getD columns i 0) e, d)
 
   pub same-next : i < n → getD words (at + i) 0 ≡ getD columns i 0 → eq (getD numbers (2048 + at + i) nan) (getD numbers (2048 + from + i) nan) ≡ true → same i ≡ same (i + 1)
   same-next h e s = turn h ∙ rw (eq-eqb (getD words (at + i) 0) (getD columns i 0) e, s)
@@ -193,13 +193,13 @@ module _ (words columns : List ℕ) (numbers : List Float) (n at from i : ℕ)
 
 -- none of the first k rows held equals the row
 abbrev pub Passed : List ℕ → List Float → Filled → List Element → ℕ → Type 0
-Passed words numbers f row k = (rows : List Row) → Held rows words numbers f → position row (elementLists rows) ≡ k + position row (drop k (elementLists rows))
+Passed words numbers f row k = (rows : List Row) → RowsHeld rows words numbers f → position row (elementLists rows) ≡ k + position row (drop k (elementLists rows))
 
 module _ (words : List ℕ) (numbers : List Float) (f : Filled) (row : List Element) (k : ℕ) (passed : Passed words numbers f row k) where
-  count : (rows : List Row) → Held rows words numbers f → length (elementLists rows) ≡ f .rows
+  count : (rows : List Row) → RowsHeld rows words numbers f → length (elementLists rows) ≡ f .rows
   count rows held = length-map rows (λ (r : Row). r .elements) ∙ sym (held .rowCount)
 
-  pub found : (same : Bool) → RowEquals words numbers f row k same → same ≡ true → k < f .rows → (rows : List Row) → Held rows words numbers f → k ≡ position row (elementLists rows)
+  pub found : (same : Bool) → RowEquals words numbers f row k same → same ≡ true → k < f .rows → (rows : List Row) → RowsHeld rows words numbers f → k ≡ position row (elementLists rows)
   unfolding position
   found same e t h rows held = sym (passed rows held ∙ rw (drop-next (elementLists rows) k [] (omega (arith, count rows held)), sym (e rows held) ∙ t) (add-zero k))
 
@@ -210,7 +210,7 @@ module _ (words : List ℕ) (numbers : List Float) (f : Filled) (row : List Elem
       let s : k + suc p ≡ k + 1 + p = omega arith in
       passed rows held ∙ rw (drop-next (elementLists rows) k [] (omega (arith, count rows held)), sym (e rows held) ∙ t) s
 
-  pub none-equal : k ≡ f .rows → (rows : List Row) → Held rows words numbers f → f .rows ≡ position row (elementLists rows)
+  pub none-equal : k ≡ f .rows → (rows : List Row) → RowsHeld rows words numbers f → f .rows ≡ position row (elementLists rows)
   unfolding position
   none-equal e rows held =
       let none : drop k (elementLists rows) ≡ [] = drop-of-length-le (elementLists rows) {i = k} (omega (arith, count rows held)) in

@@ -13,7 +13,7 @@ use Rattle.pywr.specs.Rows.{Element}
 use Rattle.pywr.specs.VariableRows.{addVariableRow, position}
 use Rattle.pywr.specs.VaryingRows.{freshRow}
 use Rattle.pywr.specs.Programme.{Row}
-use Rattle.build_append.specs.LpBuilder.{elementLists, Held, withinCeilings, AfterRows}
+use Rattle.build_append.specs.LpBuilder.{elementLists, RowsHeld, withinCeilings, AfterRows}
 use Rattle.build_join.specs.VariableRow.{AfterVariableRow}
 use Rattle.build_append.specs.declared.Filled.{Filled}
 use Rattle.build_append.specs.declared.RowsAdded.{RowsAdded}
@@ -42,7 +42,7 @@ at-is : (k j : ℕ) (f g : Filled) → At k f ≡ At j g → (k ≡ j) × (f ≡
 at-is k j f g e = (cc, cc)
 
 module _ (s : Sentinel) (rows : List (List Element)) (row : List Element) (words : List ℕ) (numbers : List Float) (f : Filled) (k : ℕ)
-    (held : Held (map (freshRow s) rows) words numbers f) (at : k ≡ position row (elementLists (map (freshRow s) rows))) where
+    (held : RowsHeld (map (freshRow s) rows) words numbers f) (at : k ≡ position row (elementLists (map (freshRow s) rows))) where
   place : k ≡ position row rows
   place = at ∙ ap (position row) (elements-fresh s rows)
 
@@ -54,7 +54,7 @@ module _ (s : Sentinel) (rows : List (List Element)) (row : List Element) (words
   row-joined h =
       record {
         place = λ j g e. sym (at-is k j f g e .0) ∙ place;
-        held = λ j g e. rw (rows-joined row rows (omega (arith, place, count))) (subst (Held (map (freshRow s) rows) words numbers) (at-is k j f g e .1) held);
+        held = λ j g e. rw (rows-joined row rows (omega (arith, place, count))) (subst (RowsHeld (map (freshRow s) rows) words numbers) (at-is k j f g e .1) held);
         full = λ e. absurd (let z : _≡_ {A = ℕ} 0 1 = cc in omega arith);
         kept = refl;
       }
@@ -72,7 +72,7 @@ module _ (s : Sentinel) (rows : List (List Element)) (row : List Element) (words
     row-new g e =
         record {
           place = λ j h q. sym (at-is k j g h q .0) ∙ place;
-          held = λ j h q. subst (λ (l : List Row). Held l words′ numbers′ h) all (added .held h (e ∙ ap Done (at-is k j g h q .1)));
+          held = λ j h q. subst (λ (l : List Row). RowsHeld l words′ numbers′ h) all (added .held h (e ∙ ap Done (at-is k j g h q .1)));
           full = λ q. absurd (let z : _≡_ {A = ℕ} 0 1 = cc in omega arith);
           kept = added .kept;
         }

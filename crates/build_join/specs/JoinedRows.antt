@@ -13,18 +13,12 @@ use Rattle.build_row.specs.RowBuilder.{gathered, Rising}
 use Rattle.build_append.specs.declared.Filled.{Filled}
 use Rattle.build_append.specs.declared.RowsAdded.{RowsAdded}
 use Rattle.build_append.specs.declared.RowsAdded.the-variants.{Done, Full}
-use Rattle.build_append.specs.LpBuilder.{Held, withinCeilings}
-
--- the row that is gathered: its elements, their order and their count
-pub record Gathered (row : List Element) (columns : List ℕ) (elements : List Float) (n : ℕ) : Type 0 where
-  pub is : gathered columns elements n ≡ row
-  pub rising : Rising columns n
-  pub few : n ≤ 640
+use Rattle.build_append.specs.LpBuilder.{RowsHeld, withinCeilings}
 
 -- the work runs hold some varying rows
 pub record HoldingVarying (s : Sentinel) (words : List ℕ) (numbers : List Float) (f : Filled) : Type 0 where
   pub rows : List (List Element)
-  pub held : Held (map (freshRow s) rows) words numbers f
+  pub held : RowsHeld (map (freshRow s) rows) words numbers f
 
 -- the distinct rows and the places of those asked for, over the distinct rows so far
 abbrev pub joined : List (List Element) → List (List Element) → Joined
@@ -33,7 +27,7 @@ joined asked rows = addVariableRows asked (record { rows = rows; places = [] })
 -- the rows asked for are held, and the words from `at` on hold the table of their places, or the rows are over the ceilings; the words from 5,121 up to `at` stay
 pub record AfterVariableRows (s : Sentinel) (rows asked : List (List Element)) (at size : ℕ) (table : List ℕ → List ℕ)
     (words : List ℕ) (r : RowsAdded) (words′ : List ℕ) (numbers′ : List Float) : Type 0 where
-  pub held : (f : Filled) → r ≡ Done f → Held (map (freshRow s) (joined asked rows .rows)) words′ numbers′ f
+  pub held : (f : Filled) → r ≡ Done f → RowsHeld (map (freshRow s) (joined asked rows .rows)) words′ numbers′ f
   pub placed : (f : Filled) → r ≡ Done f → part at size words′ ≡ table (joined asked rows .places)
   pub full : r ≡ Full → withinCeilings (map (freshRow s) (joined asked rows .rows)) ≡ false
   pub kept : part 5121 (at - 5121) words′ ≡ part 5121 (at - 5121) words

@@ -8,7 +8,7 @@ ghost use lib.ListN.{length, getD, drop};
 ghost use Rattle.pywr.specs.VariableRows.{sameRow, position};
 ghost use Rattle.pywr.specs.Programme.{Row};
 ghost use Rattle.build_row.specs.RowBuilder.{gathered, Rising};
-ghost use Rattle.build_append.specs.LpBuilder.{elementLists, Held, Holding};
+ghost use Rattle.build_append.specs.LpBuilder.{elementLists, RowsHeld, Holding};
 ghost use Rattle.pywr.specs.Rows.{Element};
 ghost use Rattle.pywr.specs.VaryingRows.{freshRow};
 ghost use Rattle.build_join.specs.VariableRow.{AfterVariableRow};
@@ -57,7 +57,7 @@ fn same_elements(
 // Whether row k equals the gathered row.
 fn same_row(words: &[u16], numbers: &[f64], columns: &[u32], n: usize, f: Filled, k: usize) -> bool
     requires { ⌜ (24844 ≤ length (now words)) × (6784 ≤ length (now numbers)) × (n ≤ 640) × (n ≤ length (now columns)) × (k < f .rows) × Holding (now words) (now numbers) f ⌝ }
-    ensures { λ r. ⌜ ((rows : List Row) → Held rows (now (words .entry)) (now (numbers .entry)) f
+    ensures { λ r. ⌜ ((rows : List Row) → RowsHeld rows (now (words .entry)) (now (numbers .entry)) f
         → r ≡ sameRow (getD (elementLists rows) k []) (gathered (now (columns .entry)) (drop (2048 + f .elements) (now (numbers .entry))) n)) ⌝ }
 {
     let from = f.elements;
@@ -72,7 +72,7 @@ fn same_row(words: &[u16], numbers: &[f64], columns: &[u32], n: usize, f: Filled
 // Where the first row that equals the gathered row stands; the count of rows if there is none.
 pub fn position(words: &[u16], numbers: &[f64], columns: &[u32; 640], n: usize, f: Filled) -> usize
     requires { ⌜ (24844 ≤ length (now words)) × (6784 ≤ length (now numbers)) × (n ≤ 640) × Holding (now words) (now numbers) f ⌝ }
-    ensures { λ r. ⌜ ((rows : List Row) → Held rows (now (words .entry)) (now (numbers .entry)) f
+    ensures { λ r. ⌜ ((rows : List Row) → RowsHeld rows (now (words .entry)) (now (numbers .entry)) f
         → r ≡ position (gathered (now (columns .entry)) (drop (2048 + f .elements) (now (numbers .entry))) n) (elementLists rows)) ⌝ }
 {
     let run: &[u32] = columns;
@@ -103,7 +103,7 @@ pub fn add_variable_row(
     sentinel: pywr::Sentinel,
 ) -> VariableRow
     requires { ⌜ (24844 ≤ length (now words)) × (6784 ≤ length (now numbers)) × (n ≤ 640) × Rising (now columns) n × Holding (now words) (now numbers) f ⌝ }
-    ensures { λ r. ⌜ ((rows : List (List Element)) → Held (map (freshRow sentinel) rows) (now (words .entry)) (now (numbers .entry)) f
+    ensures { λ r. ⌜ ((rows : List (List Element)) → RowsHeld (map (freshRow sentinel) rows) (now (words .entry)) (now (numbers .entry)) f
         → AfterVariableRow sentinel rows (gathered (now (columns .entry)) (drop (2048 + f .elements) (now (numbers .entry))) n)
         (now (words .entry)) r (now (words .exit)) (now (numbers .exit))) ⌝ }
 {

@@ -23,7 +23,7 @@ use Rattle.network_node.specs.Node.{nodeAt}
 use Rattle.network_record.specs.declared.Counts.{Counts}
 use Rattle.build_row.specs.RowBuilder.{gathered}
 use Rattle.build_row.specs.EdgeList.{columnsOf}
-use Rattle.build_node_row.specs.Gathered.{Gathered}
+use Rattle.build_row.specs.Gathered.{Gathered}
 use Rattle.build_node_row.specs.Tables.{networkOf, EdgeTables}
 use Rattle.build_node_row.proofs.NodeColumns.{in-linked, out-linked, in-columns, out-columns}
 use Rattle.build_append.proofs.RowLaws.{gathered-length}
@@ -32,7 +32,7 @@ use Rattle.build_append.specs.declared.RowsAdded.{RowsAdded}
 use Rattle.build_append.specs.declared.RowsAdded.the-variants.{Done}
 use Rattle.build_append.proofs.AddingRows.{Adds, adds-none}
 use Rattle.build_append.proofs.LentRow.{lent-none, lent-row}
-use Rattle.build_append.proofs.NodeRows.{ByNode}
+use Rattle.build_append.proofs.NodeFixedRows.{ByNode}
 
 module _ (f : ColumnMap) (n : ℕ) (x : Node) where
   not-link : x .kind ≢ 2 → massRowsFrom f n (x ∷ []) ≡ []

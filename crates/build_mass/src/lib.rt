@@ -11,8 +11,8 @@ ghost use Rattle.pywr.specs.FixedRows.{massRowsFrom};
 ghost use Rattle.pywr.specs.Programme.{Row};
 ghost use Rattle.network_node.specs.Node.{nodeAt};
 ghost use Rattle.build_row.specs.EdgeList.{columnsOf, ListedEdges};
-ghost use Rattle.build_append.specs.LpBuilder.{Held, Holding, AfterRows};
-ghost use Rattle.build_node_row.specs.Gathered.{Gathered};
+ghost use Rattle.build_append.specs.LpBuilder.{RowsHeld, Holding, AfterRows};
+ghost use Rattle.build_row.specs.Gathered.{Gathered};
 ghost use Rattle.build_node_row.specs.Tables.{networkOf, EdgeTables};
 use build_append::Filled;
 use build_append::RowsAdded;
@@ -56,7 +56,7 @@ fn add_mass_row(
 ) -> RowsAdded
     requires { ⌜ EdgeTables (now s) c (now «first_in») (now «next_in») (now «first_out») (now «next_out») (now «edge_to_col») × (node .0 < c .nodes)
         × (24844 ≤ length (now words)) × (6784 ≤ length (now numbers)) × Holding (now words) (now numbers) f ⌝ }
-    ensures { λ r. ⌜ ((rows : List Row) → Held rows (now (words .entry)) (now (numbers .entry)) f
+    ensures { λ r. ⌜ ((rows : List Row) → RowsHeld rows (now (words .entry)) (now (numbers .entry)) f
         → AfterRows (rows ++ massRowsFrom (columnMap (networkOf (now (s .entry)) c)) (node .0) (nodeAt (now (s .entry)) (20 * node .0) ∷ []))
         (now (words .entry)) r (now (words .exit)) (now (numbers .exit))) ⌝ }
 {
@@ -108,7 +108,7 @@ pub fn create_mass_balance_constraints(
 ) -> RowsAdded
     requires { ⌜ EdgeTables (now s) c (now «first_in») (now «next_in») (now «first_out») (now «next_out») (now «edge_to_col»)
         × (24844 ≤ length (now words)) × (6784 ≤ length (now numbers)) × Holding (now words) (now numbers) f ⌝ }
-    ensures { λ r. ⌜ ((rows : List Row) → Held rows (now (words .entry)) (now (numbers .entry)) f
+    ensures { λ r. ⌜ ((rows : List Row) → RowsHeld rows (now (words .entry)) (now (numbers .entry)) f
         → AfterRows (rows ++ massRowsFrom (columnMap (networkOf (now (s .entry)) c)) 0 (networkOf (now (s .entry)) c .nodes))
         (now (words .entry)) r (now (words .exit)) (now (numbers .exit))) ⌝ }
 {

@@ -10,7 +10,7 @@ use Rattle.network_record.specs.declared.Counts.{Counts}
 use Rattle.build_row.specs.RowBuilder.{gathered}
 use Rattle.build_node_row.specs.Tables.{networkOf}
 use Rattle.build_node_row.specs.NodeAdded.{NodeAdded}
-use Rattle.build_node_row.specs.Gathered.{Gathered}
+use Rattle.build_row.specs.Gathered.{Gathered}
 
 pub node-gathered : (file : List ℕ) (c : Counts) (node : ℕ) (x : Float) (cols : List ℕ) (elements : List Float) (cols′ : List ℕ) (elements′ : List Float) (r : ℕ) → x ≡ one64
     → NodeAdded file c node x cols elements 0 cols′ elements′ r → Gathered (nodeRow (columnMap (networkOf file c)) node) cols′ elements′ r

@@ -8,7 +8,7 @@ ghost use Rattle.pywr.specs.Programme.{RowType, continuous};
 ghost use Rattle.pywr.specs.VaryingRows.{RowRequest};
 ghost use Rattle.pywr.specs.Written.{rowTypeWord};
 ghost use Rattle.build_node_row.specs.Tables.{networkOf, EdgeTables};
-ghost use Rattle.build_node_table.specs.NodeRows.{NodeRowsHeld, NodeRowsHolding, AfterRequests};
+ghost use Rattle.build_node_table.specs.NodeTable.{NodeRowsHeld, NodeRowsHolding, AfterRequests};
 use build_node_table::NodeRows;
 use build_node_table::NodeRowsAdded;
 use network_record::Counts;

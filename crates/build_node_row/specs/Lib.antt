@@ -1,4 +1,3 @@
 pub mod NodeAdded
-pub mod Gathered
 pub mod EdgeColumns
 pub mod Tables

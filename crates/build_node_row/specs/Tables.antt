@@ -14,7 +14,7 @@ use Rattle.network_laws.specs.Sections.{Sections}
 use Rattle.network_record.specs.declared.Counts.{Counts}
 use Rattle.build_incident_edges.specs.IncidentEdges.{EdgesListed}
 use Rattle.build_col_edge_map.specs.Mapped.{Mapped}
-use Rattle.build_exclusive_sets.specs.Sets.{setsAt, SetsFit, listingsOf}
+use Rattle.build_exclusive_sets.specs.Sets.{setsAt, SetsFit, membershipsOf}
 
 -- the network of a file with these counts
 abbrev pub networkOf : List ℕ → Counts → Network
@@ -28,14 +28,14 @@ pub record EdgeTables (file : List ℕ) (c : Counts) (firstIn nextIn firstOut ne
   pub outOf : EdgesListed source file (c .nodes) (c .edges) firstOut nextOut
   pub mapped : Mapped (columns (networkOf file c)) edgeToCol (columns (networkOf file c) .count)
 
--- the distinct exclusive sets by the offsets of their records, and of each node its listings: listing 16 k + i is member i of the set numbered k
-pub record SetTables (file : List ℕ) (c : Counts) (setAt : List ℕ) (sets : ℕ) (firstListing nextListing : List ℕ) : Type 0 where
+-- the distinct exclusive sets by the offsets of their records, and of each node its memberships: membership 16 k + i is member i of the set numbered k
+pub record SetTables (file : List ℕ) (c : Counts) (setAt : List ℕ) (sets : ℕ) (firstMembership nextMembership : List ℕ) : Type 0 where
   pub held : setsAt file setAt sets ≡ exclusiveSets (networkOf file c)
   pub fit : SetsFit file setAt sets
-  pub listed : (n : ℕ) → n < 256 → Linked 2048 nextListing (getD firstListing n 0) (listingsOf n 0 (setsAt file setAt sets))
+  pub listed : (n : ℕ) → n < 256 → Linked 2048 nextMembership (getD firstMembership n 0) (membershipsOf n 0 (setsAt file setAt sets))
 
--- the listings alone
-pub record ListingTables (file : List ℕ) (c : Counts) (firstListing nextListing : List ℕ) : Type 0 where
+-- the memberships alone
+pub record MembershipTables (file : List ℕ) (c : Counts) (firstMembership nextMembership : List ℕ) : Type 0 where
   pub setAt : List ℕ
   pub sets : ℕ
-  pub tables : SetTables file c setAt sets firstListing nextListing
+  pub tables : SetTables file c setAt sets firstMembership nextMembership

@@ -9,7 +9,7 @@ ghost use Rattle.build_node_row.specs.Tables.{EdgeTables, networkOf};
 ghost use Rattle.build_node_row.specs.NodeAdded.{NodeAdded};
 ghost use mathlib.Core.List.{[]};
 ghost use Rattle.pywr.specs.Rows.{columnMap, addElement, addNode};
-ghost use Rattle.build_node_row.specs.Gathered.{Gathered};
+ghost use Rattle.build_row.specs.Gathered.{Gathered};
 use network_record::Counts;
 use pywr::ColumnIndex;
 use pywr::NodeIndex;

@@ -14,8 +14,8 @@ use Rattle.pywr.specs.VaryingRows.{RowRequest, freshRow}
 use Rattle.pywr.specs.Programme.{NodeRow}
 use Rattle.pywr.specs.Build.{requestedRow, placedNodeRows}
 use Rattle.build_append.specs.LpBuilder.{withinCeilings}
-use Rattle.build_append.proofs.HeldLaws.{over-more}
-use Rattle.build_node_table.specs.NodeRows.{joined}
+use Rattle.build_append.proofs.RowsHeldLaws.{over-more}
+use Rattle.build_node_table.specs.NodeTable.{joined}
 
 map-append : {A B : Type 0} (f : A → B) (xs ys : List A) → map f (xs ++ ys) ≡ map f xs ++ map f ys
 map-append f [] ys = refl

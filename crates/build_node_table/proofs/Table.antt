@@ -22,11 +22,11 @@ use Rattle.build_row.specs.RowBuilder.{gathered}
 use Rattle.build_append.specs.declared.Filled.{Filled}
 use Rattle.build_join.specs.declared.VariableRow.{VariableRow}
 use Rattle.build_join.specs.declared.VariableRow.the-variants.{At}
-use Rattle.build_append.specs.LpBuilder.{Held, withinCeilings}
+use Rattle.build_append.specs.LpBuilder.{RowsHeld, withinCeilings}
 use Rattle.build_join.specs.VariableRow.{AfterVariableRow}
 use Rattle.build_append.proofs.RowLaws.{part-more, flat-snoc}
-use Rattle.build_append.proofs.HeldLaws.{held-few, held-agrees, held-lent, lent-written}
-use Rattle.build_node_table.specs.NodeRows.{joined, NodeRowsHeld, AfterRequests}
+use Rattle.build_append.proofs.RowsHeldLaws.{held-few, held-agrees, held-lent, lent-written}
+use Rattle.build_node_table.specs.NodeTable.{joined, NodeRowsHeld, AfterRequests}
 use Rattle.build_node_table.specs.declared.NodeRows.{NodeRows}
 use Rattle.build_node_table.specs.declared.NodeRowsAdded.{NodeRowsAdded}
 use Rattle.build_node_table.specs.declared.NodeRowsAdded.the-variants.{Done, Full}
@@ -44,7 +44,7 @@ four-words l at a b c d =
 table-kept : (words words′ : List ℕ) (n : ℕ) → drop 5121 words′ ≡ drop 5121 words → part 7180 n words′ ≡ part 7180 n words
 table-kept words words′ n e = ap (take n) (sym (drop-drop 2059 5121 words′) ∙ ap (drop 2059) e ∙ drop-drop 2059 5121 words)
 
-held-sets : (rows : List Row) (words : List ℕ) (numbers : List Float) (f : Filled) (b : ℕ) (vs : List ℕ) → 5121 ≤ b → Held rows words numbers f → Held rows (sets words b vs) numbers f
+held-sets : (rows : List Row) (words : List ℕ) (numbers : List Float) (f : Filled) (b : ℕ) (vs : List ℕ) → 5121 ≤ b → RowsHeld rows words numbers f → RowsHeld rows (sets words b vs) numbers f
 held-sets rows words numbers f b vs hb h = held-agrees rows words (sets words b vs) numbers numbers f h (part-before words vs b 0 5121 (omega arith)) refl
 
 -- ---- the answer's two cases
@@ -65,7 +65,7 @@ requests-full s asks words numbers over = record { done = λ r′ e. absurd (let
 
 -- a row's number fits a word
 pub place-fits : (s : Sentinel) (rows : List (List Element)) (row : List Element) (words : List ℕ) (numbers : List Float) (f : Filled) (v : VariableRow) (words₁ : List ℕ) (numbers₁ : List Float)
-    → Held (map (freshRow s) rows) words numbers f → AfterVariableRow s rows row words v words₁ numbers₁ → (k : ℕ) (g : Filled) → v ≡ At k g → k < 65536
+    → RowsHeld (map (freshRow s) rows) words numbers f → AfterVariableRow s rows row words v words₁ numbers₁ → (k : ℕ) (g : Filled) → v ≡ At k g → k < 65536
 place-fits s rows row words numbers f v words₁ numbers₁ h after k g e = omega (arith, after .place k g e, position-most row rows, h .fewRows, length-map rows (freshRow s))
 
 module _ (s : Sentinel) (asks : List RowRequest) (a : RowRequest) (words : List ℕ) (numbers : List Float) (r : NodeRows) (v : VariableRow) (words₁ : List ℕ) (numbers₁ : List Float)

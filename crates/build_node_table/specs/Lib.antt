@@ -1,1 +1,1 @@
-pub mod NodeRows
+pub mod NodeTable

@@ -8,7 +8,7 @@ ghost use Rattle.pywr.specs.Programme.{RowType};
 ghost use Rattle.pywr.specs.VaryingRows.{RowRequest};
 ghost use Rattle.pywr.specs.Written.{rowTypeWord};
 ghost use Rattle.build_row.specs.RowBuilder.{gathered, Rising};
-ghost use Rattle.build_node_table.specs.NodeRows.{NodeRowsHeld, NodeRowsHolding, AfterRequests};
+ghost use Rattle.build_node_table.specs.NodeTable.{NodeRowsHeld, NodeRowsHolding, AfterRequests};
 use build_append::Filled;
 use build_join::VariableRow;
 use pywr::NodeIndex;

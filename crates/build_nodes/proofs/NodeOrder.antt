@@ -12,7 +12,7 @@ use lib.Ieee.{Float}
 use Rattle.laws.proofs.Runs.{take-more}
 use Rattle.pywr.specs.declared.Sentinel.{Sentinel}
 use Rattle.pywr.specs.Network.{Node, noNode}
-use Rattle.pywr.specs.ExclusiveSets.{exclusiveSets, setsListing}
+use Rattle.pywr.specs.ExclusiveSets.{exclusiveSets, setsWithNode}
 use Rattle.pywr.specs.Rows.{ColumnMap, columnMap, nodeRow}
 use Rattle.pywr.specs.VariableRows.{addVariableRows}
 use Rattle.pywr.specs.Programme.{continuous}
@@ -25,11 +25,11 @@ use Rattle.network_node.specs.Node.{nodeAt}
 use Rattle.network_laws.proofs.Index.{node-index, node-count}
 use Rattle.network_record.specs.declared.Counts.{Counts}
 use Rattle.build_exclusive_sets.specs.Sets.{setsAt}
-use Rattle.build_exclusive_sets.proofs.ListingLaws.{no-sets}
+use Rattle.build_exclusive_sets.proofs.MembershipLaws.{no-sets}
 use Rattle.build_append.specs.declared.Filled.{Filled}
-use Rattle.build_append.specs.LpBuilder.{Held}
-use Rattle.build_node_row.specs.Tables.{networkOf, EdgeTables, ListingTables}
-use Rattle.build_node_table.specs.NodeRows.{NodeRowsHeld, AfterRequests, requestsBefore, listedRequests}
+use Rattle.build_append.specs.LpBuilder.{RowsHeld}
+use Rattle.build_node_row.specs.Tables.{networkOf, EdgeTables, MembershipTables}
+use Rattle.build_node_table.specs.NodeTable.{NodeRowsHeld, AfterRequests, requestsBefore, listedRequests}
 use Rattle.build_node_table.specs.declared.NodeRows.{NodeRows}
 use Rattle.build_node_table.specs.declared.NodeRowsAdded.{NodeRowsAdded}
 use Rattle.build_node_table.specs.declared.NodeRowsAdded.the-variants.{Done, Full}
@@ -92,7 +92,7 @@ module _ (file : List ℕ) (c : Counts) (firstIn nextIn firstOut nextOut edgeToC
   node-under n h = omega (arith, t .sections .few-nodes)
 
   module _ (s : Sentinel) (words : List ℕ) (numbers : List Float) where
-    pub order-first : (g : Filled) → Held [] words numbers g → NodeRowsHeld s (requestsBefore f 0) words numbers (record { filled = g; count = 0 })
+    pub order-first : (g : Filled) → RowsHeld [] words numbers g → NodeRowsHeld s (requestsBefore f 0) words numbers (record { filled = g; count = 0 })
     unfolding requestsFrom addVariableRows placedNodeRows flatMap
     order-first g h = record { held = h; counted = refl; table = refl }
 
@@ -112,7 +112,7 @@ module _ (file : List ℕ) (c : Counts) (firstIn nextIn firstOut nextOut edgeToC
       let same : requestsBefore f (n + 1) ≡ requestsBefore f n = more n h ∙ rw (sym eb ∙ is) (append-nil (requestsBefore f n)) in
       requests-done s (requestsBefore f (n + 1)) words numbers r (rw same held)
 
-  module _ (firstListing nextListing : List ℕ) (l : ListingTables file c firstListing nextListing) where
+  module _ (firstMembership nextMembership : List ℕ) (l : MembershipTables file c firstMembership nextMembership) where
     sets-few : length (exclusiveSets (networkOf file c)) ≤ 128
     sets-few =
         let long : length (setsAt file (l .setAt) (l .sets)) ≡ length (take (l .sets) (l .setAt)) = simp length-map in
@@ -126,15 +126,15 @@ module _ (file : List ℕ) (c : Counts) (firstIn nextIn firstOut nextOut edgeToC
     -- ---- a varying node
 
     module _ (n k : ℕ) (e : k ≡ n) (h : n < c .nodes) (b : Bool) (eb : b ≡ nodeAt file (20 * n) .constant) (no : b ≡ false) where
-      varying : requestsBefore f (n + 1) ≡ requestsBefore f n ++ requestsBySets f n (setsListing n 0 (f .sets))
+      varying : requestsBefore f (n + 1) ≡ requestsBefore f n ++ requestsBySets f n (setsWithNode n 0 (f .sets))
       varying = more n h ∙ rw (sym eb ∙ no)
 
       -- no set lists the node
-      module _ (z : getD firstListing k 0 ≡ 0) where
-        none : setsListing n 0 (f .sets) ≡ []
+      module _ (z : getD firstMembership k 0 ≡ 0) where
+        none : setsWithNode n 0 (f .sets) ≡ []
         unfolding columnMap
         none =
-            no-sets file (l .setAt) (l .sets) (l .tables .fit) (networkOf file c) (l .tables .held) n nextListing (getD firstListing k 0) (rw e (l .tables .listed n (node-under n h))) .1 z
+            no-sets file (l .setAt) (l .sets) (l .tables .fit) (networkOf file c) (l .tables .held) n nextMembership (getD firstMembership k 0) (rw e (l .tables .listed n (node-under n h))) .1 z
 
         abbrev own : List RowRequest
         own = record { node = n; rowType = continuous; set = 0; row = nodeRow f n } ∷ []
@@ -152,14 +152,14 @@ module _ (file : List ℕ) (c : Counts) (firstIn nextIn firstOut nextOut edgeToC
         own-after s v words numbers a = rw own-is a
 
       -- sets list the node
-      module _ (ne : getD firstListing k 0 ≢ 0) where
+      module _ (ne : getD firstMembership k 0 ≢ 0) where
         listed-is : requestsBefore f (n + 1) ≡ requestsBefore f n ++ listedRequests f n
         unfolding columnMap
         listed-is =
             varying
             ∙ ap (λ (x : List RowRequest). requestsBefore f n ++ x)
-            (by-sets f n (setsListing n 0 (f .sets))
-            (λ q. ne (no-sets file (l .setAt) (l .sets) (l .tables .fit) (networkOf file c) (l .tables .held) n nextListing (getD firstListing k 0) (rw e (l .tables .listed n (node-under n h))) .0 q)))
+            (by-sets f n (setsWithNode n 0 (f .sets))
+            (λ q. ne (no-sets file (l .setAt) (l .sets) (l .tables .fit) (networkOf file c) (l .tables .held) n nextMembership (getD firstMembership k 0) (rw e (l .tables .listed n (node-under n h))) .0 q)))
 
         pub listed-room : length (requestsBefore f n ++ listedRequests f n) ≤ 4352
         listed-room = rw listed-is at (before-few (n + 1))

@@ -5,10 +5,10 @@ ghost use Prim.Native.Nat.{_+_, _<_, _≤_};
 ghost use lib.ListN.{length};
 ghost use Rattle.pywr.specs.Rows.{columnMap};
 ghost use Rattle.pywr.specs.VaryingRows.{requestsFrom};
-ghost use Rattle.build_append.specs.LpBuilder.{Held};
-ghost use Rattle.build_node_row.specs.Tables.{networkOf, EdgeTables, ListingTables};
+ghost use Rattle.build_append.specs.LpBuilder.{RowsHeld};
+ghost use Rattle.build_node_row.specs.Tables.{networkOf, EdgeTables, MembershipTables};
 ghost use Rattle.build_node_row.specs.EdgeColumns.{edgeColumns};
-ghost use Rattle.build_node_table.specs.NodeRows.{NodeRowsHeld, AfterRequests, requestsBefore};
+ghost use Rattle.build_node_table.specs.NodeTable.{NodeRowsHeld, AfterRequests, requestsBefore};
 use build_append::Filled;
 use build_node_table::NodeRows;
 use build_node_table::NodeRowsAdded;
@@ -26,8 +26,8 @@ fn request_rows(
     next_out: &[u16; 512],
     edge_to_col: &[u16; 512],
     edge_columns: usize,
-    first_listing: &[u16; 256],
-    next_listing: &[u16; 2048],
+    first_membership: &[u16; 256],
+    next_membership: &[u16; 2048],
     node: NodeIndex,
     sentinel: Sentinel,
     words: &mut [u16],
@@ -36,7 +36,7 @@ fn request_rows(
     rows: NodeRows,
 ) -> NodeRowsAdded
     requires { ⌜ EdgeTables (now s) c (now «first_in») (now «next_in») (now «first_out») (now «next_out») (now «edge_to_col») × (node .0 < c .nodes)
-        × («edge_columns» ≡ edgeColumns (now s) c) × ListingTables (now s) c (now «first_listing») (now «next_listing»)
+        × («edge_columns» ≡ edgeColumns (now s) c) × MembershipTables (now s) c (now «first_membership») (now «next_membership»)
         × (24844 ≤ length (now words)) × (6784 ≤ length (now numbers))
         × NodeRowsHeld sentinel (requestsBefore (columnMap (networkOf (now s) c)) (node .0)) (now words) (now numbers) rows ⌝ }
     ensures { λ r. ⌜ AfterRequests sentinel (requestsBefore (columnMap (networkOf (now (s .entry)) c)) (node .0 + 1)) r (now (words .exit)) (now (numbers .exit)) ⌝ }
@@ -45,7 +45,7 @@ fn request_rows(
         return NodeRowsAdded::Done(rows);
     }
     let k = fields::wide16(node.0);
-    if first_listing[k] == 0 {
+    if first_membership[k] == 0 {
         return build_node_request::request_node_row(
             s,
             c,
@@ -71,8 +71,8 @@ fn request_rows(
         next_out,
         edge_to_col,
         edge_columns,
-        first_listing,
-        next_listing,
+        first_membership,
+        next_membership,
         node,
         sentinel,
         words,
@@ -92,8 +92,8 @@ pub fn create_node_constraints(
     next_out: &[u16; 512],
     edge_to_col: &[u16; 512],
     edge_columns: usize,
-    first_listing: &[u16; 256],
-    next_listing: &[u16; 2048],
+    first_membership: &[u16; 256],
+    next_membership: &[u16; 2048],
     sentinel: Sentinel,
     words: &mut [u16],
     numbers: &mut [f64],
@@ -101,8 +101,8 @@ pub fn create_node_constraints(
     f: Filled,
 ) -> NodeRowsAdded
     requires { ⌜ EdgeTables (now s) c (now «first_in») (now «next_in») (now «first_out») (now «next_out») (now «edge_to_col»)
-        × («edge_columns» ≡ edgeColumns (now s) c) × ListingTables (now s) c (now «first_listing») (now «next_listing»)
-        × (24844 ≤ length (now words)) × (6784 ≤ length (now numbers)) × Held [] (now words) (now numbers) f ⌝ }
+        × («edge_columns» ≡ edgeColumns (now s) c) × MembershipTables (now s) c (now «first_membership») (now «next_membership»)
+        × (24844 ≤ length (now words)) × (6784 ≤ length (now numbers)) × RowsHeld [] (now words) (now numbers) f ⌝ }
     ensures { λ r. ⌜ AfterRequests sentinel (requestsFrom (columnMap (networkOf (now (s .entry)) c)) 0 (networkOf (now (s .entry)) c .nodes)) r (now (words .exit)) (now (numbers .exit)) ⌝ }
 {
     let nodes = c.nodes;
@@ -121,8 +121,8 @@ pub fn create_node_constraints(
             next_out,
             edge_to_col,
             edge_columns,
-            first_listing,
-            next_listing,
+            first_membership,
+            next_membership,
             NodeIndex(fields::narrow16(i)),
             sentinel,
             words,

@@ -37,14 +37,14 @@ fn assemble_rows(
     match k {
         Sets::TooMany => Assembled::Refused(11, 0),
         Sets::Count(sets) => {
-            let mut first_listing = [0u16; 256];
-            let mut next_listing = [0u16; 2048];
+            let mut first_membership = [0u16; 256];
+            let mut next_membership = [0u16; 2048];
             build_exclusive_sets::list_members(
                 s,
                 &set_at,
                 sets,
-                &mut first_listing,
-                &mut next_listing,
+                &mut first_membership,
+                &mut next_membership,
             );
             build_rows::add_rows(
                 s,
@@ -57,8 +57,8 @@ fn assemble_rows(
                 edge_columns,
                 &set_at,
                 sets,
-                &first_listing,
-                &next_listing,
+                &first_membership,
+                &next_membership,
                 sentinel,
                 words,
                 numbers,

@@ -1,2 +1,3 @@
 pub mod RowBuilder
 pub mod EdgeList
+pub mod Gathered

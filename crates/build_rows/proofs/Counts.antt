@@ -13,7 +13,7 @@ use Rattle.pywr.specs.Rows.{Element, columnMap, aggregateRow, virtualStorageRow
 use Rattle.pywr.specs.VariableRows.{Joined, addVariableRow, addVariableRows}
 use Rattle.pywr.specs.Programme.{Row, Built}
 use Rattle.pywr.specs.VaryingRows.{RowRequest, requestsFrom}
-use Rattle.pywr.specs.Build.{edgeColumn, setColumn, allColumns, nodeShape, placedNodeRows, placedStorages, requestedRow, assemble, programmeOf, elementCount}
+use Rattle.pywr.specs.Build.{edgeColumn, setColumn, allColumns, nodeShape, placedNodeRows, placedVirtualStorages, requestedRow, assemble, programmeOf, elementCount}
 use Rattle.pywr.specs.Written.{sentinelWord, integerColumns, countWords, rowsOf}
 use Rattle.build_write.specs.declared.Sizes.{Sizes}
 use Rattle.build_write.specs.Lp.{columnsOf}
@@ -34,11 +34,11 @@ node-rows-length [] ps l = refl
 node-rows-length (r ∷ rs) [] l = absurd (omega (arith, l))
 node-rows-length (r ∷ rs) (p ∷ ps) l = ap suc (node-rows-length rs ps (omega (arith, l)))
 
-storages-length : (vs : List VirtualStorage) (ps : List ℕ) → length ps ≡ length vs → length (placedStorages vs ps) ≡ length vs
-unfolding placedStorages
-storages-length [] ps l = refl
-storages-length (v ∷ vs) [] l = absurd (omega (arith, l))
-storages-length (v ∷ vs) (p ∷ ps) l = ap suc (storages-length vs ps (omega (arith, l)))
+virtual-storages-length : (vs : List VirtualStorage) (ps : List ℕ) → length ps ≡ length vs → length (placedVirtualStorages vs ps) ≡ length vs
+unfolding placedVirtualStorages
+virtual-storages-length [] ps l = refl
+virtual-storages-length (v ∷ vs) [] l = absurd (omega (arith, l))
+virtual-storages-length (v ∷ vs) (p ∷ ps) l = ap suc (virtual-storages-length vs ps (omega (arith, l)))
 
 integers : (s : Sentinel) (k n : ℕ) → integerColumns (replicate k (edgeColumn s) ++ replicate n setColumn) ≡ n
 unfolding integerColumns edgeColumn setColumn
@@ -62,7 +62,7 @@ pub record SizesAre (s : Sentinel) (net : Network) (z : Sizes) : Type 0 where
   pub elements : z .elements ≡ elementCount (rowsOf (programmeOf s net .programme))
   pub nodeRows : z .«node_rows» ≡ length (requestsFrom (columnMap net) 0 (net .nodes))
   pub aggregates : z .aggregates ≡ length (net .aggregates)
-  pub storages : z .storages ≡ length (net .virtualStorages)
+  pub virtualStorages : z .«virtual_storages» ≡ length (net .virtualStorages)
 
 module _ (s : Sentinel) (net : Network) (z : Sizes) (h : SizesAre s net z) where
   pub columns-are : columnsOf s z ≡ programmeOf s net .programme .columns
@@ -83,13 +83,13 @@ module _ (s : Sentinel) (net : Network) (z : Sizes) (h : SizesAre s net z) where
   unfolding programmeOf assemble
   aggregates-many = mapped-length (aggregateRow (columnMap net)) (net .aggregates) (addVariableRows (map requestedRow (requestsFrom (columnMap net) 0 (net .nodes))) (record { rows = []; places = [] }) .rows) ∙ sym (h .aggregates)
 
-  storages-many : length (b .shape .virtualStorages) ≡ z .storages
+  virtual-storages-many : length (b .shape .virtualStorages) ≡ z .«virtual_storages»
   unfolding programmeOf assemble
-  storages-many =
+  virtual-storages-many =
       let before : Joined = addVariableRows (map requestedRow (requestsFrom (columnMap net) 0 (net .nodes))) (record { rows = []; places = [] }) in
       let rows : List (List Element) = addVariableRows (map (aggregateRow (columnMap net)) (net .aggregates)) (record { rows = before .rows; places = [] }) .rows in
-      storages-length (net .virtualStorages) (addVariableRows (map (virtualStorageRow (columnMap net)) (net .virtualStorages)) (record { rows = rows; places = [] }) .places) (mapped-length (virtualStorageRow (columnMap net)) (net .virtualStorages) rows)
-      ∙ sym (h .storages)
+      virtual-storages-length (net .virtualStorages) (addVariableRows (map (virtualStorageRow (columnMap net)) (net .virtualStorages)) (record { rows = rows; places = [] }) .places) (mapped-length (virtualStorageRow (columnMap net)) (net .virtualStorages) rows)
+      ∙ sym (h .virtualStorages)
 
   nodes-many : length (b .shape .nodes) ≡ z .nodes
   unfolding programmeOf assemble
@@ -116,7 +116,7 @@ module _ (s : Sentinel) (net : Network) (z : Sizes) (h : SizesAre s net z) where
       let many : length (rowsOf (b .programme)) ≡ length (b .programme .varying) + length (b .programme .fixed) = rows-many in
       let fixed : z .rows - varying ≡ length (b .programme .fixed) = omega (arith, h .rows, e, many) in
       let elements : z .elements ≡ elementCount (b .programme .varying) + elementCount (b .programme .fixed) = h .elements ∙ elements-many in
-      rw (sentinel-is, nodes-many, edges-many, edge-columns-are, integers-are, node-rows-many, aggregates-many, storages-many, fixed, e, elements)
+      rw (sentinel-is, nodes-many, edges-many, edge-columns-are, integers-are, node-rows-many, aggregates-many, virtual-storages-many, fixed, e, elements)
     where
       rows-many : length (rowsOf (b .programme)) ≡ length (b .programme .varying) + length (b .programme .fixed)
       rows-many = length-append (b .programme .varying) (b .programme .fixed)

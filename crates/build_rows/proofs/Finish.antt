@@ -28,8 +28,8 @@ use Rattle.build_write.specs.Lp.{Few}
 use Rattle.build_append.specs.declared.Filled.{Filled}
 use Rattle.build_append.specs.declared.RowsAdded.{RowsAdded}
 use Rattle.build_append.specs.declared.RowsAdded.the-variants.{Done, Full}
-use Rattle.build_append.specs.LpBuilder.{Held, withinCeilings, AfterRows}
-use Rattle.build_append.proofs.HeldLaws.{held-within, over-more}
+use Rattle.build_append.specs.LpBuilder.{RowsHeld, withinCeilings, AfterRows}
+use Rattle.build_append.proofs.RowsHeldLaws.{held-within, over-more}
 use Rattle.build_node_row.specs.Tables.{networkOf, EdgeTables, SetTables}
 use Rattle.build_node_table.specs.declared.NodeRows.{NodeRows}
 use Rattle.build_shape.specs.ShapeTables.{edgeEntries, counts}
@@ -92,7 +92,7 @@ module _ (s : Sentinel) (file : List ℕ) (c : Counts) (firstIn nextIn firstOut 
   unfolding rowsOf
   fixed-refused words numbers e = rows-refused words numbers e
 
-  module _ (setAt firstListing nextListing : List ℕ) (sets₀ : ℕ) (l : SetTables file c setAt sets₀ firstListing nextListing)
+  module _ (setAt firstMembership nextMembership : List ℕ) (sets₀ : ℕ) (l : SetTables file c setAt sets₀ firstMembership nextMembership)
       (edgeColumns : ℕ) (columns-is : edgeColumns ≡ columns net .count) (n : NodeRows) (g : Filled) where
     abbrev pub sizes : Sizes
     sizes =
@@ -105,7 +105,7 @@ module _ (s : Sentinel) (file : List ℕ) (c : Counts) (firstIn nextIn firstOut 
           elements = g .elements;
           «node_rows» = n .count;
           aggregates = c .aggregates;
-          storages = c .«virtual_storages»;
+          virtualStorages = c .«virtual_storages»;
         }
 
     sets-are : length (exclusiveSets net) ≡ sets₀
@@ -115,7 +115,7 @@ module _ (s : Sentinel) (file : List ℕ) (c : Counts) (firstIn nextIn firstOut 
 
     module _ (words₁ words₂ : List ℕ) (numbers₁ numbers₂ : List Float) (v : VaryingLaid s net n words₁ numbers₁)
         (r : RowsAdded) (a : AfterRows (b .programme .varying ++ b .programme .fixed) words₁ r words₂ numbers₂) (done : r ≡ Done g) where
-      held : Held (rowsOf (b .programme)) words₂ numbers₂ g
+      held : RowsHeld (rowsOf (b .programme)) words₂ numbers₂ g
       unfolding rowsOf
       held = a .held g done
 
@@ -130,7 +130,7 @@ module _ (s : Sentinel) (file : List ℕ) (c : Counts) (firstIn nextIn firstOut 
             elements = held .elementsCount;
             nodeRows = v .counted;
             aggregates = sym (aggregate-count file (c .nodes) (c .edges) (c .aggregates) (c .«virtual_storages»));
-            storages = sym (virtual-storage-count file (c .nodes) (c .edges) (c .aggregates) (c .«virtual_storages»));
+            virtualStorages = sym (virtual-storage-count file (c .nodes) (c .edges) (c .aggregates) (c .«virtual_storages»));
           }
 
       pub few : Few sizes
@@ -142,9 +142,9 @@ module _ (s : Sentinel) (file : List ℕ) (c : Counts) (firstIn nextIn firstOut 
             sets = l .fit .few;
             rows = omega (arith, held .rowCount, held .fewRows);
             elements = omega (arith, held .elementsCount, held .fewElements);
-            nodeRows = omega (arith, v .counted, asks-few file c firstIn nextIn firstOut nextOut table firstListing nextListing t (record { setAt = setAt; sets = sets₀; tables = l }));
+            nodeRows = omega (arith, v .counted, asks-few file c firstIn nextIn firstOut nextOut table firstMembership nextMembership t (record { setAt = setAt; sets = sets₀; tables = l }));
             aggregates = t .sections .few-aggregates;
-            storages = t .sections .few-storages;
+            virtualStorages = t .sections .few-virtual-storages;
           }
         where
           edge-count-is : length (net .edges) ≡ c .edges
@@ -165,7 +165,7 @@ module _ (s : Sentinel) (file : List ℕ) (c : Counts) (firstIn nextIn firstOut 
             rows = held;
             nodeRows = kept-part words₁ words₂ 7180 (4 * n .count) (omega arith) (a .kept) ∙ v .nodeRows;
             aggregates = ap (λ (k : ℕ). part 24588 k words₂) (are .aggregates) ∙ kept-part words₁ words₂ 24588 (length (net .aggregates)) (omega arith) (a .kept) ∙ v .aggregates;
-            storages = ap (λ (k : ℕ). part 24652 (6 * k) words₂) (are .storages) ∙ kept-part words₁ words₂ 24652 (6 * length (net .virtualStorages)) (omega arith) (a .kept) ∙ v .storages;
+            virtualStorages = ap (λ (k : ℕ). part 24652 (6 * k) words₂) (are .virtualStorages) ∙ kept-part words₁ words₂ 24652 (6 * length (net .virtualStorages)) (omega arith) (a .kept) ∙ v .virtualStorages;
           } in
           let laid = laid-out s b sizes words₂ numbers₂ _ _ _ few (columns-are s net sizes are) room (nodes-length file (c .nodes)) (edges-length file table (c .nodes) (c .edges)) (counts-long s sizes (n .filled .rows)) nodes-are edges-are cs rows-laid in
           let is : build s file ≡ value b = accepted s file net (t .parsed) (none-over net (b .programme) (omega (arith, sets-are, l .fit .few)) (held-within (rowsOf (b .programme)) words₂ numbers₂ g held)) in

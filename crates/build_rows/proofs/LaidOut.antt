@@ -10,20 +10,20 @@ use Rattle.laws.specs.Part.{part}
 use Rattle.laws.proofs.Sets.{part-same, part-before, part-after}
 use Rattle.pywr.specs.declared.Sentinel.{Sentinel}
 use Rattle.pywr.specs.Programme.{Row, Built}
-use Rattle.pywr.specs.Written.{nodeWords, edgeWords, nodeRowWords, storageWords, countWords, rowsOf}
+use Rattle.pywr.specs.Written.{nodeWords, edgeWords, nodeRowWords, virtualStorageWords, countWords, rowsOf}
 use Rattle.build_write.specs.declared.Sizes.{Sizes}
 use Rattle.build_write.specs.Lp.{Few, columnsOf}
 use Rattle.build_append.specs.declared.Filled.{Filled}
-use Rattle.build_append.specs.LpBuilder.{Held}
-use Rattle.build_append.proofs.HeldLaws.{held-agrees}
+use Rattle.build_append.specs.LpBuilder.{RowsHeld}
+use Rattle.build_append.proofs.RowsHeldLaws.{held-agrees}
 use Rattle.build_rows.specs.Assembled.{Laid}
 
 -- what the passes over the rows leave: the rows, and the tables of node rows, aggregates and virtual storages
 pub record RowsLaid (b : Built) (z : Sizes) (words : List ℕ) (numbers : List Float) : Type 0 where
-  pub rows : Held (rowsOf (b .programme)) words numbers (record { rows = z .rows; elements = z .elements })
+  pub rows : RowsHeld (rowsOf (b .programme)) words numbers (record { rows = z .rows; elements = z .elements })
   pub nodeRows : part 7180 (4 * z .«node_rows») words ≡ flatMap nodeRowWords (b .shape .nodeRows)
   pub aggregates : part 24588 (z .aggregates) words ≡ b .shape .aggregates
-  pub storages : part 24652 (6 * z .storages) words ≡ flatMap storageWords (b .shape .virtualStorages)
+  pub virtualStorages : part 24652 (6 * z .«virtual_storages») words ≡ flatMap virtualStorageWords (b .shape .virtualStorages)
 
 module _ (words ns es cs : List ℕ) (n e : ℕ) (ln : length ns ≡ 2 * n) (le : length es ≡ 3 * e) (lc : length cs ≡ 11) (fn : n ≤ 256) (fe : e ≤ 512) (room : 24844 ≤ length words) where
   -- nodes, edges and counts written, in this order
@@ -74,5 +74,5 @@ laid-out s b z words numbers ns es cs few cols room ln le lc en ee ec r =
       edges = edges-there words ns es cs (z .nodes) (z .edges) ln le lc (few .nodes) (few .edges) room ∙ ee;
       nodeRows = behind words ns es cs (z .nodes) (z .edges) ln le lc (few .nodes) (few .edges) room 7180 (4 * z .«node_rows») (omega arith) ∙ r .nodeRows;
       aggregates = behind words ns es cs (z .nodes) (z .edges) ln le lc (few .nodes) (few .edges) room 24588 (z .aggregates) (omega arith) ∙ r .aggregates;
-      storages = behind words ns es cs (z .nodes) (z .edges) ln le lc (few .nodes) (few .edges) room 24652 (6 * z .storages) (omega arith) ∙ r .storages;
+      virtualStorages = behind words ns es cs (z .nodes) (z .edges) ln le lc (few .nodes) (few .edges) room 24652 (6 * z .«virtual_storages») (omega arith) ∙ r .virtualStorages;
     }

@@ -10,25 +10,25 @@ use Rattle.pywr.specs.declared.Sentinel.{Sentinel}
 use Rattle.pywr.specs.Result.{value, refused}
 use Rattle.pywr.specs.Programme.{Built}
 use Rattle.pywr.specs.Build.{nodeShape, build}
-use Rattle.pywr.specs.Written.{nodeWords, edgeWords, nodeRowWords, storageWords, countWords, rowsOf}
+use Rattle.pywr.specs.Written.{nodeWords, edgeWords, nodeRowWords, virtualStorageWords, countWords, rowsOf}
 use Rattle.network_laws.specs.NetworkAt.{nodesAt}
 use Rattle.build_shape.specs.ShapeTables.{edgeEntries, counts}
 use Rattle.build_write.specs.declared.Sizes.{Sizes}
 use Rattle.build_write.specs.Lp.{Few, columnsOf}
-use Rattle.build_append.specs.LpBuilder.{Held}
+use Rattle.build_append.specs.LpBuilder.{RowsHeld}
 use Rattle.build_rows.specs.declared.Assembled.{Assembled}
 
 -- the programme b with its shape, as the work runs hold it
 pub record Laid (s : Sentinel) (b : Built) (z : Sizes) (words : List ℕ) (numbers : List Float) : Type 0 where
   pub few : Few z
   pub columns : columnsOf s z ≡ b .programme .columns
-  pub rows : Held (rowsOf (b .programme)) words numbers (record { rows = z .rows; elements = z .elements })
+  pub rows : RowsHeld (rowsOf (b .programme)) words numbers (record { rows = z .rows; elements = z .elements })
   pub counts : part 5121 11 words ≡ countWords b
   pub nodes : part 5132 (2 * z .nodes) words ≡ flatMap nodeWords (b .shape .nodes)
   pub edges : part 5644 (3 * z .edges) words ≡ flatMap edgeWords (b .shape .mappedEdges)
   pub nodeRows : part 7180 (4 * z .«node_rows») words ≡ flatMap nodeRowWords (b .shape .nodeRows)
   pub aggregates : part 24588 (z .aggregates) words ≡ b .shape .aggregates
-  pub storages : part 24652 (6 * z .storages) words ≡ flatMap storageWords (b .shape .virtualStorages)
+  pub virtualStorages : part 24652 (6 * z .«virtual_storages») words ≡ flatMap virtualStorageWords (b .shape .virtualStorages)
 
 -- the build's programme is laid out
 pub record Made (s : Sentinel) (file : List ℕ) (z : Sizes) (words : List ℕ) (numbers : List Float) : Type 0 where

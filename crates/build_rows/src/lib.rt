@@ -51,14 +51,14 @@ pub fn add_rows(
     edge_columns: usize,
     set_at: &[u16; 128],
     sets: usize,
-    first_listing: &[u16; 256],
-    next_listing: &[u16; 2048],
+    first_membership: &[u16; 256],
+    next_membership: &[u16; 2048],
     sentinel: Sentinel,
     words: &mut [u16],
     numbers: &mut [f64],
 ) -> Assembled
     requires { ⌜ EdgeTables (now s) c (now «first_in») (now «next_in») (now «first_out») (now «next_out») (now «edge_to_col»)
-        × SetTables (now s) c (now «set_at») sets (now «first_listing») (now «next_listing») × («edge_columns» ≡ edgeColumns (now s) c)
+        × SetTables (now s) c (now «set_at») sets (now «first_membership») (now «next_membership») × («edge_columns» ≡ edgeColumns (now s) c)
         × (24844 ≤ length (now words)) × (6784 ≤ length (now numbers)) ⌝ }
     ensures { λ r. ⌜ AfterAssemble sentinel (now (s .entry)) r (now (words .exit)) (now (numbers .exit)) ⌝ }
 {
@@ -73,8 +73,8 @@ pub fn add_rows(
         next_out,
         edge_to_col,
         edge_columns,
-        first_listing,
-        next_listing,
+        first_membership,
+        next_membership,
         sentinel,
         words,
         numbers,
@@ -100,8 +100,8 @@ pub fn add_rows(
                 edge_columns,
                 set_at,
                 sets,
-                first_listing,
-                next_listing,
+                first_membership,
+                next_membership,
                 sentinel,
                 words,
                 numbers,
@@ -120,7 +120,7 @@ pub fn add_rows(
                         elements: g.elements,
                         node_rows: count,
                         aggregates: c.aggregates,
-                        storages: c.virtual_storages,
+                        virtual_storages: c.virtual_storages,
                     };
                     write_tables(s, sentinel, edge_to_col, z, filled.rows, words);
                     Assembled::Done(z)

@@ -8,7 +8,7 @@ ghost use Rattle.pywr.specs.Rows.{columnMap, addElement, addNode};
 ghost use Rattle.pywr.specs.FixedRows.{exclusiveRows};
 ghost use Rattle.pywr.specs.Programme.{Row};
 ghost use Rattle.network_node.specs.Node.{nodeAt};
-ghost use Rattle.build_append.specs.LpBuilder.{Held, Holding, AfterRows};
+ghost use Rattle.build_append.specs.LpBuilder.{RowsHeld, Holding, AfterRows};
 ghost use Rattle.build_node_row.specs.Tables.{networkOf, EdgeTables};
 ghost use Rattle.build_node_row.specs.EdgeColumns.{edgeColumns};
 use build_append::Filled;
@@ -42,7 +42,7 @@ fn add_bounded_row(
 ) -> RowsAdded
     requires { ⌜ EdgeTables (now s) c (now «first_in») (now «next_in») (now «first_out») (now «next_out») (now «edge_to_col») × (node .0 < c .nodes) × (column .0 < 640)
         × (24844 ≤ length (now words)) × (6784 ≤ length (now numbers)) × Holding (now words) (now numbers) f ⌝ }
-    ensures { λ r. ⌜ ((rows : List Row) → Held rows (now (words .entry)) (now (numbers .entry)) f
+    ensures { λ r. ⌜ ((rows : List Row) → RowsHeld rows (now (words .entry)) (now (numbers .entry)) f
         → AfterRows (rows ++ (record { lower = zero64; upper = high sentinel; elements = addElement (column .0) coefficient (addNode (columnMap (networkOf (now (s .entry)) c)) (node .0) factor []) } ∷ []))
         (now (words .entry)) r (now (words .exit)) (now (numbers .exit))) ⌝ }
 {
@@ -96,7 +96,7 @@ pub fn add_bounded_rows(
     requires { ⌜ EdgeTables (now s) c (now «first_in») (now «next_in») (now «first_out») (now «next_out») (now «edge_to_col») × (node .0 < c .nodes)
         × («edge_columns» ≡ edgeColumns (now s) c) × (set < 128)
         × (24844 ≤ length (now words)) × (6784 ≤ length (now numbers)) × Holding (now words) (now numbers) f ⌝ }
-    ensures { λ r. ⌜ ((rows : List Row) → Held rows (now (words .entry)) (now (numbers .entry)) f
+    ensures { λ r. ⌜ ((rows : List Row) → RowsHeld rows (now (words .entry)) (now (numbers .entry)) f
         → AfterRows (rows ++ exclusiveRows sentinel (columnMap (networkOf (now (s .entry)) c)) (node .0) (nodeAt (now (s .entry)) (20 * node .0)) (set ∷ []))
         (now (words .entry)) r (now (words .exit)) (now (numbers .exit))) ⌝ }
 {

@@ -33,5 +33,5 @@ counts s z varying =
     ∷ z .elements
     ∷ z .«node_rows»
     ∷ z .aggregates
-    ∷ z .storages
+    ∷ z .«virtual_storages»
     ∷ []

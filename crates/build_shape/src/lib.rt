@@ -87,5 +87,5 @@ pub fn write_counts(words: &mut [u16], sentinel: Sentinel, z: Sizes, varying: us
     words[5128] = fields::narrow16(z.elements);
     words[5129] = fields::narrow16(z.node_rows);
     words[5130] = fields::narrow16(z.aggregates);
-    words[5131] = fields::narrow16(z.storages);
+    words[5131] = fields::narrow16(z.virtual_storages);
 }

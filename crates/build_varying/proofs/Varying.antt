@@ -13,24 +13,24 @@ use Rattle.pywr.specs.Network.{Network}
 use Rattle.pywr.specs.Rows.{Element, columnMap, aggregateRow, virtualStorageRow}
 use Rattle.pywr.specs.VariableRows.{addVariableRows}
 use Rattle.pywr.specs.VaryingRows.{RowRequest, requestsFrom, freshRow}
-use Rattle.pywr.specs.Build.{requestedRow, placedNodeRows, placedStorages, assemble, programmeOf}
-use Rattle.pywr.specs.Written.{nodeRowWords, storageWords}
+use Rattle.pywr.specs.Build.{requestedRow, placedNodeRows, placedVirtualStorages, assemble, programmeOf}
+use Rattle.pywr.specs.Written.{nodeRowWords, virtualStorageWords}
 use Rattle.build_append.specs.declared.Filled.{Filled}
 use Rattle.build_append.specs.declared.RowsAdded.{RowsAdded}
 use Rattle.build_append.specs.declared.RowsAdded.the-variants.{Done, Full}
-use Rattle.build_append.specs.LpBuilder.{Held, withinCeilings}
-use Rattle.build_append.proofs.HeldLaws.{over-more}
+use Rattle.build_append.specs.LpBuilder.{RowsHeld, withinCeilings}
+use Rattle.build_append.proofs.RowsHeldLaws.{over-more}
 use Rattle.pywr.specs.ExclusiveSets.{exclusiveSets}
 use Rattle.pywr.proofs.CountLaws.{requests-few}
 use Rattle.pywr.proofs.ReadLaws.{read-sound}
 use Rattle.build_exclusive_sets.specs.Sets.{setsAt}
 use Rattle.network_record.specs.declared.Counts.{Counts}
-use Rattle.build_node_row.specs.Tables.{networkOf, EdgeTables, ListingTables}
+use Rattle.build_node_row.specs.Tables.{networkOf, EdgeTables, MembershipTables}
 use Rattle.build_join.specs.JoinedRows.{joined, HoldingVarying, AfterVariableRows}
 use Rattle.build_join.proofs.JoinedLaws.{longer}
 use Rattle.build_node_table.specs.declared.NodeRows.{NodeRows}
 use Rattle.build_node_table.specs.declared.NodeRowsAdded.{NodeRowsAdded}
-use Rattle.build_node_table.specs.NodeRows.{NodeRowsHeld, AfterRequests}
+use Rattle.build_node_table.specs.NodeTable.{NodeRowsHeld, AfterRequests}
 use Rattle.build_varying.specs.VaryingLaid.{VaryingLaid, AfterVarying}
 
 -- a part that lies inside a part that stayed
@@ -71,22 +71,22 @@ module _ (s : Sentinel) (net : Network) where
   abbrev pub rows₂ : List (List Element)
   rows₂ = joined forAggregates rows₁ .rows
 
-  abbrev pub forStorages : List (List Element)
-  forStorages = map (virtualStorageRow (columnMap net)) (net .virtualStorages)
+  abbrev pub forVirtualStorages : List (List Element)
+  forVirtualStorages = map (virtualStorageRow (columnMap net)) (net .virtualStorages)
 
-  varying-is : programmeOf s net .programme .varying ≡ map (freshRow s) (joined forStorages rows₂ .rows)
+  varying-is : programmeOf s net .programme .varying ≡ map (freshRow s) (joined forVirtualStorages rows₂ .rows)
   unfolding programmeOf assemble
   varying-is = refl
 
   -- each pass that is over the ceilings
   pub nodes-full : withinCeilings (map (freshRow s) rows₁) ≡ false → withinCeilings (programmeOf s net .programme .varying) ≡ false
-  nodes-full e = ap withinCeilings varying-is ∙ over-joined s rows₂ forStorages (over-joined s rows₁ forAggregates e)
+  nodes-full e = ap withinCeilings varying-is ∙ over-joined s rows₂ forVirtualStorages (over-joined s rows₁ forAggregates e)
 
   pub aggregates-full : withinCeilings (map (freshRow s) rows₂) ≡ false → withinCeilings (programmeOf s net .programme .varying) ≡ false
-  aggregates-full e = ap withinCeilings varying-is ∙ over-joined s rows₂ forStorages e
+  aggregates-full e = ap withinCeilings varying-is ∙ over-joined s rows₂ forVirtualStorages e
 
-  pub storages-full : withinCeilings (map (freshRow s) (joined forStorages rows₂ .rows)) ≡ false → withinCeilings (programmeOf s net .programme .varying) ≡ false
-  storages-full e = ap withinCeilings varying-is ∙ e
+  pub virtual-storages-full : withinCeilings (map (freshRow s) (joined forVirtualStorages rows₂ .rows)) ≡ false → withinCeilings (programmeOf s net .programme .varying) ≡ false
+  virtual-storages-full e = ap withinCeilings varying-is ∙ e
 
   -- an answer of one case is not the other
   pub full-only : (words : List ℕ) (numbers : List Float) → withinCeilings (programmeOf s net .programme .varying) ≡ false → AfterVarying s net NodeRowsAdded.Full words numbers
@@ -100,13 +100,13 @@ module _ (s : Sentinel) (net : Network) where
     pub aggregates-holding : AfterVariableRows s rows₁ forAggregates 24588 size (λ places. places) words r words₁ numbers₁ → (g : Filled) → r ≡ Done g → HoldingVarying s words₁ numbers₁ g
     aggregates-holding a g e = record { rows = rows₂; held = a .held g e }
 
-  module _ (aggregates storages : ℕ) (ca : aggregates ≡ length (net .aggregates)) (cs : storages ≡ length (net .virtualStorages)) where
+  module _ (aggregates virtualStorages : ℕ) (ca : aggregates ≡ length (net .aggregates)) (cs : virtualStorages ≡ length (net .virtualStorages)) where
     pub all-laid : (n : NodeRows) (g f : Filled) (ra rv : RowsAdded) (words₁ words₂ words₃ : List ℕ) (numbers₁ numbers₂ numbers₃ : List Float)
         → 4 * n .count ≤ 17408 → 24844 ≤ length words₁ → 24844 ≤ length words₂ → 24844 ≤ length words₃ → aggregates ≤ 64
         → NodeRowsHeld s asks words₁ numbers₁ n
         → AfterVariableRows s rows₁ forAggregates 24588 aggregates (λ places. places) words₁ ra words₂ numbers₂
         → ra ≡ Done g
-        → AfterVariableRows s rows₂ forStorages 24652 (6 * storages) (λ places. flatMap storageWords (placedStorages (net .virtualStorages) places)) words₂ rv words₃ numbers₃
+        → AfterVariableRows s rows₂ forVirtualStorages 24652 (6 * virtualStorages) (λ places. flatMap virtualStorageWords (placedVirtualStorages (net .virtualStorages) places)) words₂ rv words₃ numbers₃
         → rv ≡ Done f
         → AfterVarying s net (NodeRowsAdded.Done (record { filled = f; count = n .count })) words₃ numbers₃
     unfolding programmeOf assemble
@@ -122,7 +122,7 @@ module _ (s : Sentinel) (net : Network) where
           counted = h .counted;
           nodeRows = node-table ∙ h .table;
           aggregates = ap (λ (k : ℕ). part 24588 k words₃) (sym ca) ∙ aggregate-table ∙ a .placed g ea;
-          storages = ap (λ (k : ℕ). part 24652 (6 * k) words₃) (sym cs) ∙ v .placed f ev;
+          virtualStorages = ap (λ (k : ℕ). part 24652 (6 * k) words₃) (sym cs) ∙ v .placed f ev;
         } in
         record {
           done = λ m q. let e : record { filled = f; count = n .count } ≡ m = cc in subst (λ (x : NodeRows). VaryingLaid s net x words₃ numbers₃) e laid;
@@ -130,13 +130,13 @@ module _ (s : Sentinel) (net : Network) where
         }
 
 -- at most 128 exclusive sets
-pub sets-few : (file : List ℕ) (c : Counts) (firstListing nextListing : List ℕ) → ListingTables file c firstListing nextListing → length (exclusiveSets (networkOf file c)) ≤ 128
-sets-few file c firstListing nextListing l =
+pub sets-few : (file : List ℕ) (c : Counts) (firstMembership nextMembership : List ℕ) → MembershipTables file c firstMembership nextMembership → length (exclusiveSets (networkOf file c)) ≤ 128
+sets-few file c firstMembership nextMembership l =
     let long : length (setsAt file (l .setAt) (l .sets)) ≡ length (take (l .sets) (l .setAt)) = simp length-map in
     omega (arith, long, ap (λ (x : List (List ℕ)). length x) (l .tables .held), length-take-le (l .sets) (l .setAt) (omega (arith, l .tables .fit .long, l .tables .fit .few)), l .tables .fit .few)
 
 -- the nodes of an accepted network ask for at most 4,352 rows
-pub asks-few : (file : List ℕ) (c : Counts) (firstIn nextIn firstOut nextOut edgeToCol firstListing nextListing : List ℕ) → EdgeTables file c firstIn nextIn firstOut nextOut edgeToCol → ListingTables file c firstListing nextListing
+pub asks-few : (file : List ℕ) (c : Counts) (firstIn nextIn firstOut nextOut edgeToCol firstMembership nextMembership : List ℕ) → EdgeTables file c firstIn nextIn firstOut nextOut edgeToCol → MembershipTables file c firstMembership nextMembership
     → length (requestsFrom (columnMap (networkOf file c)) 0 (networkOf file c .nodes)) ≤ 4352
-asks-few file c firstIn nextIn firstOut nextOut edgeToCol firstListing nextListing t l =
-    requests-few (networkOf file c) (read-sound file (networkOf file c) (t .parsed) .good) (sets-few file c firstListing nextListing l)
+asks-few file c firstIn nextIn firstOut nextOut edgeToCol firstMembership nextMembership t l =
+    requests-few (networkOf file c) (read-sound file (networkOf file c) (t .parsed) .good) (sets-few file c firstMembership nextMembership l)

@@ -11,17 +11,17 @@ use Rattle.pywr.specs.Network.{Network}
 use Rattle.pywr.specs.Rows.{columnMap}
 use Rattle.pywr.specs.VaryingRows.{requestsFrom}
 use Rattle.pywr.specs.Build.{programmeOf}
-use Rattle.pywr.specs.Written.{nodeRowWords, storageWords}
-use Rattle.build_append.specs.LpBuilder.{Held, withinCeilings}
+use Rattle.pywr.specs.Written.{nodeRowWords, virtualStorageWords}
+use Rattle.build_append.specs.LpBuilder.{RowsHeld, withinCeilings}
 use Rattle.build_node_table.specs.declared.NodeRows.{NodeRows}
 use Rattle.build_node_table.specs.declared.NodeRowsAdded.{NodeRowsAdded}
 
 pub record VaryingLaid (s : Sentinel) (net : Network) (r : NodeRows) (words : List ℕ) (numbers : List Float) : Type 0 where
-  pub held : Held (programmeOf s net .programme .varying) words numbers (r .filled)
+  pub held : RowsHeld (programmeOf s net .programme .varying) words numbers (r .filled)
   pub counted : r .count ≡ length (requestsFrom (columnMap net) 0 (net .nodes))
   pub nodeRows : part 7180 (4 * r .count) words ≡ flatMap nodeRowWords (programmeOf s net .shape .nodeRows)
   pub aggregates : part 24588 (length (net .aggregates)) words ≡ programmeOf s net .shape .aggregates
-  pub storages : part 24652 (6 * length (net .virtualStorages)) words ≡ flatMap storageWords (programmeOf s net .shape .virtualStorages)
+  pub virtualStorages : part 24652 (6 * length (net .virtualStorages)) words ≡ flatMap virtualStorageWords (programmeOf s net .shape .virtualStorages)
 
 pub record AfterVarying (s : Sentinel) (net : Network) (r : NodeRowsAdded) (words : List ℕ) (numbers : List Float) : Type 0 where
   pub done : (n : NodeRows) → r ≡ NodeRowsAdded.Done n → VaryingLaid s net n words numbers

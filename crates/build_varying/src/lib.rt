@@ -4,8 +4,8 @@ ghost use Prim.Native.Nat.{_≤_};
 ghost use mathlib.Core.List.{[]};
 ghost use lib.ListN.{length};
 ghost use Rattle.build_node_row.specs.EdgeColumns.{edgeColumns};
-ghost use Rattle.build_node_row.specs.Tables.{networkOf, EdgeTables, ListingTables};
-ghost use Rattle.build_append.specs.LpBuilder.{Held};
+ghost use Rattle.build_node_row.specs.Tables.{networkOf, EdgeTables, MembershipTables};
+ghost use Rattle.build_append.specs.LpBuilder.{RowsHeld};
 ghost use Rattle.build_varying.specs.VaryingLaid.{AfterVarying};
 use build_append::Filled;
 use build_append::RowsAdded;
@@ -24,8 +24,8 @@ pub fn add_varying_rows(
     next_out: &[u16; 512],
     edge_to_col: &[u16; 512],
     edge_columns: usize,
-    first_listing: &[u16; 256],
-    next_listing: &[u16; 2048],
+    first_membership: &[u16; 256],
+    next_membership: &[u16; 2048],
     sentinel: Sentinel,
     words: &mut [u16],
     numbers: &mut [f64],
@@ -33,8 +33,8 @@ pub fn add_varying_rows(
     f: Filled,
 ) -> NodeRowsAdded
     requires { ⌜ EdgeTables (now s) c (now «first_in») (now «next_in») (now «first_out») (now «next_out») (now «edge_to_col»)
-        × ListingTables (now s) c (now «first_listing») (now «next_listing») × («edge_columns» ≡ edgeColumns (now s) c)
-        × (24844 ≤ length (now words)) × (6784 ≤ length (now numbers)) × Held [] (now words) (now numbers) f ⌝ }
+        × MembershipTables (now s) c (now «first_membership») (now «next_membership») × («edge_columns» ≡ edgeColumns (now s) c)
+        × (24844 ≤ length (now words)) × (6784 ≤ length (now numbers)) × RowsHeld [] (now words) (now numbers) f ⌝ }
     ensures { λ r. ⌜ AfterVarying sentinel (networkOf (now (s .entry)) c) r (now (words .exit)) (now (numbers .exit)) ⌝ }
 {
     let n = build_nodes::create_node_constraints(
@@ -46,8 +46,8 @@ pub fn add_varying_rows(
         next_out,
         edge_to_col,
         edge_columns,
-        first_listing,
-        next_listing,
+        first_membership,
+        next_membership,
         sentinel,
         words,
         numbers,

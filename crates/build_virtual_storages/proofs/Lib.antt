@@ -1,1 +1,1 @@
-pub mod StorageLaws
+pub mod VirtualStorageLaws

@@ -1,1 +1,1 @@
-pub mod StorageRows
+pub mod VirtualStorageRows

@@ -7,15 +7,16 @@ ghost use lib.ListN.{length};
 ghost use lib.Seq.{sets};
 ghost use Rattle.pywr.specs.Rows.{Element, columnMap, virtualStorageRow};
 ghost use Rattle.pywr.specs.VaryingRows.{freshRow};
-ghost use Rattle.pywr.specs.Written.{flagWord, storageWords};
+ghost use Rattle.pywr.specs.Written.{flagWord, virtualStorageWords};
 ghost use Rattle.fields.specs.declared.Checked.the-variants.{Next};
 ghost use Rattle.network_virtual_storage.specs.VirtualStorage.{virtualStorageAt, virtualStorageEnd, checkVirtualStorage};
 ghost use Rattle.network_virtual_storage.specs.PeriodOf.{periodOf};
-ghost use Rattle.build_append.specs.LpBuilder.{Held, Holding};
+ghost use Rattle.build_append.specs.LpBuilder.{RowsHeld, Holding};
 ghost use Rattle.build_join.specs.VariableRow.{AfterVariableRow};
 ghost use Rattle.build_node_row.specs.Tables.{networkOf, EdgeTables};
-ghost use Rattle.build_join.specs.JoinedRows.{Gathered, HoldingVarying, AfterVariableRows};
-ghost use Rattle.build_virtual_storages.specs.StorageRows.{storageRows, storageTable};
+ghost use Rattle.build_row.specs.Gathered.{Gathered};
+ghost use Rattle.build_join.specs.JoinedRows.{HoldingVarying, AfterVariableRows};
+ghost use Rattle.build_virtual_storages.specs.VirtualStorageRows.{virtualStorageRows, virtualStorageTable};
 use build_append::Filled;
 use build_append::RowsAdded;
 use build_join::VariableRow;
@@ -84,7 +85,7 @@ fn add_virtual_storage_row(
     requires { ⌜ EdgeTables (now s) c (now «first_in») (now «next_in») (now «first_out») (now «next_out») (now «edge_to_col»)
         × (checkVirtualStorage (now s) (c .nodes) at ≡ Next (virtualStorageEnd (now s) at))
         × (24844 ≤ length (now words)) × (6784 ≤ length (now numbers)) × Holding (now words) (now numbers) f ⌝ }
-    ensures { λ r. ⌜ ((rows : List (List Element)) → Held (map (freshRow sentinel) rows) (now (words .entry)) (now (numbers .entry)) f
+    ensures { λ r. ⌜ ((rows : List (List Element)) → RowsHeld (map (freshRow sentinel) rows) (now (words .entry)) (now (numbers .entry)) f
         → AfterVariableRow sentinel rows (virtualStorageRow (columnMap (networkOf (now (s .entry)) c)) (virtualStorageAt (now (s .entry)) at))
         (now (words .entry)) r (now (words .exit)) (now (numbers .exit))) ⌝ }
 {
@@ -122,9 +123,9 @@ fn date_word(date: u8) -> u16
 }
 
 // Writes a virtual storage's entry from `at` on: its row, then its period.
-fn put_storage(words: &mut [u16], at: usize, row: u16, period: Period)
+fn put_virtual_storage(words: &mut [u16], at: usize, row: u16, period: Period)
     requires { ⌜ at + 6 ≤ length (now words) ⌝ }
-    ensures { λ _. ⌜ now (words .exit) ≡ sets (now (words .entry)) at (storageWords (record { row = row; period = periodOf period })) ⌝ }
+    ensures { λ _. ⌜ now (words .exit) ≡ sets (now (words .entry)) at (virtualStorageWords (record { row = row; period = periodOf period })) ⌝ }
 {
     words[at] = row;
     words[at + 1] = period_word(period.always);
@@ -151,8 +152,8 @@ pub fn create_virtual_storage_constraints(
 ) -> RowsAdded
     requires { ⌜ EdgeTables (now s) c (now «first_in») (now «next_in») (now «first_out») (now «next_out») (now «edge_to_col»)
         × (24844 ≤ length (now words)) × (6784 ≤ length (now numbers)) × HoldingVarying sentinel (now words) (now numbers) f ⌝ }
-    ensures { λ r. ⌜ ((rows : List (List Element)) → Held (map (freshRow sentinel) rows) (now (words .entry)) (now (numbers .entry)) f
-        → AfterVariableRows sentinel rows (storageRows (networkOf (now (s .entry)) c)) 24652 (6 * c .«virtual_storages») (storageTable (networkOf (now (s .entry)) c))
+    ensures { λ r. ⌜ ((rows : List (List Element)) → RowsHeld (map (freshRow sentinel) rows) (now (words .entry)) (now (numbers .entry)) f
+        → AfterVariableRows sentinel rows (virtualStorageRows (networkOf (now (s .entry)) c)) 24652 (6 * c .«virtual_storages») (virtualStorageTable (networkOf (now (s .entry)) c))
         (now (words .entry)) r (now (words .exit)) (now (numbers .exit))) ⌝ }
 {
     let mut at = c.virtual_storages_at;
@@ -180,7 +181,7 @@ pub fn create_virtual_storage_constraints(
             }
             VariableRow::At(row, more) => {
                 let period = network_virtual_storage::active_period(s, at);
-                put_storage(words, 24652 + 6 * i, build_join::row_word(row), period);
+                put_virtual_storage(words, 24652 + 6 * i, build_join::row_word(row), period);
                 filled = more;
                 at = network_virtual_storage::virtual_storage_end(s, at);
                 i += 1;

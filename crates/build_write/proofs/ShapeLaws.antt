@@ -14,8 +14,8 @@ node-rows-room n long l₁ l₂ l₃ c b a few h = omega arith
 pub aggregates-room : (n long l₁ l₂ l₃ l₄ : ℕ) → l₄ ≡ l₃ → l₃ ≡ l₂ → l₂ ≡ l₁ → l₁ ≡ long → n ≤ 64 → 19723 ≤ long → 19467 + n ≤ l₄
 aggregates-room n long l₁ l₂ l₃ l₄ d c b a few h = omega arith
 
-pub storages-room : (n long l₁ l₂ l₃ l₄ l₅ : ℕ) → l₅ ≡ l₄ → l₄ ≡ l₃ → l₃ ≡ l₂ → l₂ ≡ l₁ → l₁ ≡ long → n ≤ 32 → 19723 ≤ long → 19531 + 6 * n ≤ l₅
-storages-room n long l₁ l₂ l₃ l₄ l₅ e d c b a few h = omega arith
+pub virtual-storages-room : (n long l₁ l₂ l₃ l₄ l₅ : ℕ) → l₅ ≡ l₄ → l₄ ≡ l₃ → l₃ ≡ l₂ → l₂ ≡ l₁ → l₁ ≡ long → n ≤ 32 → 19723 ≤ long → 19531 + 6 * n ≤ l₅
+virtual-storages-room n long l₁ l₂ l₃ l₄ l₅ e d c b a few h = omega arith
 
 pub node-rows-held : (n long : ℕ) → n ≤ 4352 → 24844 ≤ long → 7180 + 4 * n ≤ long
 node-rows-held n long few h = omega arith
@@ -23,11 +23,11 @@ node-rows-held n long few h = omega arith
 pub aggregates-held : (n long : ℕ) → n ≤ 64 → 24844 ≤ long → 24588 + n ≤ long
 aggregates-held n long few h = omega arith
 
-pub storages-held : (n long : ℕ) → n ≤ 32 → 24844 ≤ long → 24652 + 6 * n ≤ long
-storages-held n long few h = omega arith
+pub virtual-storages-held : (n long : ℕ) → n ≤ 32 → 24844 ≤ long → 24652 + 6 * n ≤ long
+virtual-storages-held n long few h = omega arith
 
 module _ (z : Sizes) (words old s₁ s₂ s₃ s₄ s₅ s₆ : List ℕ) where
-  pub written : s₆ ≡ sets s₅ 19531 (part 24652 (6 * z .storages) words) → s₅ ≡ sets s₄ 19467 (part 24588 (z .aggregates) words)
+  pub written : s₆ ≡ sets s₅ 19531 (part 24652 (6 * z .«virtual_storages») words) → s₅ ≡ sets s₄ 19467 (part 24588 (z .aggregates) words)
       → s₄ ≡ sets s₃ 2059 (part 7180 (4 * z .«node_rows») words) → s₃ ≡ sets s₂ 523 (part 5644 (3 * z .edges) words)
       → s₂ ≡ sets s₁ 11 (part 5132 (2 * z .nodes) words) → s₁ ≡ sets old 0 (part 5121 11 words) → s₆ ≡ shapeWritten z words old
   unfolding shapeWritten

@@ -22,7 +22,7 @@ pub record Few (z : Sizes) : Type 0 where
   pub elements : z .elements ≤ 4096
   pub nodeRows : z .«node_rows» ≤ 4352
   pub aggregates : z .aggregates ≤ 64
-  pub storages : z .storages ≤ 32
+  pub virtualStorages : z .«virtual_storages» ≤ 32
 
 -- the row starts that `words` holds begin at 0, do not fall, and end at the element count
 pub record RowStarts (z : Sizes) (words : List ℕ) : Type 0 where
@@ -56,4 +56,4 @@ shapeWritten z words old =
     let edges : List ℕ = sets nodes 523 (part 5644 (3 * z .edges) words) in
     let nodeRows : List ℕ = sets edges 2059 (part 7180 (4 * z .«node_rows») words) in
     let aggregates : List ℕ = sets nodeRows 19467 (part 24588 (z .aggregates) words) in
-    sets aggregates 19531 (part 24652 (6 * z .storages) words)
+    sets aggregates 19531 (part 24652 (6 * z .«virtual_storages») words)

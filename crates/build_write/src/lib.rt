@@ -17,7 +17,7 @@ pub struct Sizes {
     pub elements: usize,
     pub node_rows: usize,
     pub aggregates: usize,
-    pub storages: usize,
+    pub virtual_storages: usize,
 }
 
 // Column bounds and costs: the edges' columns, then the sets' integer columns.
@@ -105,5 +105,5 @@ pub fn write_shape(z: Sizes, words: &[u16], shape: &mut [u16])
     runs::copy_u16(shape, 523, words, 5644, 3 * z.edges);
     runs::copy_u16(shape, 2059, words, 7180, 4 * z.node_rows);
     runs::copy_u16(shape, 19467, words, 24588, z.aggregates);
-    runs::copy_u16(shape, 19531, words, 24652, 6 * z.storages);
+    runs::copy_u16(shape, 19531, words, 24652, 6 * z.virtual_storages);
 }

@@ -9,7 +9,7 @@ use Rattle.laws.specs.Part.{part}
 use Rattle.pywr.specs.declared.Sentinel.{Sentinel}
 use Rattle.pywr.specs.Programme.{Column, Built}
 use Rattle.pywr.specs.Store.{Store}
-use Rattle.pywr.specs.Written.{shapeAfter, builtStore, rowsOf, lowerOf, upperOf, columnsIn, factorsIn, startsFrom}
+use Rattle.pywr.specs.Written.{shapeAfter, builtStore, rowsOf, lowerOf, upperOf, columnsIn, valuesIn, startsFrom}
 use Rattle.build_write.specs.declared.Sizes.{Sizes}
 use Rattle.build_write.specs.Lp.{columnsOf, ColumnsWritten, RowsWritten, MatrixWritten, shapeWritten}
 use Rattle.build_rows.specs.Assembled.{Laid}
@@ -17,7 +17,7 @@ use Rattle.build_rows.specs.Assembled.{Laid}
 module _ (s : Sentinel) (b : Built) (z : Sizes) (words : List ℕ) (numbers : List Float) (l : Laid s b z words numbers) where
   shape-is : (old : List ℕ) → shapeWritten z words old ≡ shapeAfter old b
   unfolding shapeWritten shapeAfter
-  shape-is old = rw (l .counts, l .nodes, l .edges, l .nodeRows, l .aggregates, l .storages)
+  shape-is old = rw (l .counts, l .nodes, l .edges, l .nodeRows, l .aggregates, l .virtualStorages)
 
   pub store-is : (old : Store) (cl cu cc rl ru el : List Float) (co st sh : List ℕ)
       → ColumnsWritten s z (old .colLower) (old .colUpper) (old .colObjCoef) cl cu cc

@@ -8,7 +8,7 @@ use lib.Pow.{pow-pos, pow-lt}
 use lib.Ieee.{Float, Format, binary32, binary64, prec, emax, low, round, div, fits}
 use lib.Ieee.Scale.{round-same, finite, overflow}
 use Rattle.doubles.specs.Units.{sign, mag}
-use Rattle.doubles.specs.Rounding.{snap, Held, Rounds}
+use Rattle.doubles.specs.Rounding.{snap, Representable, Rounds}
 use Rattle.doubles.specs.Sums.{Grain, Room}
 use Rattle.doubles.specs.Costs.{two, Halved}
 use Rattle.doubles.proofs.Rounding.{mag-held, round-held, round-sign, round-num, snap-is}
@@ -31,7 +31,7 @@ half-is : (f : Format) (x : Float) → T (fits f x) → T (finite x) → div f x
 half-is f x p n = div-positive f x two p (two-fits f) n tt ∙ ap (λ (z : ℕ). round f (sign x) (mag f x) z) (two-mag f)
 
 -- an even number of units
-held-half : (f : Format) (w : ℕ) → Held f (2 * w) → Held f w
+held-half : (f : Format) (w : ℕ) → Representable f (2 * w) → Representable f w
 held-half f w h = go (h .j) (h .is)
   where
     under : w < overflow f
@@ -40,7 +40,7 @@ held-half f w h = go (h .j) (h .is)
         twice : (w : ℕ) → w ≤ 2 * w
         twice w = omega arith
 
-    go : (j : ℕ) → 2 * w ≡ h .q * 2 ^ j → Held f w
+    go : (j : ℕ) → 2 * w ≡ h .q * 2 ^ j → Representable f w
     go zero e = record { q = w; j = 0; few = lt-of-le-of-lt (small w (h .q) (e ∙ mul-one (h .q))) (h .few); is = sym (mul-one w); under = under }
       where
         small : (w q : ℕ) → 2 * w ≡ q → w ≤ q
@@ -54,7 +54,7 @@ pub half-exact : (f : Format) (x : Float) (w : ℕ) → T (fits f x) → T (fini
 half-exact f x w p n e =
     let L = 2 ^ low f in
     subst (Rounds f (sign x) w) (sym (half-is f x p n ∙ ap (λ (z : ℕ). round f (sign x) z (2 * L)) e ∙ round-same f (sign x) (2 * w) (2 * L) w L (mul-pos (lit< tt) (pow-pos (low f))) (pow-pos (low f)) (mul-assoc 2 w L ∙ mul-left-comm 2 w L)))
-    (round-held f (sign x) w (held-half f w (subst (Held f) e (mag-held f x p n))))
+    (round-held f (sign x) w (held-half f w (subst (Representable f) e (mag-held f x p n))))
 
 -- any number of units: half of it, to within half a unit
 room-zero : (f : Format) → Room f 0
@@ -101,7 +101,7 @@ half-near f x p n = go (mag-held f x p n)
         zero-lt : (a b : ℕ) → 0 < a + suc b
         zero-lt a b = omega arith
 
-    go : Held f (mag f x) → Halved f x (div f x two)
+    go : Representable f (mag f x) → Halved f x (div f x two)
     go h = at (h .j) (h .is)
       where
         at : (j : ℕ) → mag f x ≡ h .q * 2 ^ j → Halved f x (div f x two)

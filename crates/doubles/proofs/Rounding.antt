@@ -16,7 +16,7 @@ use lib.Ieee.Order.{round-mono, kept, drop}
 use lib.Ieee.Scale.{round-same, finite, overflow, grid}
 use Rattle.laws.proofs.Tests.{tests, ap-cond, cond-both, cond-yes, cond-no}
 use Rattle.doubles.specs.Units.{sign, mag, signed, number, Num, rank, shift}
-use Rattle.doubles.specs.Rounding.{snap, Held, Rounds, addSign, addMag}
+use Rattle.doubles.specs.Rounding.{snap, Representable, Rounds, addSign, addMag}
 use Rattle.doubles.proofs.Integers.{ints, sum-is, neg-plus, neg-less}
 use Rattle.doubles.proofs.Units.{mag-is, mag-under, inf-mag, digits-fit, side, other-side, unit-lt, unit-sum}
 use Rattle.doubles.proofs.Order.{le→Z}
@@ -101,12 +101,12 @@ snap-mono f a b c d B D h =
 -- ---- a number of units that the format holds
 
 -- every finite value of the format is one
-pub mag-held : (f : Format) (x : Float) → T (fits f x) → T (finite x) → Held f (mag f x)
+pub mag-held : (f : Format) (x : Float) → T (fits f x) → T (finite x) → Representable f (mag f x)
 mag-held f nan t u = absurd u
 mag-held f (inf s) t u = absurd u
 mag-held f (fin s m e) t u = record { q = m; j = shift f e; few = digits-fit f s m e t; is = unfold mag in refl; under = mag-under f (fin s m e) t u }
 
-pub round-held : (f : Format) (s : Bool) (w : ℕ) → Held f w → Rounds f s w (round f s w (2 ^ low f))
+pub round-held : (f : Format) (s : Bool) (w : ℕ) → Representable f w → Rounds f s w (round f s w (2 ^ low f))
 round-held f s w h =
     let v = value-mag f (round f s w (2 ^ low f)) s w (round-fits f s w (2 ^ low f))
     (round-exact f s w (2 ^ low f) (h .q) (h .j) (pow-pos (low f)) (h .few) (subst (λ (z : ℕ). z < overflow f) (h .is) (h .under)) (ap (λ (z : ℕ). z * 2 ^ low f) (h .is))) in
@@ -166,11 +166,11 @@ addMag-le s a t b =
     (λ u. cond-both (λ (w : ℕ). w ≤ a + b) (ltb a b) (b - a) (a - b) (λ v. omega arith) (λ v. omega arith))
 
 -- ---- an exact sum
-pub add-exact : (f : Format) (x y : Float) → T (fits f x) → T (fits f y) → T (finite x) → T (finite y) → Held f (addMag (sign x) (mag f x) (sign y) (mag f y))
+pub add-exact : (f : Format) (x y : Float) → T (fits f x) → T (fits f y) → T (finite x) → T (finite y) → Representable f (addMag (sign x) (mag f x) (sign y) (mag f y))
     → Rounds f (addSign (sign x) (mag f x) (sign y) (mag f y)) (addMag (sign x) (mag f x) (sign y) (mag f y)) (add f x y)
 add-exact f x y p q n k h = subst (Rounds f (addSign (sign x) (mag f x) (sign y) (mag f y)) (addMag (sign x) (mag f x) (sign y) (mag f y))) (sym (add-is f x y p q n k)) (round-held f (addSign (sign x) (mag f x) (sign y) (mag f y)) (addMag (sign x) (mag f x) (sign y) (mag f y)) h)
 
-pub add-rank : (f : Format) (x y : Float) → T (fits f x) → T (fits f y) → T (finite x) → T (finite y) → Held f (addMag (sign x) (mag f x) (sign y) (mag f y)) → rank f (add f x y) ≡ rank f x +ℤ rank f y
+pub add-rank : (f : Format) (x y : Float) → T (fits f x) → T (fits f y) → T (finite x) → T (finite y) → Representable f (addMag (sign x) (mag f x) (sign y) (mag f y)) → rank f (add f x y) ≡ rank f x +ℤ rank f y
 add-rank f x y p q n k h =
     let r = add-exact f x y p q n k h in
     ap₂ (λ (u : Bool) (w : ℕ). signed u w) (r .signIs) (r .magIs) ∙ add-signed (sign x) (mag f x) (sign y) (mag f y)
@@ -200,5 +200,5 @@ pub snap-zero : (f : Format) (c : ℕ) → 0 < c → snap f 0 c ≡ 0
 unfolding snap
 snap-zero f c C =
     let L = 2 ^ low f in
-    let h : Held f 0 = record { q = 0; j = 0; few = pow-pos (prec f); is = refl; under = pow-pos (low f + suc (emax f)) } in
+    let h : Representable f 0 = record { q = 0; j = 0; few = pow-pos (prec f); is = refl; under = pow-pos (low f + suc (emax f)) } in
     ap (mag f) (round-same f false 0 c 0 L C (pow-pos (low f)) (zero-mul L ∙ sym (zero-mul c))) ∙ round-held f false 0 h .magIs

@@ -16,7 +16,7 @@ use lib.Ieee.Fits.{two, and-i, and-l, and-r, eq→eqb, down-pos, neg-fits}
 use lib.Ieee.Scale.{round-same, finite, overflow}
 use Rattle.laws.proofs.Tests.{tests, cond-both}
 use Rattle.doubles.specs.Units.{sign, mag, signed, rank, zero+, notMinusZero, oneOf}
-use Rattle.doubles.specs.Rounding.{Held, Rounds, addSign, addMag}
+use Rattle.doubles.specs.Rounding.{Representable, Rounds, addSign, addMag}
 use Rattle.doubles.specs.Sums.{Grain, Room, Summed, Each, run, addAll, ranks, mags}
 use Rattle.doubles.proofs.Integers.{swap-addℤ}
 use Rattle.doubles.proofs.Units.{mag-is, signed-times, same-bits, neg-mag, neg-finite}
@@ -27,13 +27,13 @@ use Rattle.doubles.proofs.Rounding.{mag-held, round-held, addMag-le, ad
 one-lt : (f : Format) → 1 < 2 ^ prec f
 one-lt f = pow-lt {i = 0} (lt-of-lt-of-le (lit< tt) (two f))
 
-pub grain-held : (f : Format) (g w c : ℕ) → Room f g → w ≡ c * 2 ^ g → w ≤ 2 ^ prec f * 2 ^ g → Held f w
+pub grain-held : (f : Format) (g w c : ℕ) → Room f g → w ≡ c * 2 ^ g → w ≤ 2 ^ prec f * 2 ^ g → Representable f w
 grain-held f g w c r e h = go (eq-or-lt-of-le (le-of-mul-le-mul-right (subst (λ (z : ℕ). z ≤ 2 ^ prec f * 2 ^ g) e h) (pow-pos g)))
   where
     below : w < overflow f
     below = lt-of-le-of-lt h (subst (λ (z : ℕ). z < overflow f) (pow-add 2 (prec f) g) (pow-lt r))
 
-    go : (c ≡ 2 ^ prec f) ⊎ (c < 2 ^ prec f) → Held f w
+    go : (c ≡ 2 ^ prec f) ⊎ (c < 2 ^ prec f) → Representable f w
     go (inl t) = record { q = 1; j = prec f + g; few = one-lt f; is = e ∙ ap (λ (z : ℕ). z * 2 ^ g) t ∙ sym (pow-add 2 (prec f) g) ∙ sym (one-mul (2 ^ (prec f + g))); under = below }
     go (inr l) = record { q = c; j = g; few = l; is = e; under = below }
 
@@ -206,8 +206,8 @@ ofInt-rank f (negsuc n) h = let r = ofNat f true (suc n) h in ap₂ (λ (u : Boo
 -- ---- a value added to 0.0 keeps its rank, whatever its grain
 
 module _ (f : Format) (x : Float) (p : T (fits f x)) (n : T (finite x)) where
-  zero-held : Held f (addMag false (mag f zero+) (sign x) (mag f x))
-  zero-held = subst (Held f) (sym (zero-plus (sign x) (mag f x) (mag f zero+) (zero-mag f))) (mag-held f x p n)
+  zero-held : Representable f (addMag false (mag f zero+) (sign x) (mag f x))
+  zero-held = subst (Representable f) (sym (zero-plus (sign x) (mag f x) (mag f zero+) (zero-mag f))) (mag-held f x p n)
     where
       zero-plus : (s : Bool) (b a : ℕ) → a ≡ 0 → addMag false a s b ≡ b
       zero-plus false b a e = ap (λ (z : ℕ). z + b) e ∙ zero-add b

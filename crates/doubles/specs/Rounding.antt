@@ -1,4 +1,4 @@
--- Rounding in units: `snap` is the magnitude of a rounded fraction, `Held` says which numbers of units a format has, and a sum of two by signs and magnitudes.
+-- Rounding in units: `snap` is the magnitude of a rounded fraction, `Representable` says which numbers of units a format has, and a sum of two by signs and magnitudes.
 -- Assumes nothing.
 use mathlib.Core.Path.{_≡_}
 use Prim.Native.Nat.{ℕ, _+_, _-_, _*_, _^_, _<_}
@@ -13,7 +13,7 @@ unfoldable pub snap : Format → ℕ → ℕ → ℕ
 snap f a c = mag f (round f false a c)
 
 -- w units are a value of the format: few digits, and below the infinities
-pub record Held (f : Format) (w : ℕ) : Type 0 where
+pub record Representable (f : Format) (w : ℕ) : Type 0 where
   pub q : ℕ
   pub j : ℕ
   pub few : q < 2 ^ prec f

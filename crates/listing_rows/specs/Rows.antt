@@ -15,7 +15,7 @@ unfoldable pub lineAt : ℕ → ℕ → ℕ
 lineAt room at = cond (ltb (room - at) 128) 0 at
 
 unfoldable pub elementText : Element → List ℕ
-elementText e = elementLine (e .column) (e .factor)
+elementText e = elementLine (e .column) (e .value)
 
 unfoldable pub elementsText : List Element → List ℕ
 elementsText [] = []

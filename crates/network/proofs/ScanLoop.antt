@@ -31,20 +31,20 @@ pub record ScanInvariant (file : List ℕ) (at stage n e a v place : ℕ) : Type
   pub left : ℕ
   pub enough : length file ≤ left + at
   pub from : readRecords (length file) file start ≡ readRecords left file (reading file at stage n e a v)
-  pub storages : place ≡ aggregateStart file n e a
+  pub virtualStorages : place ≡ aggregateStart file n e a
   pub stands : at ≡ recordsEnd (virtualStorageEnd file) v place
   pub no-edges : stage < 1 → e ≡ 0
   pub no-aggregates : stage < 2 → a ≡ 0
-  pub no-storages : stage < 3 → v ≡ 0
+  pub no-virtual-storages : stage < 3 → v ≡ 0
   pub few-nodes : n ≤ 256
   pub few-edges : e ≤ 512
   pub few-aggregates : a ≤ 64
-  pub few-storages : v ≤ 32
+  pub few-virtual-storages : v ≤ 32
   pub inside : at ≤ length file
   pub nodes-pass : AllPass (λ i. checkNode file) (λ at. at + 20) n 0
   pub edges-pass : AllPass (checkEdge file n) (λ at. at + 6) e (20 * n)
   pub aggregates-pass : AllPass (λ i. checkAggregate file n) (aggregateEnd file) a (20 * n + 6 * e)
-  pub storages-pass : AllPass (λ i. checkVirtualStorage file n) (virtualStorageEnd file) v place
+  pub virtual-storages-pass : AllPass (λ i. checkVirtualStorage file n) (virtualStorageEnd file) v place
 
 network-start : (file : List ℕ) → networkAt file 0 0 0 0 ≡ start .network
 unfolding networkAt recordsAt
@@ -56,20 +56,20 @@ first file = record {
   left = length file;
   enough = omega arith;
   from = ap (λ (net : Network). readRecords (length file) file (record { network = net; at = 0; stage = 0 })) (sym (network-start file));
-  storages = refl;
+  virtualStorages = refl;
   stands = refl;
   no-edges = λ _. refl;
   no-aggregates = λ _. refl;
-  no-storages = λ _. refl;
+  no-virtual-storages = λ _. refl;
   few-nodes = omega arith;
   few-edges = omega arith;
   few-aggregates = omega arith;
-  few-storages = omega arith;
+  few-virtual-storages = omega arith;
   inside = omega arith;
   nodes-pass = none-pass (λ i. checkNode file) (λ at. at + 20) 0 0 refl;
   edges-pass = none-pass (checkEdge file 0) (λ at. at + 6) 0 0 refl;
   aggregates-pass = none-pass (λ i. checkAggregate file 0) (aggregateEnd file) 0 0 refl;
-  storages-pass = none-pass (λ i. checkVirtualStorage file 0) (virtualStorageEnd file) 0 0 refl;
+  virtual-storages-pass = none-pass (λ i. checkVirtualStorage file 0) (virtualStorageEnd file) 0 0 refl;
 }
 
 -- how the definition goes on
@@ -105,10 +105,10 @@ module _ (file : List ℕ) (n e a v at x : ℕ) where
   unfolding withAggregate networkAt recordsAt
   with-aggregate qv q = rw (qv, records-more (aggregateAt file) (aggregateEnd file) a (20 * n + 6 * e), q)
 
-  with-storage : at ≡ recordsEnd (virtualStorageEnd file) v (aggregateStart file n e a)
+  with-virtual-storage : at ≡ recordsEnd (virtualStorageEnd file) v (aggregateStart file n e a)
       → withVirtualStorage here (record { item = virtualStorageAt file at; next = x }) .item ≡ networkAt file n e a (v + 1)
   unfolding withVirtualStorage networkAt
-  with-storage q = rw (records-more (virtualStorageAt file) (virtualStorageEnd file) v (aggregateStart file n e a), q)
+  with-virtual-storage q = rw (records-more (virtualStorageAt file) (virtualStorageEnd file) v (aggregateStart file n e a), q)
 
 aggregate-after : (file : List ℕ) (x : ℕ) → x ≤ aggregateEnd file x
 aggregate-after file x = let h = end-after (setEnd file) (λ y. omega arith) (byte file (x + 3)) (x + 12) in omega (arith, h)
@@ -117,8 +117,8 @@ module _ (file : List ℕ) (at stage n e a v place : ℕ) (h : ScanInvariant fil
   -- before the aggregates, the records so far have a fixed length
   pub fixed-at : stage < 2 → at ≡ 20 * n + 6 * e
   fixed-at lt =
-      h .stands ∙ end-none (virtualStorageEnd file) v place (h .no-storages (omega arith))
-      ∙ h .storages ∙ end-none (aggregateEnd file) a (20 * n + 6 * e) (h .no-aggregates lt)
+      h .stands ∙ end-none (virtualStorageEnd file) v place (h .no-virtual-storages (omega arith))
+      ∙ h .virtualStorages ∙ end-none (aggregateEnd file) a (20 * n + 6 * e) (h .no-aggregates lt)
 
   more-left : at < length file → h .left ≡ suc (h .left - 1)
   more-left lt = omega (arith, h .enough)
@@ -136,7 +136,7 @@ module _ (file : List ℕ) (at stage n e a v place : ℕ) (h : ScanInvariant fil
   node-more x lt q t =
       let qe = h .no-edges (omega (arith, t .0)) in
       let qa = h .no-aggregates (omega (arith, t .0)) in
-      let qv = h .no-storages (omega (arith, t .0)) in
+      let qv = h .no-virtual-storages (omega (arith, t .0)) in
       let f = fixed-at (omega (arith, t .0)) in
       let d = node-end file at x (t .2) in
       let w : at ≡ 20 * n = omega (arith, f, qe) in
@@ -146,26 +146,26 @@ module _ (file : List ℕ) (at stage n e a v place : ℕ) (h : ScanInvariant fil
         left = h .left - 1;
         enough = omega (arith, h .enough, d);
         from = read-on _ x 0 lt (ap (after (networkAt file n e a v) file at) q) ∙ ap (λ (net : Network). readRecords (h .left - 1) file (record { network = net; at = x; stage = 0 })) (with-node file n e a v at x qe qa qv w);
-        storages = s ∙ sym (end-none (aggregateEnd file) a (20 * (n + 1) + 6 * e) qa);
+        virtualStorages = s ∙ sym (end-none (aggregateEnd file) a (20 * (n + 1) + 6 * e) qa);
         stands = sym (end-none (virtualStorageEnd file) v x qv);
         no-edges = λ _. qe;
         no-aggregates = λ _. qa;
-        no-storages = λ _. qv;
+        no-virtual-storages = λ _. qv;
         few-nodes = omega (arith, t .1);
         few-edges = h .few-edges;
         few-aggregates = h .few-aggregates;
-        few-storages = h .few-storages;
+        few-virtual-storages = h .few-virtual-storages;
         inside = t .3;
         nodes-pass = one-pass (λ i. checkNode file) (λ at. at + 20) n 0 at x (h .nodes-pass) p d (t .2);
         edges-pass = none-pass (checkEdge file (n + 1)) (λ at. at + 6) e _ qe;
         aggregates-pass = none-pass (λ i. checkAggregate file (n + 1)) (aggregateEnd file) a _ qa;
-        storages-pass = none-pass (λ i. checkVirtualStorage file (n + 1)) (virtualStorageEnd file) v _ qv;
+        virtual-storages-pass = none-pass (λ i. checkVirtualStorage file (n + 1)) (virtualStorageEnd file) v _ qv;
       }
 
   pub edge-more : (x : ℕ) → at < length file → checkRecord file at n e a v stage ≡ Record.Edge x → RecordPassed file at n e a v stage (Record.Edge x) → ScanInvariant file x 1 n (e + 1) a v x
   edge-more x lt q t =
       let qa = h .no-aggregates (omega (arith, t .0)) in
-      let qv = h .no-storages (omega (arith, t .0)) in
+      let qv = h .no-virtual-storages (omega (arith, t .0)) in
       let f = fixed-at (omega (arith, t .0)) in
       let d = edge-end file n e at x (t .2) in
       let s : x ≡ 20 * n + 6 * (e + 1) = omega (arith, f, d) in
@@ -174,70 +174,70 @@ module _ (file : List ℕ) (at stage n e a v place : ℕ) (h : ScanInvariant fil
         left = h .left - 1;
         enough = omega (arith, h .enough, d);
         from = read-on _ x 1 lt (ap (after (networkAt file n e a v) file at) q) ∙ ap (λ (net : Network). readRecords (h .left - 1) file (record { network = net; at = x; stage = 1 })) (with-edge file n e a v at x qa qv f);
-        storages = s ∙ sym (end-none (aggregateEnd file) a (20 * n + 6 * (e + 1)) qa);
+        virtualStorages = s ∙ sym (end-none (aggregateEnd file) a (20 * n + 6 * (e + 1)) qa);
         stands = sym (end-none (virtualStorageEnd file) v x qv);
         no-edges = λ l. absurd (omega (arith, l));
         no-aggregates = λ _. qa;
-        no-storages = λ _. qv;
+        no-virtual-storages = λ _. qv;
         few-nodes = h .few-nodes;
         few-edges = omega (arith, t .1);
         few-aggregates = h .few-aggregates;
-        few-storages = h .few-storages;
+        few-virtual-storages = h .few-virtual-storages;
         inside = t .3;
         nodes-pass = h .nodes-pass;
         edges-pass = one-pass (checkEdge file n) (λ at. at + 6) e (20 * n) at x (h .edges-pass) p d (t .2);
         aggregates-pass = none-pass (λ i. checkAggregate file n) (aggregateEnd file) a _ qa;
-        storages-pass = none-pass (λ i. checkVirtualStorage file n) (virtualStorageEnd file) v _ qv;
+        virtual-storages-pass = none-pass (λ i. checkVirtualStorage file n) (virtualStorageEnd file) v _ qv;
       }
 
   pub aggregate-more : (x : ℕ) → at < length file → checkRecord file at n e a v stage ≡ Record.Aggregate x → RecordPassed file at n e a v stage (Record.Aggregate x) → ScanInvariant file x 2 n e (a + 1) v x
   aggregate-more x lt q t =
-      let qv = h .no-storages (omega (arith, t .0)) in
-      let w : at ≡ recordsEnd (aggregateEnd file) a (20 * n + 6 * e) = h .stands ∙ end-none (virtualStorageEnd file) v place qv ∙ h .storages in
+      let qv = h .no-virtual-storages (omega (arith, t .0)) in
+      let w : at ≡ recordsEnd (aggregateEnd file) a (20 * n + 6 * e) = h .stands ∙ end-none (virtualStorageEnd file) v place qv ∙ h .virtualStorages in
       let d = aggregate-end file n at x (t .2) in
       let g : at + 12 ≤ aggregateEnd file at = end-after (setEnd file) (λ y. omega arith) _ (at + 12) in
       record {
         left = h .left - 1;
         enough = omega (arith, h .enough, d, g);
         from = read-on _ x 2 lt (ap (after (networkAt file n e a v) file at) q) ∙ ap (λ (net : Network). readRecords (h .left - 1) file (record { network = net; at = x; stage = 2 })) (with-aggregate file n e a v at x qv w);
-        storages = d ∙ ap (aggregateEnd file) w ∙ sym (end-more (aggregateEnd file) a (20 * n + 6 * e));
+        virtualStorages = d ∙ ap (aggregateEnd file) w ∙ sym (end-more (aggregateEnd file) a (20 * n + 6 * e));
         stands = sym (end-none (virtualStorageEnd file) v x qv);
         no-edges = λ l. absurd (omega (arith, l));
         no-aggregates = λ l. absurd (omega (arith, l));
-        no-storages = λ _. qv;
+        no-virtual-storages = λ _. qv;
         few-nodes = h .few-nodes;
         few-edges = h .few-edges;
         few-aggregates = omega (arith, t .1);
-        few-storages = h .few-storages;
+        few-virtual-storages = h .few-virtual-storages;
         inside = t .3;
         nodes-pass = h .nodes-pass;
         edges-pass = h .edges-pass;
         aggregates-pass = one-pass (λ i. checkAggregate file n) (aggregateEnd file) a (20 * n + 6 * e) at x (h .aggregates-pass) w d (t .2);
-        storages-pass = none-pass (λ i. checkVirtualStorage file n) (virtualStorageEnd file) v _ qv;
+        virtual-storages-pass = none-pass (λ i. checkVirtualStorage file n) (virtualStorageEnd file) v _ qv;
       }
 
-  pub storage-more : (x : ℕ) → at < length file → checkRecord file at n e a v stage ≡ Record.VirtualStorage x → RecordPassed file at n e a v stage (Record.VirtualStorage x) → ScanInvariant file x 3 n e a (v + 1) place
-  storage-more x lt q t =
-      let w : at ≡ recordsEnd (virtualStorageEnd file) v (aggregateStart file n e a) = h .stands ∙ ap (recordsEnd (virtualStorageEnd file) v) (h .storages) in
+  pub virtual-storage-more : (x : ℕ) → at < length file → checkRecord file at n e a v stage ≡ Record.VirtualStorage x → RecordPassed file at n e a v stage (Record.VirtualStorage x) → ScanInvariant file x 3 n e a (v + 1) place
+  virtual-storage-more x lt q t =
+      let w : at ≡ recordsEnd (virtualStorageEnd file) v (aggregateStart file n e a) = h .stands ∙ ap (recordsEnd (virtualStorageEnd file) v) (h .virtualStorages) in
       let d = virtual-storage-end file n at x (t .2) in
       record {
         left = h .left - 1;
         enough = omega (arith, h .enough, d);
-        from = read-on _ x 3 lt (ap (after (networkAt file n e a v) file at) q) ∙ ap (λ (net : Network). readRecords (h .left - 1) file (record { network = net; at = x; stage = 3 })) (with-storage file n e a v at x w);
-        storages = h .storages;
+        from = read-on _ x 3 lt (ap (after (networkAt file n e a v) file at) q) ∙ ap (λ (net : Network). readRecords (h .left - 1) file (record { network = net; at = x; stage = 3 })) (with-virtual-storage file n e a v at x w);
+        virtualStorages = h .virtualStorages;
         stands = d ∙ ap (virtualStorageEnd file) (h .stands) ∙ sym (end-more (virtualStorageEnd file) v place);
         no-edges = λ l. absurd (omega (arith, l));
         no-aggregates = λ l. absurd (omega (arith, l));
-        no-storages = λ l. absurd (omega (arith, l));
+        no-virtual-storages = λ l. absurd (omega (arith, l));
         few-nodes = h .few-nodes;
         few-edges = h .few-edges;
         few-aggregates = h .few-aggregates;
-        few-storages = omega (arith, t .1);
+        few-virtual-storages = omega (arith, t .1);
         inside = t .3;
         nodes-pass = h .nodes-pass;
         edges-pass = h .edges-pass;
         aggregates-pass = h .aggregates-pass;
-        storages-pass = one-pass (λ i. checkVirtualStorage file n) (virtualStorageEnd file) v place at x (h .storages-pass) (h .stands) d (t .2);
+        virtual-storages-pass = one-pass (λ i. checkVirtualStorage file n) (virtualStorageEnd file) v place at x (h .virtual-storages-pass) (h .stands) d (t .2);
       }
 
   -- a refusal ends the scan
@@ -261,13 +261,13 @@ module _ (file : List ℕ) (at stage n e a v place : ℕ) (h : ScanInvariant fil
         few-nodes = h .few-nodes;
         few-edges = h .few-edges;
         few-aggregates = h .few-aggregates;
-        few-storages = h .few-storages;
-        fixed = subst (λ (y : ℕ). 20 * n + 6 * e ≤ y) (sym (h .storages)) f;
+        few-virtual-storages = h .few-virtual-storages;
+        fixed = subst (λ (y : ℕ). 20 * n + 6 * e ≤ y) (sym (h .virtualStorages)) f;
         inside = subst (λ (y : ℕ). place ≤ y) (sym (h .stands) ∙ w) g;
-        storages = h .storages;
+        virtualStorages = h .virtualStorages;
         ends = sym (h .stands) ∙ w;
         nodes-pass = h .nodes-pass;
         edges-pass = h .edges-pass;
         aggregates-pass = h .aggregates-pass;
-        storages-pass = h .storages-pass;
+        virtual-storages-pass = h .virtual-storages-pass;
       }

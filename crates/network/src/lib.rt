@@ -24,7 +24,7 @@ pub fn scan(s: &[u8]) -> Loaded
     let mut e: usize = 0;
     let mut a: usize = 0;
     let mut v: usize = 0;
-    let mut storages_at: usize = 0;
+    let mut virtual_storages_at: usize = 0;
     while at < s.len() {
         let t = network_record::check_record(s, at, stage, n, e, a, v);
         match t {
@@ -33,19 +33,19 @@ pub fn scan(s: &[u8]) -> Loaded
             }
             Record::Node(x) => {
                 at = x;
-                storages_at = x;
+                virtual_storages_at = x;
                 n += 1;
                 stage = 0;
             }
             Record::Edge(x) => {
                 at = x;
-                storages_at = x;
+                virtual_storages_at = x;
                 e += 1;
                 stage = 1;
             }
             Record::Aggregate(x) => {
                 at = x;
-                storages_at = x;
+                virtual_storages_at = x;
                 a += 1;
                 stage = 2;
             }
@@ -61,7 +61,7 @@ pub fn scan(s: &[u8]) -> Loaded
         edges: e,
         aggregates: a,
         virtual_storages: v,
-        virtual_storages_at: storages_at,
+        virtual_storages_at: virtual_storages_at,
     })
 }
 

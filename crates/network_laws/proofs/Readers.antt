@@ -63,10 +63,10 @@ module _ {A : Type 0} (item : A) (K : ℕ → Result (Read A)) (S : ℕ → Chec
     unfolding bits64 checkBound
     bound-then constant h = next-then (within file at 8) (constantFits constant) (le64 file at) 3 place (at + 8) h
 
-    pub factor-then : K (le64 file at) ≡ answer item (S (at + 8))
+    pub coefficient-then : K (le64 file at) ≡ answer item (S (at + 8))
         → (checked 3 place isSmall (bits64 file place 1 at) >>= K) ≡ answer item (checkThen (checkFactor file place at) S)
     unfolding bits64 checkFactor
-    factor-then h = next-then (within file at 8) isSmall (le64 file at) 3 place (at + 8) h
+    coefficient-then h = next-then (within file at 8) isSmall (le64 file at) 3 place (at + 8) h
 
 -- a byte in a group of fields, with T behind the group
 then-then : (f : Field) (S T : ℕ → Checked) → checkThen (fieldThen f S) T ≡ fieldThen f (λ x. checkThen (S x) T)

@@ -21,7 +21,7 @@ use Rattle.network_edge.specs.Edge.{edgeAt, pairAmong, badEdgeAt, checkEdge}
 use Rattle.network_aggregate.specs.AggregatedNode.{setAt, setEnd, aggregateAt, checkMember, checkSet, checkAggregate}
 use Rattle.network_virtual_storage.specs.VirtualStorage.{partAt, periodAt, virtualStorageAt, checkPart, checkDates, checkVirtualStorage}
 use Rattle.network_laws.specs.NetworkAt.{nodesAt, networkAt}
-use Rattle.network_laws.proofs.Readers.{answer, byte-then, byte-through, node-then, active-then, bound-then, factor-then, read-then}
+use Rattle.network_laws.proofs.Readers.{answer, byte-then, byte-through, node-then, active-then, bound-then, coefficient-then, read-then}
 use Rattle.network_laws.proofs.Passed.{member-end, set-end, part-end}
 
 -- the last reader of a record: the item is made of what it read
@@ -108,7 +108,7 @@ module _ (file : List ℕ) where
         let rest : Read Part → Result (Read (List Part)) = λ r. readParts file place nodes count (soFar ++ (r .item ∷ [])) (r .next) in
         bind-cong node _ _ (λ n. sym (bind-assoc factor (part n) rest))
         ∙ sym (bind-assoc node (λ n. factor >>= part n) rest)
-        ∙ ap (λ (read : Result (Read Part)). read >>= rest) (node-then _ _ _ file place at nodes (λ _. factor-then _ _ _ file place (at + 2) refl))
+        ∙ ap (λ (read : Result (Read Part)). read >>= rest) (node-then _ _ _ file place at nodes (λ _. coefficient-then _ _ _ file place (at + 2) refl))
 
     parts-law : (count : ℕ) (soFar : List Part) (at : ℕ)
         → readParts file place nodes count soFar at ≡ answer (soFar ++ recordsAt (partAt file) (λ at. at + 10) count at) (checkEach (checkPart file place nodes) count at)

@@ -15,14 +15,14 @@ pub record Sections (file : List ℕ) (n e a v place : ℕ) : Type 0 where
   pub few-nodes : n ≤ 256
   pub few-edges : e ≤ 512
   pub few-aggregates : a ≤ 64
-  pub few-storages : v ≤ 32
+  pub few-virtual-storages : v ≤ 32
   -- the sections stand one behind the other, and the last ends with the file
   pub fixed : 20 * n + 6 * e ≤ place
   pub inside : place ≤ length file
-  pub storages : place ≡ aggregateStart file n e a
+  pub virtualStorages : place ≡ aggregateStart file n e a
   pub ends : recordsEnd (virtualStorageEnd file) v place ≡ length file
   -- every record passed
   pub nodes-pass : AllPass (λ i. checkNode file) (λ at. at + 20) n 0
   pub edges-pass : AllPass (checkEdge file n) (λ at. at + 6) e (20 * n)
   pub aggregates-pass : AllPass (λ i. checkAggregate file n) (aggregateEnd file) a (20 * n + 6 * e)
-  pub storages-pass : AllPass (λ i. checkVirtualStorage file n) (virtualStorageEnd file) v place
+  pub virtual-storages-pass : AllPass (λ i. checkVirtualStorage file n) (virtualStorageEnd file) v place

@@ -89,10 +89,10 @@ module _ (net : Network) (file : List ℕ) (at stage : ℕ) where
   aggregate-last (Checked.Next x) = refl
   aggregate-last (Checked.Refused n p) = refl
 
-  storage-last : (st : Checked) → ((answer (virtualStorageAt file at) st >>= λ r. value (withVirtualStorage net r)) >>= λ read. value (record { network = read .item; at = read .next; stage = 3 })) ≡ after net file at (recordOf 3 st)
+  virtual-storage-last : (st : Checked) → ((answer (virtualStorageAt file at) st >>= λ r. value (withVirtualStorage net r)) >>= λ read. value (record { network = read .item; at = read .next; stage = 3 })) ≡ after net file at (recordOf 3 st)
   unfolding _>>=_ withVirtualStorage
-  storage-last (Checked.Next x) = refl
-  storage-last (Checked.Refused n p) = refl
+  virtual-storage-last (Checked.Next x) = refl
+  virtual-storage-last (Checked.Refused n p) = refl
 
 module _ (file : List ℕ) (at stage n e a v : ℕ) where
   abbrev here : Network
@@ -125,7 +125,7 @@ module _ (file : List ℕ) (at stage n e a v : ℕ) where
       in-order here file at stage VS _ _
       (rw (virtual-storage-count file n e a v)
       (room-then here file at stage (ltb v 32) VS (checkVirtualStorage file n at) _
-      (rw (virtual-storage-law file here at, node-count file n e a v) (storage-last here file at stage (checkVirtualStorage file n at)))))
+      (rw (virtual-storage-law file here at, node-count file n e a v) (virtual-storage-last here file at stage (checkVirtualStorage file n at)))))
 
   pub record-law : readRecord file (record { network = here; at = at; stage = stage }) ≡ after here file at (checkRecord file at n e a v stage)
   unfolding readRecord checkRecord

@@ -6,7 +6,7 @@ ghost use mathlib.Core.Path.{_≡_};
 ghost use lib.ListN.{length};
 ghost use Rattle.pywr.specs.Cases.{blank};
 ghost use Rattle.listing.specs.Listing.{programmeText};
-ghost use Rattle.program_store.specs.Held.{storeOf, Built, Stepped, answerText};
+ghost use Rattle.program_store.specs.ProgramStore.{storeOf, Built, Stepped, answerText};
 
 pub struct Runs {
     pub col_lower: [f64; 640],

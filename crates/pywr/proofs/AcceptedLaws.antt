@@ -21,9 +21,9 @@ use Rattle.pywr.specs.Build.{assemble, programmeOf}
 use Rattle.pywr.specs.StepFile.{StepFile, readStep}
 use Rattle.pywr.specs.StepIntervals.{intervals, Intervals, ordered}
 use Rattle.pywr.specs.Step.{periods, stepped}
-use Rattle.pywr.specs.Store.{Store, storeHasRoom, sentinelCode, nodeCount, edgeCount, nodeRowCount, aggregateCount, storageCount, rowCount, nodesAt, edgesAt, nodeRowsAt, aggregatesAt, storagesAt, nodeEntry, edgeEntry, nodeRowEntry, storageEntry, shapeOf, startOf, columnsOfRow, programmeIn}
-use Rattle.pywr.specs.Misshapen.{countsFit, startsRise, rowColumnsRise, nodeFits, edgeFits, nodeRowFits, aggregateFits, storageFits, allEntries, wellShaped}
-use Rattle.pywr.specs.Written.{nodeWords, edgeWords, nodeRowWords, storageWords, countWords, shapeAfter, startsFrom, columnsIn, factorsIn, lowerOf, upperOf, rowsOf, builtStore, steppedStore}
+use Rattle.pywr.specs.Store.{Store, storeHasRoom, sentinelCode, nodeCount, edgeCount, nodeRowCount, aggregateCount, virtualStorageCount, rowCount, nodesAt, edgesAt, nodeRowsAt, aggregatesAt, virtualStoragesAt, nodeEntry, edgeEntry, nodeRowEntry, virtualStorageEntry, shapeOf, startOf, columnsOfRow, programmeIn}
+use Rattle.pywr.specs.Misshapen.{countsFit, startsRise, rowColumnsRise, nodeFits, edgeFits, nodeRowFits, aggregateFits, virtualStorageFits, allEntries, wellShaped}
+use Rattle.pywr.specs.Written.{nodeWords, edgeWords, nodeRowWords, virtualStorageWords, countWords, shapeAfter, startsFrom, columnsIn, valuesIn, lowerOf, upperOf, rowsOf, builtStore, steppedStore}
 use Rattle.pywr.specs.Calls.{buildAnswer, buildStore, workNeeded, stepRoom, stepRead, stepIntervals, stepAnswer, storeOfStep, stepStore, isAccepted, rowAnswer}
 use Rattle.pywr.specs.Correspondence.{Call, storeAfter, periodsOf, readBy}
 use Rattle.pywr.proofs.ReadLaws.{Sound, read-sound}
@@ -38,7 +38,7 @@ starts-same s p r zero = refl
 starts-same s p r (suc n) = ap (λ (x : Bool). leb (startOf s r) (startOf s (r + 1)) && x) (starts-same s p (r + 1) n)
 
 shaped-same : (s : Store) (p : Programme) → wellShaped (steppedStore s p) ≡ wellShaped s
-unfolding wellShaped steppedStore countsFit rowColumnsRise nodeFits edgeFits nodeRowFits aggregateFits storageFits columnsOfRow
+unfolding wellShaped steppedStore countsFit rowColumnsRise nodeFits edgeFits nodeRowFits aggregateFits virtualStorageFits columnsOfRow
 shaped-same s p =
     ap (λ (x : Bool).
     countsFit s
@@ -49,11 +49,11 @@ shaped-same s p =
     && allEntries (edgeFits s) 3 edgesAt (edgeCount s)
     && allEntries (nodeRowFits s) 4 nodeRowsAt (nodeRowCount s)
     && allEntries (aggregateFits s) 1 aggregatesAt (aggregateCount s)
-    && allEntries (storageFits s) 6 storagesAt (storageCount s))
+    && allEntries (virtualStorageFits s) 6 virtualStoragesAt (virtualStorageCount s))
     (starts-same s p 0 (rowCount s))
 
 shape-same : (s : Store) (p : Programme) → shapeOf (steppedStore s p) ≡ shapeOf s
-unfolding shapeOf steppedStore nodeEntry edgeEntry nodeRowEntry storageEntry
+unfolding shapeOf steppedStore nodeEntry edgeEntry nodeRowEntry virtualStorageEntry
 shape-same s p = refl
 
 sentinel-same : (s : Store) (p : Programme) → programmeIn (steppedStore s p) .sentinel ≡ programmeIn s .sentinel
@@ -66,7 +66,7 @@ room-same s p =
     let c = length-sets (s .colObjCoef) 0 (map (λ (x : Column). x .cost) (p .columns)) in
     let l = length-sets (s .rowLower) 0 (map lowerOf (p .varying)) in
     let u = length-sets (s .rowUpper) 0 (map upperOf (p .varying)) in
-    let e = length-sets (s .elements) 0 (flatMap factorsIn (p .varying)) in
+    let e = length-sets (s .elements) 0 (flatMap valuesIn (p .varying)) in
     λ k.
     leb 640 (length (s .colLower))
     && leb 640 (length (s .colUpper))
@@ -144,7 +144,7 @@ shape-long old b =
     let edges : List ℕ = sets nodes edgesAt (flatMap edgeWords (b .shape .mappedEdges)) in
     let nodeRows : List ℕ = sets edges nodeRowsAt (flatMap nodeRowWords (b .shape .nodeRows)) in
     let groups : List ℕ = sets nodeRows aggregatesAt (b .shape .aggregates) in
-    length-sets groups storagesAt (flatMap storageWords (b .shape .virtualStorages))
+    length-sets groups virtualStoragesAt (flatMap virtualStorageWords (b .shape .virtualStorages))
     ∙ length-sets nodeRows aggregatesAt (b .shape .aggregates)
     ∙ length-sets edges nodeRowsAt (flatMap nodeRowWords (b .shape .nodeRows))
     ∙ length-sets nodes edgesAt (flatMap edgeWords (b .shape .mappedEdges))
@@ -161,7 +161,7 @@ built-room old b =
     let cc′ = length-sets (old .colObjCoef) 0 (map (λ (c : Column). c .cost) (p .columns)) in
     let rl = length-sets (old .rowLower) 0 (map lowerOf rows) in
     let ru = length-sets (old .rowUpper) 0 (map upperOf rows) in
-    let el = length-sets (old .elements) 0 (flatMap factorsIn rows) in
+    let el = length-sets (old .elements) 0 (flatMap valuesIn rows) in
     let co = length-sets (old .columns) 0 (flatMap columnsIn rows) in
     let st = length-sets (old .rowStarts) 0 (startsFrom 0 rows) in
     let sh = shape-long (old .shape) b in

@@ -16,51 +16,51 @@ use Rattle.pywr.specs.Rows.{Element, element}
 use Rattle.pywr.specs.Programme.{Row, RowType, continuous, binaryUpper, binaryLower, NodeRow, Shape}
 use Rattle.pywr.specs.Interval.{sentinels}
 use Rattle.pywr.specs.StepIntervals.{Intervals}
-use Rattle.pywr.specs.Step.{adjust, bounded, applyRowBounds, setFactor, withFactor, applyInterval, applyNodeRows, applyIntervals, rowOf, stepRows}
+use Rattle.pywr.specs.Step.{adjust, bounded, applyRowBounds, setCoefficient, withCoefficient, applyInterval, applyNodeRows, applyIntervals, rowOf, stepRows}
 use Rattle.pywr.specs.Written.{columnsIn}
 use Rattle.pywr.proofs.Represents.{SameColumns}
 use Rattle.pywr.proofs.ListLaws.{AllMem}
 
 -- ---- one coefficient after another
 
-factor-again : (c : ℕ) (x y : Float) (es : List Element) → setFactor c x (setFactor c y es) ≡ setFactor c x es
-unfolding setFactor
-factor-again c x y [] = refl
-factor-again c x y (e ∷ es) = go (eqb (e .column) c) refl (factor-again c x y es)
+coefficient-again : (c : ℕ) (x y : Float) (es : List Element) → setCoefficient c x (setCoefficient c y es) ≡ setCoefficient c x es
+unfolding setCoefficient
+coefficient-again c x y [] = refl
+coefficient-again c x y (e ∷ es) = go (eqb (e .column) c) refl (coefficient-again c x y es)
   where
-    go : (b : Bool) → eqb (e .column) c ≡ b → setFactor c x (setFactor c y es) ≡ setFactor c x es
-        → setFactor c x (cond b (element c y ∷ es) (e ∷ setFactor c y es)) ≡ cond b (element c x ∷ es) (e ∷ setFactor c x es)
-    go true q ih = ap (λ (b : Bool). cond b (element c x ∷ es) (element c y ∷ setFactor c x es)) (to-true (eqb c c) (eqb-refl c))
-    go false q ih = ap (λ (b : Bool). cond b (element c x ∷ setFactor c y es) (e ∷ setFactor c x (setFactor c y es))) q ∙ ap (λ (l : List Element). e ∷ l) ih
+    go : (b : Bool) → eqb (e .column) c ≡ b → setCoefficient c x (setCoefficient c y es) ≡ setCoefficient c x es
+        → setCoefficient c x (cond b (element c y ∷ es) (e ∷ setCoefficient c y es)) ≡ cond b (element c x ∷ es) (e ∷ setCoefficient c x es)
+    go true q ih = ap (λ (b : Bool). cond b (element c x ∷ es) (element c y ∷ setCoefficient c x es)) (to-true (eqb c c) (eqb-refl c))
+    go false q ih = ap (λ (b : Bool). cond b (element c x ∷ setCoefficient c y es) (e ∷ setCoefficient c x (setCoefficient c y es))) q ∙ ap (λ (l : List Element). e ∷ l) ih
 
-factors-apart : (c d : ℕ) (x y : Float) (es : List Element) → eqb c d ≡ false → eqb d c ≡ false → setFactor c x (setFactor d y es) ≡ setFactor d y (setFactor c x es)
-unfolding setFactor
-factors-apart c d x y [] n m = refl
-factors-apart c d x y (e ∷ es) n m = go (eqb (e .column) c) (eqb (e .column) d) refl refl (factors-apart c d x y es n m)
+values-apart : (c d : ℕ) (x y : Float) (es : List Element) → eqb c d ≡ false → eqb d c ≡ false → setCoefficient c x (setCoefficient d y es) ≡ setCoefficient d y (setCoefficient c x es)
+unfolding setCoefficient
+values-apart c d x y [] n m = refl
+values-apart c d x y (e ∷ es) n m = go (eqb (e .column) c) (eqb (e .column) d) refl refl (values-apart c d x y es n m)
   where
-    go : (a b : Bool) → eqb (e .column) c ≡ a → eqb (e .column) d ≡ b → setFactor c x (setFactor d y es) ≡ setFactor d y (setFactor c x es)
-        → setFactor c x (cond b (element d y ∷ es) (e ∷ setFactor d y es)) ≡ setFactor d y (cond a (element c x ∷ es) (e ∷ setFactor c x es))
+    go : (a b : Bool) → eqb (e .column) c ≡ a → eqb (e .column) d ≡ b → setCoefficient c x (setCoefficient d y es) ≡ setCoefficient d y (setCoefficient c x es)
+        → setCoefficient c x (cond b (element d y ∷ es) (e ∷ setCoefficient d y es)) ≡ setCoefficient d y (cond a (element c x ∷ es) (e ∷ setCoefficient c x es))
     go true true p q ih =
         let same : c ≡ d = sym (eqb→eq (e .column) c (of-true _ p)) ∙ eqb→eq (e .column) d (of-true _ q) in
         absurd (subst (λ (b : Bool). T b) n (subst (λ (k : ℕ). T (eqb c k)) same (eqb-refl c)))
     go true false p q ih =
-        ap (λ (b : Bool). cond b (element c x ∷ setFactor d y es) (e ∷ setFactor c x (setFactor d y es))) p
-        ∙ ap (λ (b : Bool). cond b (element d y ∷ es) (element c x ∷ setFactor d y es)) (sym n)
+        ap (λ (b : Bool). cond b (element c x ∷ setCoefficient d y es) (e ∷ setCoefficient c x (setCoefficient d y es))) p
+        ∙ ap (λ (b : Bool). cond b (element d y ∷ es) (element c x ∷ setCoefficient d y es)) (sym n)
     go false true p q ih =
-        ap (λ (b : Bool). cond b (element c x ∷ es) (element d y ∷ setFactor c x es)) m
-        ∙ ap (λ (b : Bool). cond b (element d y ∷ setFactor c x es) (e ∷ setFactor d y (setFactor c x es))) (sym q)
+        ap (λ (b : Bool). cond b (element c x ∷ es) (element d y ∷ setCoefficient c x es)) m
+        ∙ ap (λ (b : Bool). cond b (element d y ∷ setCoefficient c x es) (e ∷ setCoefficient d y (setCoefficient c x es))) (sym q)
     go false false p q ih =
-        ap (λ (b : Bool). cond b (element c x ∷ setFactor d y es) (e ∷ setFactor c x (setFactor d y es))) p
+        ap (λ (b : Bool). cond b (element c x ∷ setCoefficient d y es) (e ∷ setCoefficient c x (setCoefficient d y es))) p
         ∙ ap (λ (l : List Element). e ∷ l) ih
-        ∙ ap (λ (b : Bool). cond b (element d y ∷ setFactor c x es) (e ∷ setFactor d y (setFactor c x es))) (sym q)
+        ∙ ap (λ (b : Bool). cond b (element d y ∷ setCoefficient c x es) (e ∷ setCoefficient d y (setCoefficient c x es))) (sym q)
 
-factor-columns : (c : ℕ) (x : Float) (es : List Element) → map (λ (z : Element). z .column) (setFactor c x es) ≡ map (λ (z : Element). z .column) es
-unfolding setFactor
-factor-columns c x [] = refl
-factor-columns c x (e ∷ es) = go (eqb (e .column) c) refl (factor-columns c x es)
+coefficient-columns : (c : ℕ) (x : Float) (es : List Element) → map (λ (z : Element). z .column) (setCoefficient c x es) ≡ map (λ (z : Element). z .column) es
+unfolding setCoefficient
+coefficient-columns c x [] = refl
+coefficient-columns c x (e ∷ es) = go (eqb (e .column) c) refl (coefficient-columns c x es)
   where
-    go : (b : Bool) → eqb (e .column) c ≡ b → map (λ (z : Element). z .column) (setFactor c x es) ≡ map (λ (z : Element). z .column) es
-        → map (λ (z : Element). z .column) (cond b (element c x ∷ es) (e ∷ setFactor c x es)) ≡ e .column ∷ map (λ (z : Element). z .column) es
+    go : (b : Bool) → eqb (e .column) c ≡ b → map (λ (z : Element). z .column) (setCoefficient c x es) ≡ map (λ (z : Element). z .column) es
+        → map (λ (z : Element). z .column) (cond b (element c x ∷ es) (e ∷ setCoefficient c x es)) ≡ e .column ∷ map (λ (z : Element). z .column) es
     go true q ih = ap (λ (k : ℕ). k ∷ map (λ (z : Element). z .column) es) (sym (eqb→eq (e .column) c (of-true _ q)))
     go false q ih = ap (λ (l : List ℕ). e .column ∷ l) ih
 
@@ -94,47 +94,47 @@ binary continuous = false
 binary binaryUpper = true
 binary binaryLower = true
 
-factors-again : (c : ℕ) (x y : Float) (r : Row) → withFactor c x (withFactor c y r) ≡ withFactor c x r
-unfolding withFactor
-factors-again c x y r = ap (λ (l : List Element). record { lower = r .lower; upper = r .upper; elements = l }) (factor-again c x y (r .elements))
+values-again : (c : ℕ) (x y : Float) (r : Row) → withCoefficient c x (withCoefficient c y r) ≡ withCoefficient c x r
+unfolding withCoefficient
+values-again c x y r = ap (λ (l : List Element). record { lower = r .lower; upper = r .upper; elements = l }) (coefficient-again c x y (r .elements))
 
-factors-past : (c d : ℕ) (x y : Float) (r : Row) → ¬ (c ≡ d) → withFactor c x (withFactor d y r) ≡ withFactor d y (withFactor c x r)
-unfolding withFactor
-factors-past c d x y r n =
+values-past : (c d : ℕ) (x y : Float) (r : Row) → ¬ (c ≡ d) → withCoefficient c x (withCoefficient d y r) ≡ withCoefficient d y (withCoefficient c x r)
+unfolding withCoefficient
+values-past c d x y r n =
     ap (λ (l : List Element). record { lower = r .lower; upper = r .upper; elements = l })
-    (factors-apart c d x y (r .elements) (to-false (eqb c d) (λ t. n (eqb→eq c d t))) (to-false (eqb d c) (λ t. n (sym (eqb→eq d c t)))))
+    (values-apart c d x y (r .elements) (to-false (eqb c d) (λ t. n (eqb→eq c d t))) (to-false (eqb d c) (λ t. n (sym (eqb→eq d c t)))))
   where
     to-false : (b : Bool) → ¬ T b → b ≡ false
     to-false true h = absurd (h tt)
     to-false false h = refl
 
 -- an assignment forgets one to the same coefficient
-assign-again : (t : RowType) (c : ℕ) (i : Interval) (y : Float) → T (binary t) → (r : Row) → applyInterval t c i (withFactor c y r) ≡ applyInterval t c i r
+assign-again : (t : RowType) (c : ℕ) (i : Interval) (y : Float) → T (binary t) → (r : Row) → applyInterval t c i (withCoefficient c y r) ≡ applyInterval t c i r
 unfolding binary applyInterval
 assign-again continuous c i y h r = absurd h
-assign-again binaryUpper c i y h r = factors-again c _ y r
-assign-again binaryLower c i y h r = factors-again c _ y r
+assign-again binaryUpper c i y h r = values-again c _ y r
+assign-again binaryLower c i y h r = values-again c _ y r
 
 -- what comes after an assignment forgets it, or could as well come before it
 abbrev Either : {A : Type 0} → (A → A) → (A → A) → Type 0
 Either {A} g h = ((x : A) → g (h x) ≡ g x) ⊎ ((x : A) → g (h x) ≡ h (g x))
 
-bounds-past : (by : Interval) (d : ℕ) (y : Float) (r : Row) → applyRowBounds by (withFactor d y r) ≡ withFactor d y (applyRowBounds by r)
-unfolding applyRowBounds bounded withFactor
+bounds-past : (by : Interval) (d : ℕ) (y : Float) (r : Row) → applyRowBounds by (withCoefficient d y r) ≡ withCoefficient d y (applyRowBounds by r)
+unfolding applyRowBounds bounded withCoefficient
 bounds-past by d y r = refl
 
-factor-either : (c d : ℕ) (x y : Float) → Either (withFactor c x) (withFactor d y)
-factor-either c d x y = go (ℕ-discrete c d)
+coefficient-either : (c d : ℕ) (x y : Float) → Either (withCoefficient c x) (withCoefficient d y)
+coefficient-either c d x y = go (ℕ-discrete c d)
   where
-    go : Dec (c ≡ d) → Either (withFactor c x) (withFactor d y)
-    go (yes e) = inl (λ r. subst (λ (k : ℕ). withFactor c x (withFactor k y r) ≡ withFactor c x r) e (factors-again c x y r))
-    go (no n) = inr (λ r. factors-past c d x y r n)
+    go : Dec (c ≡ d) → Either (withCoefficient c x) (withCoefficient d y)
+    go (yes e) = inl (λ r. subst (λ (k : ℕ). withCoefficient c x (withCoefficient k y r) ≡ withCoefficient c x r) e (values-again c x y r))
+    go (no n) = inr (λ r. values-past c d x y r n)
 
-assign-either : (t : RowType) (c d : ℕ) (i : Interval) (y : Float) → Either (applyInterval t c i) (withFactor d y)
+assign-either : (t : RowType) (c d : ℕ) (i : Interval) (y : Float) → Either (applyInterval t c i) (withCoefficient d y)
 unfolding applyInterval
 assign-either continuous c d i y = inr (bounds-past i d y)
-assign-either binaryUpper c d i y = factor-either c d _ y
-assign-either binaryLower c d i y = factor-either c d _ y
+assign-either binaryUpper c d i y = coefficient-either c d _ y
+assign-either binaryLower c d i y = coefficient-either c d _ y
 
 rows-either : (g h : Row → Row) (r q : ℕ) → Either g h → Either (adjust g r) (adjust h q)
 rows-either g h r q e = go (ℕ-discrete r q) e
@@ -153,18 +153,18 @@ module _ (w : Sentinel) (e : ℕ) (is : List Interval) where
 
   -- the step that follows assigns what was assigned at one of its node rows
   node-rows-forget : (n : NodeRow) (y : Float) → T (binary (n .rowType)) → (ns : List NodeRow) → List·Memᴰ n ns → (rows : List Row)
-      → applyNodeRows w e is ns (adjust (withFactor (e + n .set) y) (n .row) rows) ≡ applyNodeRows w e is ns rows
+      → applyNodeRows w e is ns (adjust (withCoefficient (e + n .set) y) (n .row) rows) ≡ applyNodeRows w e is ns rows
   unfolding applyNodeRows
   node-rows-forget n y b (m ∷ ns) (List·Memᴰ·head same) rows =
       ap (applyNodeRows w e is ns)
-      (subst (λ (k : NodeRow). adjust (byNode k) (k .row) (adjust (withFactor (e + n .set) y) (n .row) rows) ≡ adjust (byNode k) (k .row) rows) same
-      (adjust-twice (byNode n) (withFactor (e + n .set) y) (n .row) rows
-      ∙ adjust-alike (λ r. byNode n (withFactor (e + n .set) y r)) (byNode n) (assign-again (n .rowType) (e + n .set) (getD is (n .node) (sentinels w)) y b) (n .row) rows))
+      (subst (λ (k : NodeRow). adjust (byNode k) (k .row) (adjust (withCoefficient (e + n .set) y) (n .row) rows) ≡ adjust (byNode k) (k .row) rows) same
+      (adjust-twice (byNode n) (withCoefficient (e + n .set) y) (n .row) rows
+      ∙ adjust-alike (λ r. byNode n (withCoefficient (e + n .set) y r)) (byNode n) (assign-again (n .rowType) (e + n .set) (getD is (n .node) (sentinels w)) y b) (n .row) rows))
   node-rows-forget n y b (m ∷ ns) (List·Memᴰ·tail k) rows =
-      go (rows-either (byNode m) (withFactor (e + n .set) y) (m .row) (n .row) (assign-either (m .rowType) (e + m .set) (e + n .set) (getD is (m .node) (sentinels w)) y)) (λ a. node-rows-forget n y b ns k a)
+      go (rows-either (byNode m) (withCoefficient (e + n .set) y) (m .row) (n .row) (assign-either (m .rowType) (e + m .set) (e + n .set) (getD is (m .node) (sentinels w)) y)) (λ a. node-rows-forget n y b ns k a)
     where
-      go : Either (adjust (byNode m) (m .row)) (adjust (withFactor (e + n .set) y) (n .row)) → ((a : List Row) → applyNodeRows w e is ns (adjust (withFactor (e + n .set) y) (n .row) a) ≡ applyNodeRows w e is ns a)
-          → applyNodeRows w e is ns (adjust (byNode m) (m .row) (adjust (withFactor (e + n .set) y) (n .row) rows)) ≡ applyNodeRows w e is ns (adjust (byNode m) (m .row) rows)
+      go : Either (adjust (byNode m) (m .row)) (adjust (withCoefficient (e + n .set) y) (n .row)) → ((a : List Row) → applyNodeRows w e is ns (adjust (withCoefficient (e + n .set) y) (n .row) a) ≡ applyNodeRows w e is ns a)
+          → applyNodeRows w e is ns (adjust (byNode m) (m .row) (adjust (withCoefficient (e + n .set) y) (n .row) rows)) ≡ applyNodeRows w e is ns (adjust (byNode m) (m .row) rows)
       go (inl q) ih = ap (applyNodeRows w e is ns) (q rows)
       go (inr q) ih = ap (applyNodeRows w e is ns) (q rows) ∙ ih (adjust (byNode m) (m .row) rows)
 
@@ -176,11 +176,11 @@ reset-bounds i by r [] = refl
 reset-bounds i by zero (x ∷ xs) = refl
 reset-bounds i by (suc r) (x ∷ xs) = ap (λ (l : List Row). bounded i x ∷ l) (reset-bounds i by r xs)
 
-reset-factor : (i : Interval) (c : ℕ) (y : Float) (r : ℕ) (rows : List Row) → map (bounded i) (adjust (withFactor c y) r rows) ≡ adjust (withFactor c y) r (map (bounded i) rows)
-unfolding adjust withFactor bounded
-reset-factor i c y r [] = refl
-reset-factor i c y zero (x ∷ xs) = refl
-reset-factor i c y (suc r) (x ∷ xs) = ap (λ (l : List Row). bounded i x ∷ l) (reset-factor i c y r xs)
+reset-coefficient : (i : Interval) (c : ℕ) (y : Float) (r : ℕ) (rows : List Row) → map (bounded i) (adjust (withCoefficient c y) r rows) ≡ adjust (withCoefficient c y) r (map (bounded i) rows)
+unfolding adjust withCoefficient bounded
+reset-coefficient i c y r [] = refl
+reset-coefficient i c y zero (x ∷ xs) = refl
+reset-coefficient i c y (suc r) (x ∷ xs) = ap (λ (l : List Row). bounded i x ∷ l) (reset-coefficient i c y r xs)
 
 reset-again : (i : Interval) (rows : List Row) → map (bounded i) (map (bounded i) rows) ≡ map (bounded i) rows
 unfolding bounded
@@ -201,9 +201,9 @@ module _ (w : Sentinel) (e : ℕ) (is js : List Interval) (ns : List NodeRow) wh
   unfolding applyInterval binary
   one-forgotten continuous n i q m rows = ap (applyNodeRows w e is ns) (reset-bounds (sentinels w) i (n .row) rows)
   one-forgotten binaryUpper n i q m rows =
-      ap (applyNodeRows w e is ns) (reset-factor (sentinels w) (e + n .set) _ (n .row) rows) ∙ node-rows-forget w e is n _ (subst (λ (t : RowType). T (binary t)) (sym q) tt) ns m _
+      ap (applyNodeRows w e is ns) (reset-coefficient (sentinels w) (e + n .set) _ (n .row) rows) ∙ node-rows-forget w e is n _ (subst (λ (t : RowType). T (binary t)) (sym q) tt) ns m _
   one-forgotten binaryLower n i q m rows =
-      ap (applyNodeRows w e is ns) (reset-factor (sentinels w) (e + n .set) _ (n .row) rows) ∙ node-rows-forget w e is n _ (subst (λ (t : RowType). T (binary t)) (sym q) tt) ns m _
+      ap (applyNodeRows w e is ns) (reset-coefficient (sentinels w) (e + n .set) _ (n .row) rows) ∙ node-rows-forget w e is n _ (subst (λ (t : RowType). T (binary t)) (sym q) tt) ns m _
 
   all-forgotten : (ms : List NodeRow) → AllMem (λ (n : NodeRow). List·Memᴰ n ns) ms → (rows : List Row) → again (applyNodeRows w e js ms rows) ≡ again rows
   unfolding applyNodeRows
@@ -242,10 +242,10 @@ unfolding columnsIn applyRowBounds bounded
 bounds-columns by x = refl
 
 interval-columns : (t : RowType) (c : ℕ) (i : Interval) (x : Row) → columnsIn (applyInterval t c i x) ≡ columnsIn x
-unfolding applyInterval columnsIn withFactor
+unfolding applyInterval columnsIn withCoefficient
 interval-columns continuous c i x = bounds-columns i x
-interval-columns binaryUpper c i x = factor-columns c _ (x .elements)
-interval-columns binaryLower c i x = factor-columns c _ (x .elements)
+interval-columns binaryUpper c i x = coefficient-columns c _ (x .elements)
+interval-columns binaryLower c i x = coefficient-columns c _ (x .elements)
 
 node-rows-columns : (w : Sentinel) (e : ℕ) (is : List Interval) (ns : List NodeRow) (rows : List Row) → SameColumns (applyNodeRows w e is ns rows) rows
 unfolding applyNodeRows

@@ -82,9 +82,9 @@ pipes-length (x ∷ xs) [] l = let z : suc (length xs) ≡ 0 = l in absurd (omeg
 pipes-length (x ∷ xs) (c ∷ cs) l = ap suc (pipes-length xs cs (let m : suc (length xs) ≡ suc (length cs) = l in omega arith))
 
 -- how many nodes the sets list
-unfoldable pub listings : List (List ℕ) → ℕ
-listings [] = 0
-listings (s ∷ ss) = length s + listings ss
+unfoldable pub memberships : List (List ℕ) → ℕ
+memberships [] = 0
+memberships (s ∷ ss) = length s + memberships ss
 
 -- each edge's column carries the edge's amount
 abbrev pub Carries : Network → Plan → Type 0
@@ -209,13 +209,13 @@ module _ (net : Network) (plan : Plan) (long : length (net .edges) ≡ length (c
       all-wider (b + share 1 + length ns * share 1) (b + suc (length ns) * share 1) (addNodes f ns (addNode f n one64 row)) (omega arith)
       (nodes-upto ns (b + share 1) (addNode f n one64 row) (node-upto n one64 1 one-upto b row us (omega arith)) (omega arith))
 
-  pub sets-sum : (ss : List (List ℕ)) (b : ℕ) (row : List Element) → AllUpto 0 b row → b + listings ss * share 1 < 2 ^ 53
+  pub sets-sum : (ss : List (List ℕ)) (b : ℕ) (row : List Element) → AllUpto 0 b row → b + memberships ss * share 1 < 2 ^ 53
       → rowSum f plan (addSetsOf f ss row) ≡ pos unit *ℤ setsAmount net plan ss +ℤ rowSum f plan row
-  unfolding addSetsOf setsAmount listings
+  unfolding addSetsOf setsAmount memberships
   sets-sum [] b row us h = sym (ap (λ (z : ℤ). z +ℤ rowSum f plan row) (*ℤ-zero (pos unit)) ∙ +ℤ-idl (rowSum f plan row))
   sets-sum (s ∷ ss) b row us h =
       let k : ℕ = share 1 in
-      let t : (length s + listings ss) * k ≡ length s * k + listings ss * k = add-mul (length s) (listings ss) k in
+      let t : (length s + memberships ss) * k ≡ length s * k + memberships ss * k = add-mul (length s) (memberships ss) k in
       let r : ℤ = rowSum f plan row in
       sets-sum ss (b + length s * k) (addNodes f s row) (nodes-upto s b row us (omega arith)) (omega arith)
       ∙ ap (λ (z : ℤ). pos unit *ℤ setsAmount net plan ss +ℤ z) (nodes-sum s b row us (omega arith))
@@ -242,13 +242,13 @@ module _ (net : Network) (plan : Plan) (long : length (net .edges) ≡ length (c
 
   -- ---- the rows
 
-  pub aggregate-sum : (a : Aggregate) → listings (a .sets) * share 1 < 2 ^ 53 → rowSum f plan (aggregateRow f a) ≡ scaled (setsAmount net plan (a .sets))
+  pub aggregate-sum : (a : Aggregate) → memberships (a .sets) * share 1 < 2 ^ 53 → rowSum f plan (aggregateRow f a) ≡ scaled (setsAmount net plan (a .sets))
   unfolding aggregateRow scaled rowSum
   aggregate-sum a h = sets-sum (a .sets) 0 [] AllUpto.none (omega arith) ∙ +ℤ-idr (pos unit *ℤ setsAmount net plan (a .sets)) ∙ *ℤ-comm (pos unit) (setsAmount net plan (a .sets))
 
-  pub storage-sum : {g : ℕ} (m : ℕ) (v : VirtualStorage) → Factors g m (v .parts) → length (v .parts) * share m < 2 ^ 53 → rowSum f plan (virtualStorageRow f v) ≡ partsAmount net plan (v .parts)
+  pub virtual-storage-sum : {g : ℕ} (m : ℕ) (v : VirtualStorage) → Factors g m (v .parts) → length (v .parts) * share m < 2 ^ 53 → rowSum f plan (virtualStorageRow f v) ≡ partsAmount net plan (v .parts)
   unfolding virtualStorageRow rowSum
-  storage-sum m v fs h = parts-sum m (v .parts) fs 0 [] AllUpto.none (omega arith) ∙ +ℤ-idr (partsAmount net plan (v .parts))
+  virtual-storage-sum m v fs h = parts-sum m (v .parts) fs 0 [] AllUpto.none (omega arith) ∙ +ℤ-idr (partsAmount net plan (v .parts))
 
   pub nodeRow-sum : (n : ℕ) → share 1 < 2 ^ 53 → rowSum f plan (nodeRow f n) ≡ scaled (nodeAmount net plan n)
   unfolding nodeRow scaled rowSum

@@ -1,4 +1,4 @@
--- At most 4,352 node rows: every listing of a node in a distinct set asks for two, and every other varying node for one. Assumes nothing.
+-- At most 4,352 node rows: every membership of a node in a distinct set asks for two, and every other varying node for one. Assumes nothing.
 use mathlib.Core.Path.{_≡_, refl, sym, ap₂, _∙_, subst}
 use Prim.Native.Nat.{ℕ, zero, suc, _+_, _*_, _<_, _≤_, zero-le}
 use native.Mathlib.Nat.{zero-add, le-refl}
@@ -10,17 +10,17 @@ use lib.Dec.{T, not-T, eqb, leb, eqb→eq, leb→le}
 use lib.Ieee.Fits.{and-l}
 use Rattle.laws.proofs.Tests.{cond-no, by-cases, cond-yes}
 use Rattle.pywr.specs.Network.{Node, Network, keepIf}
-use Rattle.pywr.specs.ExclusiveSets.{exclusiveSets, timesIn, setsListing}
+use Rattle.pywr.specs.ExclusiveSets.{exclusiveSets, timesIn, setsWithNode}
 use Rattle.pywr.specs.Rows.{ColumnMap, columnMap}
 use Rattle.pywr.specs.Programme.{Programme}
 use Rattle.pywr.specs.VaryingRows.{exclusiveRequests, requestsBySets, requestsFrom}
 use Rattle.pywr.specs.Build.{elementCount, underCeilings}
-use Rattle.pywr.proofs.AmountLaws.{listings}
+use Rattle.pywr.proofs.AmountLaws.{memberships}
 use Rattle.pywr.proofs.ListLaws.{AllMem}
-use Rattle.pywr.proofs.ListingLaws.{set-from}
+use Rattle.pywr.proofs.MembershipLaws.{set-from}
 use Rattle.pywr.proofs.ReadLaws.{SetOk, Good}
 use Rattle.pywr.proofs.FitLaws.{asksOf}
-use Rattle.pywr.proofs.StepMeets.{listings-few}
+use Rattle.pywr.proofs.StepMeets.{memberships-few}
 
 -- g a + .. + g (a + m - 1)
 unfoldable sumFrom : (ℕ → ℕ) → ℕ → ℕ → ℕ
@@ -82,22 +82,22 @@ times-total k a m (x ∷ xs) =
     let ih = times-total k a m xs in
     subst (λ (j : ℕ). j ≤ suc (length xs)) (sym e) (omega arith)
 
-listing-none : (n k : ℕ) → length (setsListing n k []) ≡ 0
-unfolding setsListing
-listing-none n k = refl
+membership-none : (n k : ℕ) → length (setsWithNode n k []) ≡ 0
+unfolding setsWithNode
+membership-none n k = refl
 
-listing-length : (n k : ℕ) (s : List ℕ) (ss : List (List ℕ)) → length (setsListing n k (s ∷ ss)) ≡ length (timesIn n k s) + length (setsListing n (suc k) ss)
-unfolding setsListing
-listing-length n k s ss = length-append (timesIn n k s) (setsListing n (suc k) ss)
+membership-length : (n k : ℕ) (s : List ℕ) (ss : List (List ℕ)) → length (setsWithNode n k (s ∷ ss)) ≡ length (timesIn n k s) + length (setsWithNode n (suc k) ss)
+unfolding setsWithNode
+membership-length n k s ss = length-append (timesIn n k s) (setsWithNode n (suc k) ss)
 
-listing-total : (k a m : ℕ) (ss : List (List ℕ)) → sumFrom (λ n. length (setsListing n k ss)) a m ≤ listings ss
-unfolding listings
-listing-total k a m [] = subst (λ (j : ℕ). j ≤ 0) (sym (sum-same (λ n. length (setsListing n k [])) (λ n. 0) (λ n. listing-none n k) a m ∙ sum-none a m)) zero-le
-listing-total k a m (s ∷ ss) =
-    let e = sum-same (λ n. length (setsListing n k (s ∷ ss))) (λ n. length (timesIn n k s) + length (setsListing n (suc k) ss)) (λ n. listing-length n k s ss) a m ∙ sum-two (λ n. length (timesIn n k s)) (λ n. length (setsListing n (suc k) ss)) a m in
+membership-total : (k a m : ℕ) (ss : List (List ℕ)) → sumFrom (λ n. length (setsWithNode n k ss)) a m ≤ memberships ss
+unfolding memberships
+membership-total k a m [] = subst (λ (j : ℕ). j ≤ 0) (sym (sum-same (λ n. length (setsWithNode n k [])) (λ n. 0) (λ n. membership-none n k) a m ∙ sum-none a m)) zero-le
+membership-total k a m (s ∷ ss) =
+    let e = sum-same (λ n. length (setsWithNode n k (s ∷ ss))) (λ n. length (timesIn n k s) + length (setsWithNode n (suc k) ss)) (λ n. membership-length n k s ss) a m ∙ sum-two (λ n. length (timesIn n k s)) (λ n. length (setsWithNode n (suc k) ss)) a m in
     let h = times-total k a m s in
-    let ih = listing-total (suc k) a m ss in
-    subst (λ (j : ℕ). j ≤ length s + listings ss) (sym e) (omega arith)
+    let ih = membership-total (suc k) a m ss in
+    subst (λ (j : ℕ). j ≤ length s + memberships ss) (sym e) (omega arith)
 
 exclusive-length : (f : ColumnMap) (n : ℕ) (ks : List ℕ) → length (exclusiveRequests f n ks) ≡ 2 * length ks
 unfolding exclusiveRequests
@@ -109,14 +109,14 @@ unfolding requestsBySets
 by-sets-few f n [] = le-refl 1
 by-sets-few f n (k ∷ ks) = let e = exclusive-length f n (k ∷ ks) in omega arith
 
-one-few : (f : ColumnMap) (n : ℕ) (x : Node) → length (asksOf f n x) ≤ 1 + 2 * length (setsListing n 0 (f .sets))
+one-few : (f : ColumnMap) (n : ℕ) (x : Node) → length (asksOf f n x) ≤ 1 + 2 * length (setsWithNode n 0 (f .sets))
 one-few f n x = go (x .constant)
   where
-    go : (b : Bool) → length (cond b [] (requestsBySets f n (setsListing n 0 (f .sets)))) ≤ 1 + 2 * length (setsListing n 0 (f .sets))
+    go : (b : Bool) → length (cond b [] (requestsBySets f n (setsWithNode n 0 (f .sets)))) ≤ 1 + 2 * length (setsWithNode n 0 (f .sets))
     go true = zero-le
-    go false = by-sets-few f n (setsListing n 0 (f .sets))
+    go false = by-sets-few f n (setsWithNode n 0 (f .sets))
 
-requests-total : (f : ColumnMap) (xs : List Node) (a : ℕ) → length (requestsFrom f a xs) ≤ length xs + 2 * sumFrom (λ n. length (setsListing n 0 (f .sets))) a (length xs)
+requests-total : (f : ColumnMap) (xs : List Node) (a : ℕ) → length (requestsFrom f a xs) ≤ length xs + 2 * sumFrom (λ n. length (setsWithNode n 0 (f .sets))) a (length xs)
 unfolding requestsFrom sumFrom
 requests-total f [] a = zero-le
 requests-total f (x ∷ xs) a =
@@ -138,7 +138,7 @@ pub requests-few : (net : Network) → Good net → length (exclusiveSets net) �
 unfolding columnMap
 requests-few net good h =
     let a = requests-total (columnMap net) (net .nodes) 0 in
-    let b = listing-total 0 0 (length (net .nodes)) (exclusiveSets net) in
-    let c = listings-few (length (net .nodes)) (exclusiveSets net) (sets-ok net good) in
+    let b = membership-total 0 0 (length (net .nodes)) (exclusiveSets net) in
+    let c = memberships-few (length (net .nodes)) (exclusiveSets net) (sets-ok net good) in
     let n = good .nodeCount in
     omega arith

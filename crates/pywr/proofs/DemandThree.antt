@@ -17,7 +17,7 @@ use Rattle.pywr.specs.Network.{Node, Period, VirtualStorage, Network, is
 use Rattle.pywr.specs.NetworkFile.{parseNetwork}
 use Rattle.pywr.specs.Rows.{columnMap}
 use Rattle.pywr.specs.Programme.{Programme, Built}
-use Rattle.pywr.specs.Build.{nodeShape, placedStorages, assemble, programmeOf, underCeilings, build}
+use Rattle.pywr.specs.Build.{nodeShape, placedVirtualStorages, assemble, programmeOf, underCeilings, build}
 use Rattle.pywr.specs.StepFile.{StepFile, readStep}
 use Rattle.pywr.specs.StepIntervals.{intervals, Intervals}
 use Rattle.pywr.specs.Step.{periodOf, stepRows, periods, stepped}
@@ -33,7 +33,7 @@ use Rattle.pywr.proofs.RunLaws.{stepped-lowers, stepped-uppers, after, 
 use Rattle.pywr.proofs.ListLaws.{all-at}
 use Rattle.pywr.proofs.ReadLaws.{same-value, need-test, Sound, read-sound}
 use Rattle.pywr.proofs.StepReadLaws.{StepSound, step-sound, IntervalsOk, intervals-sound}
-use Rattle.pywr.proofs.FitLaws.{OnlyConstant, aggregates-length, forStorages, lengthV}
+use Rattle.pywr.proofs.FitLaws.{OnlyConstant, aggregates-length, forVirtualStorages, lengthV}
 use Rattle.pywr.proofs.StepMeets.{step-meets}
 use Rattle.pywr.proofs.WellShaped.{held}
 
@@ -127,29 +127,29 @@ last-some (t ∷ ts) o h = go (t .accepted) h (λ k q. last-some ts k q)
 
 -- ---- both sides read the step file alike
 
-same-periods : (vs : List VirtualStorage) (ps : List ℕ) → length vs ≡ length ps → map periodOf (placedStorages vs ps) ≡ map (λ (v : VirtualStorage). v .period) vs
-unfolding placedStorages periodOf
+same-periods : (vs : List VirtualStorage) (ps : List ℕ) → length vs ≡ length ps → map periodOf (placedVirtualStorages vs ps) ≡ map (λ (v : VirtualStorage). v .period) vs
+unfolding placedVirtualStorages periodOf
 same-periods [] ps l = refl
 same-periods (v ∷ vs) [] l = let z : suc (length vs) ≡ 0 = l in absurd (omega arith)
 same-periods (v ∷ vs) (p ∷ ps) l = ap (λ (r : List Period). v .period ∷ r) (same-periods vs ps (let z : suc (length vs) ≡ suc (length ps) = l in omega arith))
 
 pub periods-are : (s : Sentinel) (net : Network) (plan : Plan) → periods (programmeOf s net .shape) ≡ periodsOf net
 unfolding periods periodsOf programmeOf assemble
-periods-are s net plan = same-periods (net .virtualStorages) (forStorages s net plan .places) (lengthV s net plan)
+periods-are s net plan = same-periods (net .virtualStorages) (forVirtualStorages s net plan .places) (lengthV s net plan)
 
 periods-length : (net : Network) → length (periodsOf net) ≡ length (net .virtualStorages)
 unfolding periodsOf
 periods-length net = length-map (net .virtualStorages) (λ (v : VirtualStorage). v .period)
 
-storages-length : (s : Sentinel) (net : Network) (plan : Plan) → length (programmeOf s net .shape .virtualStorages) ≡ length (net .virtualStorages)
+virtual-storages-length : (s : Sentinel) (net : Network) (plan : Plan) → length (programmeOf s net .shape .virtualStorages) ≡ length (net .virtualStorages)
 unfolding periods periodsOf
-storages-length s net plan =
+virtual-storages-length s net plan =
     sym (length-map (programmeOf s net .shape .virtualStorages) periodOf) ∙ ap length (periods-are s net plan) ∙ length-map (net .virtualStorages) (λ (v : VirtualStorage). v .period)
 
 pub read-alike : (s : Sentinel) (net : Network) (plan : Plan) (file : List ℕ)
     → readStep (programmeOf s net .shape .nodes) (length (programmeOf s net .shape .aggregates)) (length (programmeOf s net .shape .virtualStorages)) file ≡ readBy net file
 unfolding readBy programmeOf assemble
-read-alike s net plan file = ap₂ (λ (a v : ℕ). readStep (map nodeShape (net .nodes)) a v file) (aggregates-length s net plan) (storages-length s net plan)
+read-alike s net plan file = ap₂ (λ (a v : ℕ). readStep (map nodeShape (net .nodes)) a v file) (aggregates-length s net plan) (virtual-storages-length s net plan)
 
 -- ---- the statement
 

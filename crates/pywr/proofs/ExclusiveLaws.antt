@@ -29,7 +29,7 @@ pub coefficient-sum : (f : ColumnMap) (plan : Plan) (c : ℕ) (x : Float) → T 
 unfolding addElement insert rowSum
 coefficient-sum f plan c x h fx [] none = ap (λ (y : ℤ). y *ℤ pos (onColumn f plan c) +ℤ pos 0) (add-zero-exact x h fx)
 coefficient-sum f plan c x h fx (e ∷ es) (more l us) =
-    let a : ℤ = exact (e .factor) *ℤ pos (onColumn f plan (e .column)) in
+    let a : ℤ = exact (e .value) *ℤ pos (onColumn f plan (e .column)) in
     let b : ℤ = exact x *ℤ pos (onColumn f plan c) in
     ap (λ (o : Ordering). rowSum f plan (insert o c x e es (addElement c x es))) (over c (e .column) l)
     ∙ ap (λ (y : ℤ). a +ℤ y) (coefficient-sum f plan c x h fx es us)

@@ -17,12 +17,12 @@ use Rattle.pywr.specs.declared.Sentinel.{Sentinel}
 use Rattle.pywr.specs.Numbers.{one64}
 use Rattle.pywr.specs.Network.{output, storage, Node, Edge, Aggregate, Part, VirtualStorage, Network, kindOf, isExclusive}
 use Rattle.pywr.specs.ColEdgeMap.{columns, Columns, columnAt, put, putNew, addSimpleEdge, addEqualEdges, sharesWith, placeEdge, placeEdges, mappedEdges}
-use Rattle.pywr.specs.ExclusiveSets.{exclusiveSets, setsListing}
+use Rattle.pywr.specs.ExclusiveSets.{exclusiveSets, setsWithNode}
 use Rattle.pywr.specs.Rows.{Element, addOn, ColumnMap, columnMap, columnsInto, columnsOutOf, addNode, nodeRow, addNodes, addSetsOf, aggregateRow, addParts, virtualStorageRow, upperRow, lowerRow}
 use Rattle.pywr.specs.VariableRows.{addVariableRows, Joined}
 use Rattle.pywr.specs.Programme.{Row, Programme, continuous}
 use Rattle.pywr.specs.VaryingRows.{RowRequest, exclusiveRequests, requestsBySets, requestsFrom, freshRow}
-use Rattle.pywr.specs.Build.{edgeColumn, setColumn, allColumns, nodeShape, placedNodeRows, placedStorages, requestedRow, assemble, programmeOf, elementCount, underCeilings}
+use Rattle.pywr.specs.Build.{edgeColumn, setColumn, allColumns, nodeShape, placedNodeRows, placedVirtualStorages, requestedRow, assemble, programmeOf, elementCount, underCeilings}
 use Rattle.pywr.specs.Step.{rowOf}
 use Rattle.pywr.specs.Written.{integerColumns, rowsOf}
 use Rattle.pywr.specs.Plans.{Plan}
@@ -34,7 +34,7 @@ use Rattle.pywr.proofs.Represents.{ProgrammeFits}
 use Rattle.pywr.proofs.VaryingLaws.{Continuous, node-places}
 use Rattle.pywr.proofs.MassLaws.{Every}
 use Rattle.pywr.proofs.ListLaws.{each-of}
-use Rattle.pywr.proofs.ListingLaws.{unlisted}
+use Rattle.pywr.proofs.MembershipLaws.{unlisted}
 use Rattle.pywr.proofs.ReadLaws.{Good}
 
 -- ---- the columns' table: as long as the edges, and no more columns than edges
@@ -139,10 +139,10 @@ unfolding aggregateRow
 aggregates-fit f [] = RowsFit.none
 aggregates-fit f (x ∷ xs) = RowsFit.more (sets-fit f (x .sets) [] AllFit.none) (aggregates-fit f xs)
 
-storages-fit : (f : ColumnMap) (xs : List VirtualStorage) → RowsFit (map (virtualStorageRow f) xs)
+virtual-storages-fit : (f : ColumnMap) (xs : List VirtualStorage) → RowsFit (map (virtualStorageRow f) xs)
 unfolding virtualStorageRow
-storages-fit f [] = RowsFit.none
-storages-fit f (x ∷ xs) = RowsFit.more (parts-fit f (x .parts) [] AllFit.none) (storages-fit f xs)
+virtual-storages-fit f [] = RowsFit.none
+virtual-storages-fit f (x ∷ xs) = RowsFit.more (parts-fit f (x .parts) [] AllFit.none) (virtual-storages-fit f xs)
 
 -- the node rows: of each varying node that no set lists
 abbrev pub Plain : ColumnMap → ℕ → RowRequest → Type 0
@@ -164,7 +164,7 @@ by-sets-fit f n [] = (node-fit f n one64 [] AllFit.none, tt)
 by-sets-fit f n (k ∷ ks) = exclusive-fit f n (k ∷ ks)
 
 abbrev pub asksOf : ColumnMap → ℕ → Node → List RowRequest
-asksOf f n x = cond (x .constant) [] (requestsBySets f n (setsListing n 0 (f .sets)))
+asksOf f n x = cond (x .constant) [] (requestsBySets f n (setsWithNode n 0 (f .sets)))
 
 pub each-ask : (f : ColumnMap) (P : RowRequest → Type 0) (xs : List Node) (n : ℕ) → Every P (requestsFrom f n xs) ↔ ((i : ℕ) (x : Node) → getElem? xs i ≡ some x → Every P (asksOf f (n + i) x))
 unfolding requestsFrom
@@ -173,9 +173,9 @@ each-ask f P xs n = each-of P (asksOf f) (requestsFrom f) (λ m. refl) (λ m x l
 asked-fit : (f : ColumnMap) (xs : List Node) → RowsFit (map requestedRow (requestsFrom f 0 xs))
 asked-fit f xs = requests-fit f (requestsFrom f 0 xs) (each-ask f (λ (a : RowRequest). AllFit (a .row)) xs 0 .1 (λ i x e. go (x .constant) (0 + i)))
   where
-    go : (b : Bool) (n : ℕ) → Every (λ (a : RowRequest). AllFit (a .row)) (cond b [] (requestsBySets f n (setsListing n 0 (f .sets))))
+    go : (b : Bool) (n : ℕ) → Every (λ (a : RowRequest). AllFit (a .row)) (cond b [] (requestsBySets f n (setsWithNode n 0 (f .sets))))
     go true n = tt
-    go false n = by-sets-fit f n (setsListing n 0 (f .sets))
+    go false n = by-sets-fit f n (setsWithNode n 0 (f .sets))
 
 -- ---- no exclusive node varies: one continuous row for each varying node
 
@@ -191,10 +191,10 @@ module _ (net : Network) (only : OnlyConstant net) where
   unfolding requestsBySets columnMap
   varying-asks i x e t =
       let free : T (not (isExclusive (net .aggregates) i)) = not-T (isExclusive (net .aggregates) i) (λ u. T-not (x .constant) t (only i x e u)) in
-      ap (λ (b : Bool). cond b [] (requestsBySets (columnMap net) i (setsListing i 0 (exclusiveSets net)))) (to-false (x .constant) t) ∙ ap (requestsBySets (columnMap net) i) (unlisted net i free)
+      ap (λ (b : Bool). cond b [] (requestsBySets (columnMap net) i (setsWithNode i 0 (exclusiveSets net)))) (to-false (x .constant) t) ∙ ap (requestsBySets (columnMap net) i) (unlisted net i free)
 
   pub constant-asks : (i : ℕ) (x : Node) → T (x .constant) → asksOf f i x ≡ []
-  constant-asks i x t = ap (λ (b : Bool). cond b [] (requestsBySets (columnMap net) i (setsListing i 0 (columnMap net .sets)))) (to-true (x .constant) t)
+  constant-asks i x t = ap (λ (b : Bool). cond b [] (requestsBySets (columnMap net) i (setsWithNode i 0 (columnMap net .sets)))) (to-true (x .constant) t)
 
   by-flag : {X : Type 0} (b : Bool) → (T b → X) → (T (not b) → X) → X
   by-flag true y n = y tt
@@ -233,12 +233,12 @@ same-places [] (p ∷ ps) l = let z : 0 ≡ suc (length ps) = l in absurd (omega
 same-places (a ∷ requests) [] l = let z : suc (length requests) ≡ 0 = l in absurd (omega arith)
 same-places (a ∷ requests) (p ∷ ps) l = ap (λ (r : List ℕ). p ∷ r) (same-places requests ps (let z : suc (length requests) ≡ suc (length ps) = l in omega arith))
 
-pub same-storages : (vs : List VirtualStorage) (ps : List ℕ) → length vs ≡ length ps → map rowOf (placedStorages vs ps) ≡ ps
-unfolding placedStorages rowOf
-same-storages [] [] l = refl
-same-storages [] (p ∷ ps) l = let z : 0 ≡ suc (length ps) = l in absurd (omega arith)
-same-storages (v ∷ vs) [] l = let z : suc (length vs) ≡ 0 = l in absurd (omega arith)
-same-storages (v ∷ vs) (p ∷ ps) l = ap (λ (r : List ℕ). p ∷ r) (same-storages vs ps (let z : suc (length vs) ≡ suc (length ps) = l in omega arith))
+pub same-virtual-storages : (vs : List VirtualStorage) (ps : List ℕ) → length vs ≡ length ps → map rowOf (placedVirtualStorages vs ps) ≡ ps
+unfolding placedVirtualStorages rowOf
+same-virtual-storages [] [] l = refl
+same-virtual-storages [] (p ∷ ps) l = let z : 0 ≡ suc (length ps) = l in absurd (omega arith)
+same-virtual-storages (v ∷ vs) [] l = let z : suc (length vs) ≡ 0 = l in absurd (omega arith)
+same-virtual-storages (v ∷ vs) (p ∷ ps) l = ap (λ (r : List ℕ). p ∷ r) (same-virtual-storages vs ps (let z : suc (length vs) ≡ suc (length ps) = l in omega arith))
 
 pub elements-append : (v f : List Row) → elementCount (v ++ f) ≡ elementCount v + elementCount f
 unfolding elementCount
@@ -251,7 +251,7 @@ pub record Asked (w : Sentinel) (net : Network) (plan : Plan) (joined : List (Li
   pub varying : programmeOf w net .programme .varying ≡ map (freshRow w) joined
   pub nodes : Placed (columnMap net) plan joined (map requestedRow (requestsFrom (columnMap net) 0 (net .nodes))) (node-places (programmeOf w net .shape .nodeRows))
   pub aggregates : Placed (columnMap net) plan joined (map (aggregateRow (columnMap net)) (net .aggregates)) (programmeOf w net .shape .aggregates)
-  pub storages : Placed (columnMap net) plan joined (map (virtualStorageRow (columnMap net)) (net .virtualStorages)) (map rowOf (programmeOf w net .shape .virtualStorages))
+  pub virtualStorages : Placed (columnMap net) plan joined (map (virtualStorageRow (columnMap net)) (net .virtualStorages)) (map rowOf (programmeOf w net .shape .virtualStorages))
 
 module _ (w : Sentinel) (net : Network) (plan : Plan) where
   abbrev pub g : ColumnMap
@@ -266,8 +266,8 @@ module _ (w : Sentinel) (net : Network) (plan : Plan) where
   abbrev pub forAggregates : Joined
   forAggregates = addVariableRows (map (aggregateRow g) (net .aggregates)) (record { rows = forNodes .rows; places = [] })
 
-  abbrev pub forStorages : Joined
-  forStorages = addVariableRows (map (virtualStorageRow g) (net .virtualStorages)) (record { rows = forAggregates .rows; places = [] })
+  abbrev pub forVirtualStorages : Joined
+  forVirtualStorages = addVariableRows (map (virtualStorageRow g) (net .virtualStorages)) (record { rows = forAggregates .rows; places = [] })
 
   keptN : JoinKept g plan (map requestedRow requests) forNodes
   keptN = joins-kept g plan (map requestedRow requests) [] _ (asked-fit g (net .nodes)) (record { fit = RowsFit.none; placed = Placed.none })
@@ -275,8 +275,8 @@ module _ (w : Sentinel) (net : Network) (plan : Plan) where
   keptA : JoinKept g plan (map (aggregateRow g) (net .aggregates)) forAggregates
   keptA = joins-kept g plan (map (aggregateRow g) (net .aggregates)) [] _ (aggregates-fit g (net .aggregates)) (record { fit = keptN .fit; placed = Placed.none })
 
-  keptV : JoinKept g plan (map (virtualStorageRow g) (net .virtualStorages)) forStorages
-  keptV = joins-kept g plan (map (virtualStorageRow g) (net .virtualStorages)) [] _ (storages-fit g (net .virtualStorages)) (record { fit = keptA .fit; placed = Placed.none })
+  keptV : JoinKept g plan (map (virtualStorageRow g) (net .virtualStorages)) forVirtualStorages
+  keptV = joins-kept g plan (map (virtualStorageRow g) (net .virtualStorages)) [] _ (virtual-storages-fit g (net .virtualStorages)) (record { fit = keptA .fit; placed = Placed.none })
 
   pub lengthN : length requests ≡ length (forNodes .places)
   lengthN = sym (length-map requests requestedRow) ∙ placed-length g plan (forNodes .rows) (map requestedRow requests) (forNodes .places) (keptN .placed)
@@ -284,37 +284,37 @@ module _ (w : Sentinel) (net : Network) (plan : Plan) where
   pub lengthA : length (net .aggregates) ≡ length (forAggregates .places)
   lengthA = sym (length-map (net .aggregates) (aggregateRow g)) ∙ placed-length g plan (forAggregates .rows) _ (forAggregates .places) (keptA .placed)
 
-  pub lengthV : length (net .virtualStorages) ≡ length (forStorages .places)
-  lengthV = sym (length-map (net .virtualStorages) (virtualStorageRow g)) ∙ placed-length g plan (forStorages .rows) _ (forStorages .places) (keptV .placed)
+  pub lengthV : length (net .virtualStorages) ≡ length (forVirtualStorages .places)
+  lengthV = sym (length-map (net .virtualStorages) (virtualStorageRow g)) ∙ placed-length g plan (forVirtualStorages .rows) _ (forVirtualStorages .places) (keptV .placed)
 
   pub aggregates-length : length (programmeOf w net .shape .aggregates) ≡ length (net .aggregates)
   unfolding programmeOf assemble
   aggregates-length = sym lengthA
 
-  pub asked : Asked w net plan (forStorages .rows)
+  pub asked : Asked w net plan (forVirtualStorages .rows)
   unfolding programmeOf assemble
   asked =
       record {
         varying = refl;
         nodes =
-            subst (λ (ps : List ℕ). Placed g plan (forStorages .rows) (map requestedRow requests) ps) (sym (same-places requests (forNodes .places) lengthN))
+            subst (λ (ps : List ℕ). Placed g plan (forVirtualStorages .rows) (map requestedRow requests) ps) (sym (same-places requests (forNodes .places) lengthN))
             (placed-stays g plan (map requestedRow requests) (forNodes .places) (map (virtualStorageRow g) (net .virtualStorages)) (record { rows = forAggregates .rows; places = [] })
             (placed-stays g plan (map requestedRow requests) (forNodes .places) (map (aggregateRow g) (net .aggregates)) (record { rows = forNodes .rows; places = [] }) (keptN .placed)));
         aggregates =
             placed-stays g plan (map (aggregateRow g) (net .aggregates)) (forAggregates .places) (map (virtualStorageRow g) (net .virtualStorages)) (record { rows = forAggregates .rows; places = [] })
             (keptA .placed);
-        storages =
-            subst (λ (ps : List ℕ). Placed g plan (forStorages .rows) (map (virtualStorageRow g) (net .virtualStorages)) ps) (sym (same-storages (net .virtualStorages) (forStorages .places) lengthV))
+        virtualStorages =
+            subst (λ (ps : List ℕ). Placed g plan (forVirtualStorages .rows) (map (virtualStorageRow g) (net .virtualStorages)) ps) (sym (same-virtual-storages (net .virtualStorages) (forVirtualStorages .places) lengthV))
             (keptV .placed);
       }
 
 -- ---- the ceilings
 
-pub storages-few : (vs : List VirtualStorage) (ps : List ℕ) → length (placedStorages vs ps) ≤ length vs
-unfolding placedStorages
-storages-few [] ps = zero-le
-storages-few (v ∷ vs) [] = zero-le
-storages-few (v ∷ vs) (p ∷ ps) = suc-le-suc (storages-few vs ps)
+pub virtual-storages-few : (vs : List VirtualStorage) (ps : List ℕ) → length (placedVirtualStorages vs ps) ≤ length vs
+unfolding placedVirtualStorages
+virtual-storages-few [] ps = zero-le
+virtual-storages-few (v ∷ vs) [] = zero-le
+virtual-storages-few (v ∷ vs) (p ∷ ps) = suc-le-suc (virtual-storages-few vs ps)
 
 pub only-continuous : (w : Sentinel) (net : Network) → OnlyConstant net → Continuous (programmeOf w net .shape .nodeRows)
 unfolding programmeOf assemble
@@ -332,7 +332,7 @@ programme-fits w net plan good fewAsks under =
     let nn = good .nodeCount in
     let ne = good .edgeCount in
     let na = good .aggregateCount in
-    let nv = good .storageCount in
+    let nv = good .virtualStorageCount in
     let cc′ = columns-count w (columnMap net) in
     record {
       tables =
@@ -341,7 +341,7 @@ programme-fits w net plan good fewAsks under =
             mappedEdges = subst (λ (k : ℕ). k ≤ 512) (sym (pipes-length (net .edges) (columns net .of) (columns-long net))) ne;
             nodeRows = let h = placed-few (requestsFrom (columnMap net) 0 (net .nodes)) (forNodes w net plan .places) in le-trans h fewAsks;
             aggregates = subst (λ (k : ℕ). k ≤ 64) (sym (aggregates-length w net plan)) na;
-            virtualStorages = let h = storages-few (net .virtualStorages) (forStorages w net plan .places) in omega arith;
+            virtualStorages = let h = virtual-storages-few (net .virtualStorages) (forVirtualStorages w net plan .places) in omega arith;
           };
       columns = subst (λ (k : ℕ). k ≤ 640) (sym cc′) (omega arith);
       rows = let l = length-append (p .varying) (p .fixed) in omega arith;

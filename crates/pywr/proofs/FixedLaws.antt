@@ -21,7 +21,7 @@ use Rattle.pywr.specs.declared.Interval.{Interval}
 use Rattle.pywr.specs.Numbers.{double, zero64, one64, million, millionth, high, low, lesser, greater}
 use Rattle.pywr.specs.Network.{output, storage, Node, Aggregate, Network, kindOf, keepIf, isExclusive}
 use Rattle.pywr.specs.ColEdgeMap.{columns, MappedEdge, mappedEdges}
-use Rattle.pywr.specs.ExclusiveSets.{hasSet, exclusiveSets, setNumber, setsListing}
+use Rattle.pywr.specs.ExclusiveSets.{hasSet, exclusiveSets, setNumber, setsWithNode}
 use Rattle.pywr.specs.Rows.{Element, addElement, addOn, ColumnMap, columnMap, columnsWith, columnsInto, columnsOutOf, addNode, nodeRow, upperRow, lowerRow, addActive, exclusivityRow}
 use Rattle.pywr.specs.Programme.{Column, Row}
 use Rattle.pywr.specs.FixedRows.{upperCoefficient, lowerCoefficient, exclusiveRows, constantRows, constantRowsFrom, exclusivityRows}
@@ -37,7 +37,7 @@ use Rattle.pywr.proofs.MassLaws.{Every, every-append, Met}
 use Rattle.pywr.proofs.ExclusiveLaws.{Under, under-add, coefficient-sum}
 use Rattle.pywr.proofs.SetLaws.{set-column, Known, active-sum}
 use Rattle.pywr.proofs.ListLaws.{AllMem, all-none, all-cons, found-mem, each-of}
-use Rattle.pywr.proofs.ListingLaws.{exclusive-lists, exclusive-listed, listing-exclusive, from-known}
+use Rattle.pywr.proofs.MembershipLaws.{exclusive-lists, exclusive-listed, membership-exclusive, from-known}
 use Rattle.pywr.proofs.ReadLaws.{Sound}
 use Rattle.pywr.proofs.FitLaws.{columns-long}
 use Rattle.pywr.proofs.NumberLaws.{FiniteFit}
@@ -202,9 +202,9 @@ module _ (w : Sentinel) (net : Network) (sound : Sound net) (plan : Plan) (carri
 
   pub record ConstantMet (n : ℕ) (x : Node) : Type 0 where
     pub plain : T (not (isExclusive (net .aggregates) n)) → T (meets w (bounds x) (scaled (nodeAmount net plan n)))
-    pub exclusive : (k : ℕ) → List·Memᴰ k (setsListing n 0 (f .sets)) → Rule n k (bounds x)
+    pub exclusive : (k : ℕ) → List·Memᴰ k (setsWithNode n 0 (f .sets)) → Rule n k (bounds x)
 
-  constant-one : (n : ℕ) (x : Node) → getElem? (net .nodes) n ≡ some x → T (x .constant) → (l : List ℕ) → setsListing n 0 (f .sets) ≡ l → Every (Met w f plan) (constantRows w f n x l) ↔ ConstantMet n x
+  constant-one : (n : ℕ) (x : Node) → getElem? (net .nodes) n ≡ some x → T (x .constant) → (l : List ℕ) → setsWithNode n 0 (f .sets) ≡ l → Every (Met w f plan) (constantRows w f n x l) ↔ ConstantMet n x
   unfolding constantRows columnMap
   constant-one n x e t [] q =
       let free : T (not (isExclusive (net .aggregates) n)) = not-T (isExclusive (net .aggregates) n) (λ u. let r = exclusive-lists (net .aggregates) n u in List·Memᴰ·not-nil (subst (λ (l : List ℕ). List·Memᴰ (setNumber (r .0) (exclusiveSets net)) l) q (exclusive-listed net n (r .0) (r .1) (r .2)))) in
@@ -213,7 +213,7 @@ module _ (w : Sentinel) (net : Network) (sound : Sound net) (plan : Plan) (carri
         λ h. (subst (λ (v : ℤ). T (meets w (bounds x) v)) (sym s) (h .plain free), tt),
       )
   constant-one n x e t (k ∷ ks) q =
-      let u : T (isExclusive (net .aggregates) n) = listing-exclusive net n k (subst (λ (l : List ℕ). List·Memᴰ k l) (sym q) (List·Memᴰ·head refl)) in
+      let u : T (isExclusive (net .aggregates) n) = membership-exclusive net n k (subst (λ (l : List ℕ). List·Memᴰ k l) (sym q) (List·Memᴰ·head refl)) in
       let c = sound .coefficients n x e t u in
       let ok = sound .good .nodes x (found-mem (net .nodes) n x e) in
       let r = exclusive-met n x (upper-finite (x .max) (ok .most t) (c .most)) (lower-finite (x .min) (ok .least t) (c .least)) (k ∷ ks) in (
@@ -222,10 +222,10 @@ module _ (w : Sentinel) (net : Network) (sound : Sound net) (plan : Plan) (carri
       )
 
   abbrev constantOf : ℕ → Node → List Row
-  constantOf n x = cond (x .constant) (constantRows w f n x (setsListing n 0 (f .sets))) []
+  constantOf n x = cond (x .constant) (constantRows w f n x (setsWithNode n 0 (f .sets))) []
 
-  constant-part : (n : ℕ) (x : Node) → getElem? (net .nodes) n ≡ some x → (b : Bool) → x .constant ≡ b → Every (Met w f plan) (cond b (constantRows w f n x (setsListing n 0 (f .sets))) []) ↔ (T (x .constant) → ConstantMet n x)
-  constant-part n x e true q = let r = constant-one n x e (subst T (sym q) tt) (setsListing n 0 (f .sets)) refl in (λ h t. r .0 h, λ h. r .1 (h (subst T (sym q) tt)))
+  constant-part : (n : ℕ) (x : Node) → getElem? (net .nodes) n ≡ some x → (b : Bool) → x .constant ≡ b → Every (Met w f plan) (cond b (constantRows w f n x (setsWithNode n 0 (f .sets))) []) ↔ (T (x .constant) → ConstantMet n x)
+  constant-part n x e true q = let r = constant-one n x e (subst T (sym q) tt) (setsWithNode n 0 (f .sets)) refl in (λ h t. r .0 h, λ h. r .1 (h (subst T (sym q) tt)))
   constant-part n x e false q = (λ h t. absurd (subst T q t), λ h. tt)
 
   pub constant-met : Every (Met w f plan) (constantRowsFrom w f 0 (net .nodes)) ↔ ((n : ℕ) (x : Node) → getElem? (net .nodes) n ≡ some x → T (x .constant) → ConstantMet n x)

@@ -21,7 +21,7 @@ use Rattle.pywr.proofs.ExactLaws.{eq-exact}
 -- every factor is a double
 pub data AllFit : List Element → Type 0 where
   none : AllFit []
-  more : {e : Element} {es : List Element} → T (fits binary64 (e .factor)) → AllFit es → AllFit (e ∷ es)
+  more : {e : Element} {es : List Element} → T (fits binary64 (e .value)) → AllFit es → AllFit (e ∷ es)
 
 pub add-fit : (c : ℕ) (x : Float) (row : List Element) → AllFit row → AllFit (addElement c x row)
 unfolding addElement insert
@@ -30,7 +30,7 @@ add-fit c x (e ∷ es) (more h hs) = go (add-fit c x es hs) (compare c (e .colum
   where
     go : AllFit (addElement c x es) → (o : Ordering) → AllFit (insert o c x e es (addElement c x es))
     go ih Ordering·lt = more (add-fits binary64 _ x) (more h hs)
-    go ih Ordering·eq = more (add-fits binary64 (e .factor) x) hs
+    go ih Ordering·eq = more (add-fits binary64 (e .value) x) hs
     go ih Ordering·gt = more h ih
 
 pub add-on-fit : (cs : List ℕ) (x : Float) (row : List Element) → AllFit row → AllFit (addOn cs x row)
@@ -45,11 +45,11 @@ module _ (f : ColumnMap) (plan : Plan) where
   same-sum [] (y ∷ ys) fa fb h = absurd h
   same-sum (x ∷ xs) [] fa fb h = absurd h
   same-sum (x ∷ xs) (y ∷ ys) (more fx fa) (more fy fb) h =
-      let both : T (eqb (x .column) (y .column) && eq (x .factor) (y .factor)) = and-l (eqb (x .column) (y .column) && eq (x .factor) (y .factor)) (sameRow xs ys) h in
-      let c : x .column ≡ y .column = eqb→eq (x .column) (y .column) (and-l (eqb (x .column) (y .column)) (eq (x .factor) (y .factor)) both) in
-      let e : exact (x .factor) ≡ exact (y .factor) = eq-exact (x .factor) (y .factor) fx fy (and-r (eqb (x .column) (y .column)) (eq (x .factor) (y .factor)) both) in
+      let both : T (eqb (x .column) (y .column) && eq (x .value) (y .value)) = and-l (eqb (x .column) (y .column) && eq (x .value) (y .value)) (sameRow xs ys) h in
+      let c : x .column ≡ y .column = eqb→eq (x .column) (y .column) (and-l (eqb (x .column) (y .column)) (eq (x .value) (y .value)) both) in
+      let e : exact (x .value) ≡ exact (y .value) = eq-exact (x .value) (y .value) fx fy (and-r (eqb (x .column) (y .column)) (eq (x .value) (y .value)) both) in
       ap₂ (λ (u v : ℤ). u +ℤ v) (ap₂ (λ (u : ℤ) (k : ℕ). u *ℤ pos (onColumn f plan k)) e c)
-      (same-sum xs ys fa fb (and-r (eqb (x .column) (y .column) && eq (x .factor) (y .factor)) (sameRow xs ys) h))
+      (same-sum xs ys fa fb (and-r (eqb (x .column) (y .column) && eq (x .value) (y .value)) (sameRow xs ys) h))
 
 -- ---- places
 

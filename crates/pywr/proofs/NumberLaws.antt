@@ -77,9 +77,9 @@ volume-interval days a m d p q = record { lower = div-num binary64 (neg a) days 
 less-bound : (x y : Float) → FiniteFit x → FiniteFit y → IsBound (sub binary64 x y)
 less-bound x y p q = sub-num binary64 x y (p .fit) (q .fit) (p .finite) (q .finite)
 
-pub storage-interval : (days least most now : Float) → Divisor days → FiniteFit least → FiniteFit most → FiniteFit now → IsInterval (intervalOf days (storageBounds least most now))
+pub virtual-storage-interval : (days least most now : Float) → Divisor days → FiniteFit least → FiniteFit most → FiniteFit now → IsInterval (intervalOf days (storageBounds least most now))
 unfolding storageBounds
-storage-interval days least most now d l m n = volume-interval days (sub binary64 now least) (sub binary64 most now) d (less-bound now least n l) (less-bound most now m n)
+virtual-storage-interval days least most now d l m n = volume-interval days (sub binary64 now least) (sub binary64 most now) d (less-bound now least n l) (less-bound most now m n)
 
 raised-bound : (x : Float) → IsBound x → IsBound (greater x zero64)
 unfolding greater zero64

@@ -148,18 +148,18 @@ read-parts file place nodes (suc count) soFar at r e h =
     let l = length-append soFar (p ∷ []) in
     (ih .0, ih .1 ∙ (let j : length (soFar ++ (p ∷ [])) + count ≡ length soFar + suc count = omega arith in j))))
 
-pub record StorageOk (v : VirtualStorage) : Type 0 where
+pub record VirtualStorageOk (v : VirtualStorage) : Type 0 where
   pub parts : AllMem PartOk (v .parts)
   pub few : length (v .parts) ≤ 64
 
-read-storage : (net : Network) (file : List ℕ) (at : ℕ) (r : Read VirtualStorage) → readVirtualStorage net file at ≡ value r → StorageOk (r .item)
+read-virtual-storage : (net : Network) (file : List ℕ) (at : ℕ) (r : Read VirtualStorage) → readVirtualStorage net file at ≡ value r → VirtualStorageOk (r .item)
 unfolding readVirtualStorage
-read-storage net file at r e =
+read-virtual-storage net file at r e =
     bind-then _ _ r e (λ a a-is e. bind-then _ _ r e (λ b b-is e. bind-then _ _ r e (λ c c-is e. bind-then _ _ r e (λ d d-is e. bind-then _ _ r e (λ g g-is e. bind-then _ _ r e (λ count count-is e. bind-then _ _ r e (λ m m-is e.
     let k = read-parts file at (length (net .nodes)) count [] (at + 8) m m-is (all-none PartOk) in
     let few = between-most 1 64 count (checked-value 3 at (between 1 64) _ count count-is) in
     let long : length (m .item) ≡ 0 + count = k .1 in
-    subst (λ (q : Read VirtualStorage). StorageOk (q .item)) (same-value _ r e) (record { parts = k .0; few = omega arith }))))))))
+    subst (λ (q : Read VirtualStorage). VirtualStorageOk (q .item)) (same-value _ r e) (record { parts = k .0; few = omega arith }))))))))
 
 -- ---- what every record keeps
 
@@ -167,11 +167,11 @@ pub record Good (net : Network) : Type 0 where
   pub nodes : AllMem NodeOk (net .nodes)
   pub edges : AllMem (EdgeOk (length (net .nodes))) (net .edges)
   pub aggregates : AllMem (AggregateOk (length (net .nodes))) (net .aggregates)
-  pub storages : AllMem StorageOk (net .virtualStorages)
+  pub virtualStorages : AllMem VirtualStorageOk (net .virtualStorages)
   pub nodeCount : length (net .nodes) ≤ 256
   pub edgeCount : length (net .edges) ≤ 512
   pub aggregateCount : length (net .aggregates) ≤ 64
-  pub storageCount : length (net .virtualStorages) ≤ 32
+  pub virtualStorageCount : length (net .virtualStorages) ≤ 32
 
 more-nodes : (n m : ℕ) → n ≤ m → (a : Aggregate) → AggregateOk n a → AggregateOk m a
 more-nodes n m h a ok =
@@ -195,11 +195,11 @@ body ND net file at r room e g =
       nodes = all-snoc NodeOk (net .nodes) x (g .nodes) (read-node file at (a .0) (a .1));
       edges = λ y k. more-ends (length (net .nodes)) (length (net .nodes ++ (x ∷ []))) (omega arith) y (g .edges y k);
       aggregates = λ y k. more-nodes (length (net .nodes)) (length (net .nodes ++ (x ∷ []))) (omega arith) y (g .aggregates y k);
-      storages = g .storages;
+      virtualStorages = g .virtualStorages;
       nodeCount = omega arith;
       edgeCount = g .edgeCount;
       aggregateCount = g .aggregateCount;
-      storageCount = g .storageCount;
+      virtualStorageCount = g .virtualStorageCount;
     })
 body ED net file at r room e g =
     let a = bind-value _ _ r e in
@@ -211,11 +211,11 @@ body ED net file at r room e g =
       nodes = g .nodes;
       edges = all-snoc (EdgeOk (length (net .nodes))) (net .edges) x (g .edges) (read-edge net file at (a .0) (a .1));
       aggregates = g .aggregates;
-      storages = g .storages;
+      virtualStorages = g .virtualStorages;
       nodeCount = g .nodeCount;
       edgeCount = omega arith;
       aggregateCount = g .aggregateCount;
-      storageCount = g .storageCount;
+      virtualStorageCount = g .virtualStorageCount;
     })
 body AG net file at r room e g =
     let a = bind-value _ _ r e in
@@ -227,11 +227,11 @@ body AG net file at r room e g =
       nodes = g .nodes;
       edges = g .edges;
       aggregates = all-snoc (AggregateOk (length (net .nodes))) (net .aggregates) x (g .aggregates) (read-aggregate net file at (a .0) (a .1));
-      storages = g .storages;
+      virtualStorages = g .virtualStorages;
       nodeCount = g .nodeCount;
       edgeCount = g .edgeCount;
       aggregateCount = omega arith;
-      storageCount = g .storageCount;
+      virtualStorageCount = g .virtualStorageCount;
     })
 body VS net file at r room e g =
     let a = bind-value _ _ r e in
@@ -243,11 +243,11 @@ body VS net file at r room e g =
       nodes = g .nodes;
       edges = g .edges;
       aggregates = g .aggregates;
-      storages = all-snoc StorageOk (net .virtualStorages) x (g .storages) (read-storage net file at (a .0) (a .1));
+      virtualStorages = all-snoc VirtualStorageOk (net .virtualStorages) x (g .virtualStorages) (read-virtual-storage net file at (a .0) (a .1));
       nodeCount = g .nodeCount;
       edgeCount = g .edgeCount;
       aggregateCount = g .aggregateCount;
-      storageCount = omega arith;
+      virtualStorageCount = omega arith;
     })
 
 one-record : (file : List ℕ) (r q : Reading) → readRecord file r ≡ value q → Good (r .network) → Good (q .network)
@@ -273,11 +273,11 @@ good-empty =
       nodes = all-none NodeOk;
       edges = all-none (EdgeOk 0);
       aggregates = all-none (AggregateOk 0);
-      storages = all-none StorageOk;
+      virtualStorages = all-none VirtualStorageOk;
       nodeCount = zero-le;
       edgeCount = zero-le;
       aggregateCount = zero-le;
-      storageCount = zero-le;
+      virtualStorageCount = zero-le;
     }
 
 -- ---- 8, 9 and 10

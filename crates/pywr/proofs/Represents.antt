@@ -15,10 +15,10 @@ use Rattle.pywr.specs.declared.Sentinel.the-variants.{Infinity, Largest}
 use Rattle.pywr.specs.Numbers.{zero64}
 use Rattle.pywr.specs.Programme.{Column, Row, Programme, Built}
 use Rattle.pywr.specs.Build.{elementCount}
-use Rattle.pywr.specs.Store.{Store, sentinelOf, entries, nodeEntry, edgeEntry, nodeRowEntry, storageEntry, shapeOf, rowEntry, columnEntry, programmeIn}
-use Rattle.pywr.specs.Written.{sentinelWord, integerColumns, countWords, shapeAfter, startsFrom, columnsIn, factorsIn, lowerOf, upperOf, rowsOf, builtStore, steppedStore}
+use Rattle.pywr.specs.Store.{Store, sentinelOf, entries, nodeEntry, edgeEntry, nodeRowEntry, virtualStorageEntry, shapeOf, rowEntry, columnEntry, programmeIn}
+use Rattle.pywr.specs.Written.{sentinelWord, integerColumns, countWords, shapeAfter, startsFrom, columnsIn, valuesIn, lowerOf, upperOf, rowsOf, builtStore, steppedStore}
 use Rattle.pywr.proofs.StoreLaws.{Holds, holds-left, holds-right, holds-before, sets-holds, TablesFit, count-is, shape-back}
-use Rattle.pywr.proofs.RowsBack.{rows-back, columns-back, Typed, held-head, held-tail, start-head, columns-length, factors-length}
+use Rattle.pywr.proofs.RowsBack.{rows-back, columns-back, Typed, held-head, held-tail, start-head, columns-length, values-length}
 
 -- ---- lists
 
@@ -87,7 +87,7 @@ pub record Represents (s : Store) (b : Built) : Type 0 where
   pub spareColumns : List ℕ
   pub columns : s .columns ≡ flatMap columnsIn (rowsOf (b .programme)) ++ spareColumns
   pub spareElements : List Float
-  pub elements : s .elements ≡ flatMap factorsIn (rowsOf (b .programme)) ++ spareElements
+  pub elements : s .elements ≡ flatMap valuesIn (rowsOf (b .programme)) ++ spareElements
   pub starts : Holds 0 (s .rowStarts) 0 (startsFrom 0 (rowsOf (b .programme)))
   pub lower : Holds zero64 (s .rowLower) 0 (map lowerOf (rowsOf (b .programme)))
   pub upper : Holds zero64 (s .rowUpper) 0 (map upperOf (rowsOf (b .programme)))
@@ -100,10 +100,10 @@ unfolding flatMap elementCount
 columns-count [] = refl
 columns-count (x ∷ v) = length-append (columnsIn x) (flatMap columnsIn v) ∙ ap₂ (λ (a b : ℕ). a + b) (columns-length x) (columns-count v)
 
-factors-count : (v : List Row) → length (flatMap factorsIn v) ≡ elementCount v
+values-count : (v : List Row) → length (flatMap valuesIn v) ≡ elementCount v
 unfolding flatMap elementCount
-factors-count [] = refl
-factors-count (x ∷ v) = length-append (factorsIn x) (flatMap factorsIn v) ∙ ap₂ (λ (a b : ℕ). a + b) (factors-length x) (factors-count v)
+values-count [] = refl
+values-count (x ∷ v) = length-append (valuesIn x) (flatMap valuesIn v) ∙ ap₂ (λ (a b : ℕ). a + b) (values-length x) (values-count v)
 
 -- a represented programme is read back
 pub programme-back : (s : Store) (b : Built) → Represents s b → programmeIn s ≡ b .programme
@@ -113,21 +113,21 @@ programme-back s b r =
     let v : List Row = p .varying in
     let f : List Row = p .fixed in
     let ec = r .columns ∙ ap (λ l. l ++ r .spareColumns) (flat-append columnsIn v f) ∙ append-assoc (flatMap columnsIn v) (flatMap columnsIn f) (r .spareColumns) in
-    let ee = r .elements ∙ ap (λ l. l ++ r .spareElements) (flat-append factorsIn v f) ∙ append-assoc (flatMap factorsIn v) (flatMap factorsIn f) (r .spareElements) in
+    let ee = r .elements ∙ ap (λ l. l ++ r .spareElements) (flat-append valuesIn v f) ∙ append-assoc (flatMap valuesIn v) (flatMap valuesIn f) (r .spareElements) in
     let hl = subst (λ l. Holds zero64 (s .rowLower) 0 l) (map-append lowerOf v f) (r .lower) in
     let hu = subst (λ l. Holds zero64 (s .rowUpper) 0 l) (map-append upperOf v f) (r .upper) in
     let cols : entries (columnEntry s) 1 0 (getD (s .shape) 3 0 + getD (s .shape) 4 0) ≡ p .columns =
     ap (entries (columnEntry s) 1 0) (r .columnCount) ∙ columns-back s (b .shape .edgeColumns) (r .edgeColumns) (p .columns) 0 (r .typed) (r .colLower) (r .colUpper) (r .colObjCoef) in
     let vary : entries (rowEntry s) 1 0 (getD (s .shape) 5 0) ≡ v =
     ap (entries (rowEntry s) 1 0) (r .varyingCount)
-    ∙ rows-back s v 0 0 [] (flatMap columnsIn f ++ r .spareColumns) [] (flatMap factorsIn f ++ r .spareElements) ec refl ee refl
+    ∙ rows-back s v 0 0 [] (flatMap columnsIn f ++ r .spareColumns) [] (flatMap valuesIn f ++ r .spareElements) ec refl ee refl
     (starts-left (s .rowStarts) v f 0 0 (r .starts))
     (holds-left zero64 (s .rowLower) 0 (map lowerOf v) (map lowerOf f) hl)
     (holds-left zero64 (s .rowUpper) 0 (map upperOf v) (map upperOf f) hu) in
     let n : ℕ = length v in
     let fix : entries (rowEntry s) 1 (getD (s .shape) 5 0) (getD (s .shape) 6 0) ≡ f =
     ap₂ (entries (rowEntry s) 1) (r .varyingCount) (r .fixedCount)
-    ∙ rows-back s f n (elementCount v) (flatMap columnsIn v) (r .spareColumns) (flatMap factorsIn v) (r .spareElements) ec (columns-count v) ee (factors-count v)
+    ∙ rows-back s f n (elementCount v) (flatMap columnsIn v) (r .spareColumns) (flatMap valuesIn v) (r .spareElements) ec (columns-count v) ee (values-count v)
     (subst (λ (m : ℕ). Holds 0 (s .rowStarts) m (startsFrom (elementCount v) f)) (zero-add n) (subst (λ (m : ℕ). Holds 0 (s .rowStarts) (0 + n) (startsFrom m f)) (zero-add (elementCount v)) (starts-right (s .rowStarts) v f 0 0 (r .starts))))
     (subst (λ (m : ℕ). Holds zero64 (s .rowLower) m (map lowerOf f)) (zero-add (length (map lowerOf v)) ∙ length-map v lowerOf) (holds-right zero64 (s .rowLower) 0 (map lowerOf v) (map lowerOf f) hl))
     (subst (λ (m : ℕ). Holds zero64 (s .rowUpper) m (map upperOf f)) (zero-add (length (map upperOf v)) ∙ length-map v upperOf) (holds-right zero64 (s .rowUpper) 0 (map upperOf v) (map upperOf f) hu)) in
@@ -188,8 +188,8 @@ built-represents old b room fit =
       colObjCoef = sets-holds zero64 (map (λ (x : Column). x .cost) (p .columns)) (old .colObjCoef) 0 (let l = length-map (p .columns) (λ (x : Column). x .cost) in let r = room .colObjCoef in omega arith);
       spareColumns = drop (0 + length (flatMap columnsIn rows)) (old .columns);
       columns = sets-eq (flatMap columnsIn rows) (old .columns) 0 (let l = columns-count rows in let r = room .columns in omega arith);
-      spareElements = drop (0 + length (flatMap factorsIn rows)) (old .elements);
-      elements = sets-eq (flatMap factorsIn rows) (old .elements) 0 (let l = factors-count rows in let r = room .elements in omega arith);
+      spareElements = drop (0 + length (flatMap valuesIn rows)) (old .elements);
+      elements = sets-eq (flatMap valuesIn rows) (old .elements) 0 (let l = values-count rows in let r = room .elements in omega arith);
       starts = sets-holds 0 (startsFrom 0 rows) (old .rowStarts) 0 (let l = starts-length 0 rows in let r = room .rowStarts in omega arith);
       lower = sets-holds zero64 (map lowerOf rows) (old .rowLower) 0 (let l = length-map rows lowerOf in let r = room .rowLower in omega arith);
       upper = sets-holds zero64 (map upperOf rows) (old .rowUpper) 0 (let l = length-map rows upperOf in let r = room .rowUpper in omega arith);
@@ -242,7 +242,7 @@ module _ (s : Store) (b : Built) (r : Represents s b) (v : List Row) (cols : Lis
   next = record { programme = record { sentinel = b .programme .sentinel; columns = cols; varying = v; fixed = b .programme .fixed }; shape = b .shape }
 
   pub step-represents : Represents (steppedStore s (next .programme)) next
-  unfolding steppedStore rowsOf next shapeOf nodeEntry edgeEntry nodeRowEntry storageEntry
+  unfolding steppedStore rowsOf next shapeOf nodeEntry edgeEntry nodeRowEntry virtualStorageEntry
   step-represents =
       let p : Programme = b .programme in
       let old : List Row = p .varying in
@@ -268,16 +268,16 @@ module _ (s : Store) (b : Built) (r : Represents s b) (v : List Row) (cols : Lis
             (flat-append columnsIn old f ∙ ap (λ l. l ++ flatMap columnsIn f) (sym (same-columns v old same)) ∙ sym (flat-append columnsIn v f));
         spareElements = r .spareElements;
         elements =
-            let c : length (flatMap factorsIn v) ≡ length (flatMap factorsIn old) = factors-count v ∙ same-count v old same ∙ sym (factors-count old) in
-            let e : s .elements ≡ flatMap factorsIn old ++ (flatMap factorsIn f ++ r .spareElements) =
-            r .elements ∙ ap (λ l. l ++ r .spareElements) (flat-append factorsIn old f) ∙ append-assoc (flatMap factorsIn old) (flatMap factorsIn f) (r .spareElements) in
-            let k : length (s .elements) ≡ length (flatMap factorsIn old) + length (flatMap factorsIn f ++ r .spareElements) = ap length e ∙ length-append (flatMap factorsIn old) (flatMap factorsIn f ++ r .spareElements) in
-            sets-eq (flatMap factorsIn v) (s .elements) 0 (omega arith)
-            ∙ ap (λ l. flatMap factorsIn v ++ l)
-            (ap (λ l. drop (0 + length (flatMap factorsIn v)) l) e
-            ∙ drop-at (flatMap factorsIn old) (flatMap factorsIn f ++ r .spareElements) (0 + length (flatMap factorsIn v)) (sym c ∙ sym (zero-add (length (flatMap factorsIn v)))))
-            ∙ sym (append-assoc (flatMap factorsIn v) (flatMap factorsIn f) (r .spareElements))
-            ∙ ap (λ l. l ++ r .spareElements) (sym (flat-append factorsIn v f));
+            let c : length (flatMap valuesIn v) ≡ length (flatMap valuesIn old) = values-count v ∙ same-count v old same ∙ sym (values-count old) in
+            let e : s .elements ≡ flatMap valuesIn old ++ (flatMap valuesIn f ++ r .spareElements) =
+            r .elements ∙ ap (λ l. l ++ r .spareElements) (flat-append valuesIn old f) ∙ append-assoc (flatMap valuesIn old) (flatMap valuesIn f) (r .spareElements) in
+            let k : length (s .elements) ≡ length (flatMap valuesIn old) + length (flatMap valuesIn f ++ r .spareElements) = ap length e ∙ length-append (flatMap valuesIn old) (flatMap valuesIn f ++ r .spareElements) in
+            sets-eq (flatMap valuesIn v) (s .elements) 0 (omega arith)
+            ∙ ap (λ l. flatMap valuesIn v ++ l)
+            (ap (λ l. drop (0 + length (flatMap valuesIn v)) l) e
+            ∙ drop-at (flatMap valuesIn old) (flatMap valuesIn f ++ r .spareElements) (0 + length (flatMap valuesIn v)) (sym c ∙ sym (zero-add (length (flatMap valuesIn v)))))
+            ∙ sym (append-assoc (flatMap valuesIn v) (flatMap valuesIn f) (r .spareElements))
+            ∙ ap (λ l. l ++ r .spareElements) (sym (flat-append valuesIn v f));
         starts = subst (λ l. Holds 0 (s .rowStarts) 0 l) (sym (same-starts v old f 0 same)) (r .starts);
         lower =
             subst (λ l. Holds zero64 (sets (s .rowLower) 0 (map lowerOf v)) 0 l) (sym (map-append lowerOf v f))
@@ -314,13 +314,13 @@ store-again s b r p q hp hq cp cq =
     let nq : length (q .varying) ≡ length v = same-length (q .varying) v hq in
     let la = length-append v f in
     let rows : (g : Row → Float) → length (map g (p .varying)) ≡ length (map g (q .varying)) = (λ g. length-map (p .varying) g ∙ np ∙ sym nq ∙ sym (length-map (q .varying) g)) in
-    let factors : length (flatMap factorsIn (q .varying)) ≡ length (flatMap factorsIn v) = factors-count (q .varying) ∙ same-count (q .varying) v hq ∙ sym (factors-count v) in
-    let long : length (s .elements) ≡ length (flatMap factorsIn v) + length (flatMap factorsIn f) + length (r .spareElements) =
-    ap length (r .elements) ∙ length-append (flatMap factorsIn (v ++ f)) (r .spareElements) ∙ ap (λ (n : ℕ). n + length (r .spareElements)) (ap length (flat-append factorsIn v f) ∙ length-append (flatMap factorsIn v) (flatMap factorsIn f)) in
+    let factors : length (flatMap valuesIn (q .varying)) ≡ length (flatMap valuesIn v) = values-count (q .varying) ∙ same-count (q .varying) v hq ∙ sym (values-count v) in
+    let long : length (s .elements) ≡ length (flatMap valuesIn v) + length (flatMap valuesIn f) + length (r .spareElements) =
+    ap length (r .elements) ∙ length-append (flatMap valuesIn (v ++ f)) (r .spareElements) ∙ ap (λ (n : ℕ). n + length (r .spareElements)) (ap length (flat-append valuesIn v f) ∙ length-append (flatMap valuesIn v) (flatMap valuesIn f)) in
     let cost = write-again (s .colObjCoef) (map (λ (x : Column). x .cost) (p .columns)) (map (λ (x : Column). x .cost) (q .columns))
     (length-map (p .columns) (λ (x : Column). x .cost) ∙ cp ∙ sym cq ∙ sym (length-map (q .columns) (λ (x : Column). x .cost)))
     (let l = length-map (q .columns) (λ (x : Column). x .cost) in let c = r .costRoom in omega arith) in
     let lower = write-again (s .rowLower) (map lowerOf (p .varying)) (map lowerOf (q .varying)) (rows lowerOf) (let l = length-map (q .varying) lowerOf in let c = r .lowerRoom in omega arith) in
     let upper = write-again (s .rowUpper) (map upperOf (p .varying)) (map upperOf (q .varying)) (rows upperOf) (let l = length-map (q .varying) upperOf in let c = r .upperRoom in omega arith) in
-    let element = write-again (s .elements) (flatMap factorsIn (p .varying)) (flatMap factorsIn (q .varying)) (factors-count (p .varying) ∙ same-count (p .varying) v hp ∙ sym (factors-count v) ∙ sym factors) (omega arith) in
+    let element = write-again (s .elements) (flatMap valuesIn (p .varying)) (flatMap valuesIn (q .varying)) (values-count (p .varying) ∙ same-count (p .varying) v hp ∙ sym (values-count v) ∙ sym factors) (omega arith) in
     λ i. record { colLower = s .colLower; colUpper = s .colUpper; colObjCoef = cost i; rowLower = lower i; rowUpper = upper i; elements = element i; columns = s .columns; rowStarts = s .rowStarts; shape = s .shape }

@@ -11,11 +11,11 @@ use Rattle.pywr.specs.Numbers.{zero64}
 use Rattle.pywr.specs.Rows.{Element}
 use Rattle.pywr.specs.Programme.{Column, Row}
 use Rattle.pywr.specs.Store.{Store, entries, elementsOf, columnsOfRow, rowEntry, columnEntry}
-use Rattle.pywr.specs.Written.{startsFrom, columnsIn, factorsIn, lowerOf, upperOf}
+use Rattle.pywr.specs.Written.{startsFrom, columnsIn, valuesIn, lowerOf, upperOf}
 use Rattle.pywr.proofs.StoreLaws.{Holds, holds-right}
 
 -- a row's elements from its columns and factors
-elements-back : (es : List Element) → elementsOf (map (λ (e : Element). e .column) es) (map (λ (e : Element). e .factor) es) ≡ es
+elements-back : (es : List Element) → elementsOf (map (λ (e : Element). e .column) es) (map (λ (e : Element). e .value) es) ≡ es
 unfolding elementsOf
 elements-back [] = refl
 elements-back (e ∷ es) = ap (λ (l : List Element). e ∷ l) (elements-back es)
@@ -51,23 +51,23 @@ pub columns-length : (x : Row) → length (columnsIn x) ≡ length (x .elements)
 unfolding columnsIn
 columns-length x = length-map (x .elements) (λ (e : Element). e .column)
 
-pub factors-length : (x : Row) → length (factorsIn x) ≡ length (x .elements)
-unfolding factorsIn
-factors-length x = length-map (x .elements) (λ (e : Element). e .factor)
+pub values-length : (x : Row) → length (valuesIn x) ≡ length (x .elements)
+unfolding valuesIn
+values-length x = length-map (x .elements) (λ (e : Element). e .value)
 
 row-here : (s : Store) (x : Row) (xs : List Row) (r at : ℕ) (preC postC : List ℕ) (preE postE : List Float)
     → s .columns ≡ preC ++ (flatMap columnsIn (x ∷ xs) ++ postC) → length preC ≡ at
-    → s .elements ≡ preE ++ (flatMap factorsIn (x ∷ xs) ++ postE) → length preE ≡ at
+    → s .elements ≡ preE ++ (flatMap valuesIn (x ∷ xs) ++ postE) → length preE ≡ at
     → Holds 0 (s .rowStarts) r (startsFrom at (x ∷ xs))
     → Holds zero64 (s .rowLower) r (map lowerOf (x ∷ xs)) → Holds zero64 (s .rowUpper) r (map upperOf (x ∷ xs))
     → rowEntry s r ≡ x
-unfolding rowEntry columnsOfRow flatMap startsFrom lowerOf upperOf columnsIn factorsIn
+unfolding rowEntry columnsOfRow flatMap startsFrom lowerOf upperOf columnsIn valuesIn
 row-here s x xs r at preC postC preE postE ec lc ee le hs hl hu =
     let n : ℕ = length (x .elements) in
     let first : getD (s .rowStarts) r 0 ≡ at = start-head at (x ∷ xs) (s .rowStarts) r hs in
     let second : getD (s .rowStarts) (r + 1) 0 ≡ at + n = start-head (at + n) xs (s .rowStarts) (r + 1) (held-tail 0 (s .rowStarts) r at (startsFrom (at + n) xs) hs) in
     let cols = part-is (s .columns) preC (columnsIn x) (flatMap columnsIn xs) postC (getD (s .rowStarts) r 0) (getD (s .rowStarts) (r + 1) 0) at ec lc first (second ∙ ap (λ (m : ℕ). at + m) (sym (columns-length x))) in
-    let facs = part-is (s .elements) preE (factorsIn x) (flatMap factorsIn xs) postE (getD (s .rowStarts) r 0) (getD (s .rowStarts) (r + 1) 0) at ee le first (second ∙ ap (λ (m : ℕ). at + m) (sym (factors-length x))) in
+    let facs = part-is (s .elements) preE (valuesIn x) (flatMap valuesIn xs) postE (getD (s .rowStarts) r 0) (getD (s .rowStarts) (r + 1) 0) at ee le first (second ∙ ap (λ (m : ℕ). at + m) (sym (values-length x))) in
     let lower = held-head zero64 (s .rowLower) r (x .lower) (map lowerOf xs) hl in
     let upper = held-head zero64 (s .rowUpper) r (x .upper) (map upperOf xs) hu in
     λ i. record { lower = lower i; upper = upper i; elements = (ap₂ elementsOf cols facs ∙ elements-back (x .elements)) i }
@@ -75,7 +75,7 @@ row-here s x xs r at preC postC preE postE ec lc ee le hs hl hu =
 -- Rows r, r + 1, .. of a store are `rows`: the elements from `at` on are theirs
 pub rows-back : (s : Store) (rows : List Row) (r at : ℕ) (preC postC : List ℕ) (preE postE : List Float)
     → s .columns ≡ preC ++ (flatMap columnsIn rows ++ postC) → length preC ≡ at
-    → s .elements ≡ preE ++ (flatMap factorsIn rows ++ postE) → length preE ≡ at
+    → s .elements ≡ preE ++ (flatMap valuesIn rows ++ postE) → length preE ≡ at
     → Holds 0 (s .rowStarts) r (startsFrom at rows)
     → Holds zero64 (s .rowLower) r (map lowerOf rows) → Holds zero64 (s .rowUpper) r (map upperOf rows)
     → entries (rowEntry s) 1 r (length rows) ≡ rows
@@ -85,11 +85,11 @@ rows-back s (x ∷ xs) r at preC postC preE postE ec lc ee le hs hl hu =
     let n : ℕ = length (x .elements) in
     ap₂ (λ a b. a ∷ b)
     (row-here s x xs r at preC postC preE postE ec lc ee le hs hl hu)
-    (rows-back s xs (r + 1) (at + n) (preC ++ columnsIn x) postC (preE ++ factorsIn x) postE
+    (rows-back s xs (r + 1) (at + n) (preC ++ columnsIn x) postC (preE ++ valuesIn x) postE
     (ec ∙ ap (λ l. preC ++ l) (append-assoc (columnsIn x) (flatMap columnsIn xs) postC) ∙ sym (append-assoc preC (columnsIn x) (flatMap columnsIn xs ++ postC)))
     (length-append preC (columnsIn x) ∙ ap₂ (λ (a b : ℕ). a + b) lc (columns-length x))
-    (ee ∙ ap (λ l. preE ++ l) (append-assoc (factorsIn x) (flatMap factorsIn xs) postE) ∙ sym (append-assoc preE (factorsIn x) (flatMap factorsIn xs ++ postE)))
-    (length-append preE (factorsIn x) ∙ ap₂ (λ (a b : ℕ). a + b) le (factors-length x))
+    (ee ∙ ap (λ l. preE ++ l) (append-assoc (valuesIn x) (flatMap valuesIn xs) postE) ∙ sym (append-assoc preE (valuesIn x) (flatMap valuesIn xs ++ postE)))
+    (length-append preE (valuesIn x) ∙ ap₂ (λ (a b : ℕ). a + b) le (values-length x))
     (held-tail 0 (s .rowStarts) r at (startsFrom (at + n) xs) hs)
     (held-tail zero64 (s .rowLower) r (lowerOf x) (map lowerOf xs) hl)
     (held-tail zero64 (s .rowUpper) r (upperOf x) (map upperOf xs) hu))

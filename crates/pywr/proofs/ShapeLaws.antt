@@ -18,7 +18,7 @@ use Rattle.pywr.specs.declared.Sentinel.{Sentinel}
 use Rattle.pywr.specs.Numbers.{double, zero64, one64, high}
 use Rattle.pywr.specs.Network.{output, link, storage, Node, Aggregate, Part, VirtualStorage, Network, kindOf}
 use Rattle.pywr.specs.ColEdgeMap.{columns, mappedEdges}
-use Rattle.pywr.specs.ExclusiveSets.{sameSet, hasSet, exclusiveSets, setNumber, setsListing}
+use Rattle.pywr.specs.ExclusiveSets.{sameSet, hasSet, exclusiveSets, setNumber, setsWithNode}
 use Rattle.pywr.specs.Rows.{Element, insert, addElement, addOn, ColumnMap, columnMap, columnsInto, columnsOutOf, addNode, nodeRow, massRow, addNodes, addSetsOf, aggregateRow, addParts, virtualStorageRow, upperRow, lowerRow, addActive, exclusivityRow}
 use Rattle.pywr.specs.VariableRows.{sameRow, position, addVariableRows, Joined, addVariableRow}
 use Rattle.pywr.specs.Programme.{Row, continuous}
@@ -29,7 +29,7 @@ use Rattle.pywr.proofs.MassLaws.{HasColumn, added, Every, every-append}
 use Rattle.pywr.proofs.EvenLaws.{mapped-edge-of}
 use Rattle.pywr.proofs.JoinLaws.{position-found, position-most}
 use Rattle.pywr.proofs.ListLaws.{AllMem, all-snoc, found-mem, found-below, each-of}
-use Rattle.pywr.proofs.ListingLaws.{listing-sound, from-known}
+use Rattle.pywr.proofs.MembershipLaws.{membership-sound, from-known}
 use Rattle.pywr.proofs.ReadLaws.{Sound}
 use Rattle.pywr.proofs.FitLaws.{each-ask}
 use Rattle.pywr.proofs.FixedLaws.{columns-under}
@@ -168,9 +168,9 @@ module _ (net : Network) (sound : Sound net) where
   unfolding aggregateRow
   aggregate-good a = widen _ (sets-rise (a .sets) [] Rising.none)
 
-  pub storage-good : (v : VirtualStorage) → Good-row (virtualStorageRow f v)
+  pub virtual-storage-good : (v : VirtualStorage) → Good-row (virtualStorageRow f v)
   unfolding virtualStorageRow
-  storage-good v = widen _ (parts-rise (v .parts) [] Rising.none)
+  virtual-storage-good v = widen _ (parts-rise (v .parts) [] Rising.none)
 
   with-set : (n k : ℕ) (x c : Float) → k < sets → Good-row (addElement (edges + k) c (addNode f n x []))
   with-set n k x c h = rising-add (edges + sets) (edges + k) c 0 _ zero-le (omega arith) (widen _ (node-rises n x [] Rising.none))
@@ -183,8 +183,8 @@ module _ (net : Network) (sound : Sound net) where
   unfolding lowerRow columnMap
   lower-good n k c h = with-set n k one64 c h
 
-  listed-under : (n : ℕ) → AllMem (λ (k : ℕ). k < sets) (setsListing n 0 (exclusiveSets net))
-  listed-under n k m = let r = listing-sound n 0 k (exclusiveSets net) m in let b = found-below (exclusiveSets net) (r .at) (r .set) (r .found) in let e = r .where-at in omega arith
+  listed-under : (n : ℕ) → AllMem (λ (k : ℕ). k < sets) (setsWithNode n 0 (exclusiveSets net))
+  listed-under n k m = let r = membership-sound n 0 k (exclusiveSets net) m in let b = found-below (exclusiveSets net) (r .at) (r .set) (r .found) in let e = r .where-at in omega arith
 
   -- ---- fixed rows
 
@@ -227,11 +227,11 @@ module _ (net : Network) (sound : Sound net) where
   pub constants-good : (w : Sentinel) → Every Good-fixed (constantRowsFrom w f 0 (net .nodes))
   unfolding constantRowsFrom columnMap
   constants-good w =
-      each-of Good-fixed (λ (n : ℕ) (x : Node). cond (x .constant) (constantRows w f n x (setsListing n 0 (exclusiveSets net))) []) (constantRowsFrom w f) (λ m. refl) (λ m x l. refl) (net .nodes) 0 .1
+      each-of Good-fixed (λ (n : ℕ) (x : Node). cond (x .constant) (constantRows w f n x (setsWithNode n 0 (exclusiveSets net))) []) (constantRowsFrom w f) (λ m. refl) (λ m x l. refl) (net .nodes) 0 .1
       (λ i x e. go (x .constant) (0 + i) x)
     where
-      go : (b : Bool) (n : ℕ) (x : Node) → Every Good-fixed (cond b (constantRows w f n x (setsListing n 0 (exclusiveSets net))) [])
-      go true n x = constant-good w n x (setsListing n 0 (exclusiveSets net)) (listed-under n)
+      go : (b : Bool) (n : ℕ) (x : Node) → Every Good-fixed (cond b (constantRows w f n x (setsWithNode n 0 (exclusiveSets net))) [])
+      go true n x = constant-good w n x (setsWithNode n 0 (exclusiveSets net)) (listed-under n)
       go false n x = tt
 
   active-good : (ss : List (List ℕ)) (row : List Element) → AllMem (λ (s : List ℕ). T (hasSet s (exclusiveSets net))) ss → Good-row row → Good-row (addActive f ss row)
@@ -284,9 +284,9 @@ module _ (net : Network) (sound : Sound net) where
   unfolding columnMap
   requests-ok = each-ask f AskOk (net .nodes) 0 .1 (λ i x e. go (x .constant) (0 + i) (let h = found-below (net .nodes) i x e in omega arith))
     where
-      go : (b : Bool) (n : ℕ) → n < length (net .nodes) → Every AskOk (cond b [] (requestsBySets f n (setsListing n 0 (exclusiveSets net))))
+      go : (b : Bool) (n : ℕ) → n < length (net .nodes) → Every AskOk (cond b [] (requestsBySets f n (setsWithNode n 0 (exclusiveSets net))))
       go true n u = tt
-      go false n u = by-sets-ok n u (setsListing n 0 (exclusiveSets net)) (listed-under n)
+      go false n u = by-sets-ok n u (setsWithNode n 0 (exclusiveSets net)) (listed-under n)
 
 -- ---- joined rows
 
@@ -296,9 +296,9 @@ same-cols [] [] h = refl
 same-cols [] (y ∷ ys) h = absurd h
 same-cols (x ∷ xs) [] h = absurd h
 same-cols (x ∷ xs) (y ∷ ys) h =
-    let both : T (eqb (x .column) (y .column) && eq (x .factor) (y .factor)) = and-l (eqb (x .column) (y .column) && eq (x .factor) (y .factor)) (sameRow xs ys) h in
-    ap₂ (λ (c : ℕ) (l : List ℕ). c ∷ l) (eqb→eq (x .column) (y .column) (and-l (eqb (x .column) (y .column)) (eq (x .factor) (y .factor)) both))
-    (same-cols xs ys (and-r (eqb (x .column) (y .column) && eq (x .factor) (y .factor)) (sameRow xs ys) h))
+    let both : T (eqb (x .column) (y .column) && eq (x .value) (y .value)) = and-l (eqb (x .column) (y .column) && eq (x .value) (y .value)) (sameRow xs ys) h in
+    ap₂ (λ (c : ℕ) (l : List ℕ). c ∷ l) (eqb→eq (x .column) (y .column) (and-l (eqb (x .column) (y .column)) (eq (x .value) (y .value)) both))
+    (same-cols xs ys (and-r (eqb (x .column) (y .column) && eq (x .value) (y .value)) (sameRow xs ys) h))
 
 -- each asked row's place is a row of its columns
 pub data Sits (rows : List (List Element)) : List (List Element) → List ℕ → Type 0 where

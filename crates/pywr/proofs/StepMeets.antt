@@ -16,7 +16,7 @@ use Rattle.pywr.specs.declared.Sentinel.{Sentinel}
 use Rattle.pywr.specs.declared.Interval.{Interval}
 use Rattle.pywr.specs.Network.{link, Node, Aggregate, Part, VirtualStorage, Network, noNode, kindOf, isExclusive}
 use Rattle.pywr.specs.ColEdgeMap.{MappedEdge, mappedEdges}
-use Rattle.pywr.specs.ExclusiveSets.{exclusiveSets, setNumber, setsListing}
+use Rattle.pywr.specs.ExclusiveSets.{exclusiveSets, setNumber, setsWithNode}
 use Rattle.pywr.specs.Rows.{Element, ColumnMap, columnMap, aggregateRow, virtualStorageRow}
 use Rattle.pywr.specs.Programme.{Column, Row, Programme, NodeRow}
 use Rattle.pywr.specs.VaryingRows.{RowRequest, requestsFrom, freshRow}
@@ -26,11 +26,11 @@ use Rattle.pywr.specs.Interval.{sentinels}
 use Rattle.pywr.specs.StepIntervals.{Intervals}
 use Rattle.pywr.specs.Step.{rowOf, stepRows}
 use Rattle.pywr.specs.Plans.{meets, Plan, scaled, allFrom}
-use Rattle.pywr.specs.Allows.{allows, inflow, outflow, nodeAmount, setsAmount, partsAmount, balanced, ownInterval, nodeMeets, aggregateMeets, storageMeets, exclusiveMeets, memberMeets, setsMeet, onCount, exclusivityMeets}
+use Rattle.pywr.specs.Allows.{allows, inflow, outflow, nodeAmount, setsAmount, partsAmount, balanced, ownInterval, nodeMeets, aggregateMeets, virtualStorageMeets, exclusiveMeets, memberMeets, setsMeet, onCount, exclusivityMeets}
 use Rattle.pywr.specs.Admits.{admits, carried, equalInColumn, rowSum, rowMet, columnMet}
 use Rattle.pywr.specs.Correspondence.{isWhole, factorsWhole}
 use Rattle.pywr.proofs.BoundLaws.{IsInterval}
-use Rattle.pywr.proofs.AmountLaws.{Carries, listings, aggregate-sum, Factors, no-more, one-more, storage-sum}
+use Rattle.pywr.proofs.AmountLaws.{Carries, memberships, aggregate-sum, Factors, no-more, one-more, virtual-storage-sum}
 use Rattle.pywr.proofs.EvenLaws.{Balanced, balanced-even, carries}
 use Rattle.pywr.proofs.MassLaws.{Every, every-append, Met, every-met, Joined, mass-met}
 use Rattle.pywr.proofs.JoinLaws.{Placed}
@@ -39,9 +39,9 @@ use Rattle.pywr.proofs.VaryingLaws.{node-places, node-intervals, Asked,
 use Rattle.pywr.proofs.SetLaws.{number-found}
 use Rattle.pywr.proofs.ListLaws.{AllMem, all-cons, found-mem, mem-found, not-found, same-some, found-get, below-found, all-at}
 use Rattle.pywr.proofs.StepReadLaws.{at-interval, IntervalsOk}
-use Rattle.pywr.proofs.ListingLaws.{From, lists-exclusive, set-from, from-known, listing-sound, exclusive-listed}
-use Rattle.pywr.proofs.ReadLaws.{SetOk, StorageOk, PartOk, Sound}
-use Rattle.pywr.proofs.FitLaws.{OnlyConstant, requests-are, only-continuous, columns-long, asked, forNodes, forStorages, lengthN, aggregates-length, placed-length}
+use Rattle.pywr.proofs.MembershipLaws.{From, lists-exclusive, set-from, from-known, membership-sound, exclusive-listed}
+use Rattle.pywr.proofs.ReadLaws.{SetOk, VirtualStorageOk, PartOk, Sound}
+use Rattle.pywr.proofs.FitLaws.{OnlyConstant, requests-are, only-continuous, columns-long, asked, forNodes, forVirtualStorages, lengthN, aggregates-length, placed-length}
 use Rattle.pywr.proofs.CoefficientLaws.{whole-factor}
 use Rattle.pywr.proofs.FixedLaws.{bounds, room, node-amount, ConstantMet, constant-met, active-met, columns-met}
 
@@ -105,12 +105,12 @@ module _ (w : Sentinel) (f : ColumnMap) (plan : Plan) where
 
 -- ---- the rooms
 
-pub listings-few : (n : ℕ) (ss : List (List ℕ)) → AllMem (SetOk n) ss → listings ss ≤ length ss * 16
-unfolding listings
-listings-few n [] ok = zero-le
-listings-few n (s ∷ ss) ok =
+pub memberships-few : (n : ℕ) (ss : List (List ℕ)) → AllMem (SetOk n) ss → memberships ss ≤ length ss * 16
+unfolding memberships
+memberships-few n [] ok = zero-le
+memberships-few n (s ∷ ss) ok =
     let a = ok s (List·Memᴰ·head refl) .small in
-    let b = listings-few n ss (λ t m. ok t (List·Memᴰ·tail m)) in
+    let b = memberships-few n ss (λ t m. ok t (List·Memᴰ·tail m)) in
     omega arith
 
 -- ---- the network's side of exclusive sets
@@ -155,71 +155,71 @@ module _ (w : Sentinel) (net : Network) (sound : Sound net) (only : OnlyConstant
   aggregate-amount a m =
       let g = sound .good .aggregates a m in
       let few = g .few in
-      let l = listings-few (length (net .nodes)) (a .sets) (g .sets) in
+      let l = memberships-few (length (net .nodes)) (a .sets) (g .sets) in
       let e = sound .good .edgeCount in
-      let x : listings (a .sets) ≤ 256 = omega arith in
+      let x : memberships (a .sets) ≤ 256 = omega arith in
       let y : length (net .edges) * 1 + length (net .edges) * 1 ≤ 1024 = omega arith in
       aggregate-sum net plan (columns-long net) each a (lt-of-le-of-lt (mul-le-mul x y) (lit< tt))
 
-  part-factors : (v : VirtualStorage) → StorageOk v → T (allFrom (λ (k : ℕ) (p : Part). isWhole p) 0 (v .parts)) → Factors 0 1000000 (v .parts)
+  part-factors : (v : VirtualStorage) → VirtualStorageOk v → T (allFrom (λ (k : ℕ) (p : Part). isWhole p) 0 (v .parts)) → Factors 0 1000000 (v .parts)
   part-factors v okv t = go (v .parts) (okv .parts) (λ n p e. all-at (λ (k : ℕ) (q : Part). isWhole q) (v .parts) 0 .0 t n p e)
     where
       go : (ps : List Part) → AllMem PartOk ps → ((n : ℕ) (p : Part) → getElem? ps n ≡ some p → T (isWhole p)) → Factors 0 1000000 ps
       go [] k h = no-more
       go (p ∷ ps) k h = one-more (whole-factor p (k p (List·Memᴰ·head refl)) (h 0 p refl)) (go ps (λ q m. k q (List·Memᴰ·tail m)) (λ n q e. h (suc n) q e))
 
-  storage-amount : (n : ℕ) (v : VirtualStorage) → getElem? (net .virtualStorages) n ≡ some v → rowSum f plan (virtualStorageRow f v) ≡ partsAmount net plan (v .parts)
+  virtual-storage-amount : (n : ℕ) (v : VirtualStorage) → getElem? (net .virtualStorages) n ≡ some v → rowSum f plan (virtualStorageRow f v) ≡ partsAmount net plan (v .parts)
   unfolding factorsWhole
-  storage-amount n v e =
-      let okv = sound .good .storages v (found-mem (net .virtualStorages) n v e) in
+  virtual-storage-amount n v e =
+      let okv = sound .good .virtualStorages v (found-mem (net .virtualStorages) n v e) in
       let few = okv .few in
       let ne = sound .good .edgeCount in
       let t = all-at (λ (m : ℕ) (u : VirtualStorage). allFrom (λ (k : ℕ) (p : Part). isWhole p) 0 (u .parts)) (net .virtualStorages) 0 .0 whole n v e in
       let y : length (net .edges) * 1000000 + length (net .edges) * 1000000 ≤ 1024000000 = omega arith in
-      storage-sum net plan (columns-long net) each 1000000 v (part-factors v okv t) (lt-of-le-of-lt (mul-le-mul few y) (lit< tt))
+      virtual-storage-sum net plan (columns-long net) each 1000000 v (part-factors v okv t) (lt-of-le-of-lt (mul-le-mul few y) (lit< tt))
 
   -- the varying rows
   record VaryingMet : Type 0 where
     nodes : At (net .nodes) (λ n x. T (not (x .constant)) → T (meets w (ofNodes n) (scaled (nodeAmount net plan n))))
     aggregates : At (net .aggregates) (λ n a. T (aggregateMeets w net i plan n a))
-    storages : At (net .virtualStorages) (λ n v. T (storageMeets w net i plan n v))
+    virtualStorages : At (net .virtualStorages) (λ n v. T (virtualStorageMeets w net i plan n v))
 
   nodes-asked : Asked w f plan (map requestedRow (requestsFrom f 0 (net .nodes))) (node-intervals w (i .nodes) (programmeOf w net .shape .nodeRows)) ↔ Every (λ (a : RowRequest). T (meets w (ofNodes (a .node)) (rowSum f plan (a .row)))) (requestsFrom f 0 (net .nodes))
   unfolding programmeOf assemble
   nodes-asked = asked-nodes w f plan (i .nodes) (requestsFrom f 0 (net .nodes)) (forNodes w net plan .places) (lengthN w net plan)
 
   varying-is : T (allFrom (rowMet w f plan) 0 (stepRows w (programmeOf w net .shape) i (programmeOf w net .programme .varying))) ↔ VaryingMet
-  unfolding aggregateMeets storageMeets
+  unfolding aggregateMeets virtualStorageMeets
   varying-is =
       let a = asked w net plan in
-      let joined : List (List Element) = forStorages w net plan .rows in
+      let joined : List (List Element) = forVirtualStorages w net plan .rows in
       let rows : List Row = programmeOf w net .programme .varying in
       let long : length rows ≡ length joined = ap length (a .varying) ∙ length-map joined (freshRow w) in
       let same : (p : ℕ) → elementsAt p rows ≡ getD joined p [] = (λ p. ap (elementsAt p) (a .varying) ∙ fresh-elements w joined p) in
       let lA : length (i .aggregates) ≡ length (programmeOf w net .shape .aggregates) = ok .aggregateCount ∙ sym (aggregates-length w net plan) in
-      let lV : length (i .virtualStorages) ≡ length (map rowOf (programmeOf w net .shape .virtualStorages)) = ok .storageCount ∙ sym (length-map (net .virtualStorages) (virtualStorageRow f)) ∙ placed-length f plan joined _ _ (a .storages) in
+      let lV : length (i .virtualStorages) ≡ length (map rowOf (programmeOf w net .shape .virtualStorages)) = ok .virtualStorageCount ∙ sym (length-map (net .virtualStorages) (virtualStorageRow f)) ∙ placed-length f plan joined _ _ (a .virtualStorages) in
       let met = varying-met w f plan (programmeOf w net .shape) i joined rows long same (only-continuous w net only)
       (map requestedRow (requestsFrom f 0 (net .nodes))) (map (aggregateRow f) (net .aggregates)) (map (virtualStorageRow f) (net .virtualStorages))
-      (a .nodes) (a .aggregates) (a .storages)
+      (a .nodes) (a .aggregates) (a .virtualStorages)
       (fit-nodes w f plan joined (i .nodes) (ok .nodes) (programmeOf w net .shape .nodeRows) _ (a .nodes))
       (fit-plain w f plan joined (programmeOf w net .shape .aggregates) (i .aggregates) _ (a .aggregates) lA (ok .aggregates-are))
-      (fit-plain w f plan joined (map rowOf (programmeOf w net .shape .virtualStorages)) (i .virtualStorages) _ (a .storages) lV (ok .storages-are)) 0 in
+      (fit-plain w f plan joined (map rowOf (programmeOf w net .shape .virtualStorages)) (i .virtualStorages) _ (a .virtualStorages) lV (ok .virtual-storages-are)) 0 in
       let n1 = nodes-asked in
       let n2 = requests-are net only (λ (k : RowRequest). T (meets w (ofNodes (k .node)) (rowSum f plan (k .row)))) in
       let g = asked-at w f plan (aggregateRow f) (net .aggregates) (i .aggregates) (sym (ok .aggregateCount)) in
-      let v = asked-at w f plan (virtualStorageRow f) (net .virtualStorages) (i .virtualStorages) (sym (ok .storageCount)) in (
+      let v = asked-at w f plan (virtualStorageRow f) (net .virtualStorages) (i .virtualStorages) (sym (ok .virtualStorageCount)) in (
         λ h.
             let r = met .0 h in
             record {
               nodes = λ n x e t. subst (λ (z : ℤ). T (meets w (ofNodes n) z)) (node-amount w net sound plan each n) (n2 .0 (n1 .0 (r .0)) n x e t);
               aggregates = λ n x e. subst (λ (z : ℤ). T (meets w (getD (i .aggregates) n (sentinels w)) z)) (aggregate-amount x (found-mem (net .aggregates) n x e)) (g .0 (r .1) n x e);
-              storages = λ n x e. subst (λ (z : ℤ). T (meets w (getD (i .virtualStorages) n (sentinels w)) z)) (storage-amount n x e) (v .0 (r .2) n x e);
+              virtualStorages = λ n x e. subst (λ (z : ℤ). T (meets w (getD (i .virtualStorages) n (sentinels w)) z)) (virtual-storage-amount n x e) (v .0 (r .2) n x e);
             },
         λ h.
             met .1 (
               n1 .1 (n2 .1 (λ n x e t. subst (λ (z : ℤ). T (meets w (ofNodes n) z)) (sym (node-amount w net sound plan each n)) (h .nodes n x e t))),
               g .1 (λ n x e. subst (λ (z : ℤ). T (meets w (getD (i .aggregates) n (sentinels w)) z)) (sym (aggregate-amount x (found-mem (net .aggregates) n x e))) (h .aggregates n x e)),
-              v .1 (λ n x e. subst (λ (z : ℤ). T (meets w (getD (i .virtualStorages) n (sentinels w)) z)) (sym (storage-amount n x e)) (h .storages n x e)),
+              v .1 (λ n x e. subst (λ (z : ℤ). T (meets w (getD (i .virtualStorages) n (sentinels w)) z)) (sym (virtual-storage-amount n x e)) (h .virtualStorages n x e)),
             ),
       )
 
@@ -265,7 +265,7 @@ module _ (w : Sentinel) (net : Network) (sound : Sound net) (only : OnlyConstant
     links : At (net .nodes) Level
     nodes : At (net .nodes) (λ n x. T (nodeMeets w net i plan n x))
     aggregates : At (net .aggregates) (λ n a. T (aggregateMeets w net i plan n a))
-    storages : At (net .virtualStorages) (λ n v. T (storageMeets w net i plan n v))
+    virtualStorages : At (net .virtualStorages) (λ n v. T (virtualStorageMeets w net i plan n v))
     exclusives : At (net .aggregates) (λ n a. T (exclusivityMeets w net i plan n a))
 
   own-constant : (n : ℕ) (x : Node) → T (x .constant) → ownInterval w i n x ≡ bounds x
@@ -306,10 +306,10 @@ module _ (w : Sentinel) (net : Network) (sound : Sound net) (only : OnlyConstant
       subst (λ (j : Interval). T (exclusiveMeets (plan .on s) j (nodeAmount net plan m))) (sym (b .own))
       (subst (λ (t : List ℕ). T (exclusiveMeets (plan .on t) (bounds (b .node)) (nodeAmount net plan m))) (number-found s (exclusiveSets net) (from-known net s from)) c)
 
-  rules-rows : Rules → (n : ℕ) (x : Node) → getElem? (net .nodes) n ≡ some x → T (x .constant) → (k : ℕ) → List·Memᴰ k (setsListing n 0 (f .sets)) → T (exclusiveMeets (plan .on (getD (f .sets) k [])) (bounds x) (nodeAmount net plan n))
+  rules-rows : Rules → (n : ℕ) (x : Node) → getElem? (net .nodes) n ≡ some x → T (x .constant) → (k : ℕ) → List·Memᴰ k (setsWithNode n 0 (f .sets)) → T (exclusiveMeets (plan .on (getD (f .sets) k [])) (bounds x) (nodeAmount net plan n))
   unfolding columnMap
   rules-rows h n x e t k m =
-      let r = listing-sound n 0 k (exclusiveSets net) m in
+      let r = membership-sound n 0 k (exclusiveSets net) m in
       let s : List ℕ = r .set in
       let from = set-from net s (found-mem (exclusiveSets net) (r .at) s (r .found)) in
       let own : ownInterval w i n (getD (net .nodes) n noNode) ≡ bounds x = ap (ownInterval w i n) (found-get (net .nodes) n x noNode e) ∙ own-constant n x t in
@@ -362,7 +362,7 @@ module _ (w : Sentinel) (net : Network) (sound : Sound net) (only : OnlyConstant
             (λ c. subst (λ (j : Interval). T (meets w j (scaled (nodeAmount net plan n)))) (sym (own-constant n x c)) (g .constants n x e c .plain t))
             (λ c. subst (λ (j : Interval). T (meets w j (scaled (nodeAmount net plan n)))) (sym (own-varying n x c)) (v .nodes n x e c))));
         aggregates = v .aggregates;
-        storages = v .storages;
+        virtualStorages = v .virtualStorages;
         exclusives = rules-sets (rows-rules (g .constants)) (g .counts);
       }
 
@@ -379,7 +379,7 @@ module _ (w : Sentinel) (net : Network) (sound : Sound net) (only : OnlyConstant
             subst (λ (j : Interval). T (meets w j (scaled (nodeAmount net plan n)))) (own-varying n x c)
             (node-held h n x e (not-T (isExclusive (net .aggregates) n) (λ u. T-not (x .constant) c (only n x e u))));
         aggregates = h .aggregates;
-        storages = h .storages;
+        virtualStorages = h .virtualStorages;
       }
 
   to-fixed : NetworkMet → FixedMet
@@ -438,12 +438,12 @@ module _ (w : Sentinel) (net : Network) (sound : Sound net) (only : OnlyConstant
       let a : Bool = allFrom (balanced net plan) 0 (net .nodes) in
       let b : Bool = allFrom (nodeMeets w net i plan) 0 (net .nodes) in
       let c : Bool = allFrom (aggregateMeets w net i plan) 0 (net .aggregates) in
-      let d : Bool = allFrom (storageMeets w net i plan) 0 (net .virtualStorages) in
+      let d : Bool = allFrom (virtualStorageMeets w net i plan) 0 (net .virtualStorages) in
       let e : Bool = allFrom (exclusivityMeets w net i plan) 0 (net .aggregates) in
       let ta = links-test w net i plan in
       let tb = at-zero w net i plan (nodeMeets w net i plan) (net .nodes) in
       let tc = at-zero w net i plan (aggregateMeets w net i plan) (net .aggregates) in
-      let td = at-zero w net i plan (storageMeets w net i plan) (net .virtualStorages) in
+      let td = at-zero w net i plan (virtualStorageMeets w net i plan) (net .virtualStorages) in
       let te = at-zero w net i plan (exclusivityMeets w net i plan) (net .aggregates) in (
         λ h.
             let h4 = and-l (a && b && c && d) e h in
@@ -453,12 +453,12 @@ module _ (w : Sentinel) (net : Network) (sound : Sound net) (only : OnlyConstant
               links = ta .0 (and-l a b h2);
               nodes = tb .0 (and-r a b h2);
               aggregates = tc .0 (and-r (a && b) c h3);
-              storages = td .0 (and-r (a && b && c) d h4);
+              virtualStorages = td .0 (and-r (a && b && c) d h4);
               exclusives = te .0 (and-r (a && b && c && d) e h);
             },
         λ h.
             and-i (a && b && c && d) e
-            (and-i (a && b && c) d (and-i (a && b) c (and-i a b (ta .1 (h .links)) (tb .1 (h .nodes))) (tc .1 (h .aggregates))) (td .1 (h .storages)))
+            (and-i (a && b && c) d (and-i (a && b) c (and-i a b (ta .1 (h .links)) (tb .1 (h .nodes))) (tc .1 (h .aggregates))) (td .1 (h .virtualStorages)))
             (te .1 (h .exclusives)),
       )
 
@@ -468,7 +468,7 @@ module _ (w : Sentinel) (net : Network) (sound : Sound net) (only : OnlyConstant
       let a : Bool = allFrom (balanced net plan) 0 (net .nodes) in
       let b : Bool = allFrom (nodeMeets w net i plan) 0 (net .nodes) in
       let c : Bool = allFrom (aggregateMeets w net i plan) 0 (net .aggregates) in
-      let d : Bool = allFrom (storageMeets w net i plan) 0 (net .virtualStorages) in
+      let d : Bool = allFrom (virtualStorageMeets w net i plan) 0 (net .virtualStorages) in
       let e : Bool = allFrom (exclusivityMeets w net i plan) 0 (net .aggregates) in
       let k = kind-found (net .nodes) n t in
       links-test w net i plan .0 (and-l a b (and-l (a && b) c (and-l (a && b && c) d (and-l (a && b && c && d) e h)))) n (k .0) (k .1) (k .2)

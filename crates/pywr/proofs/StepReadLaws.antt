@@ -20,10 +20,10 @@ use Rattle.pywr.specs.NetworkFile.{Read}
 use Rattle.pywr.specs.Programme.{NodeShape}
 use Rattle.pywr.specs.Interval.{sentinels, storageBounds}
 use Rattle.pywr.specs.Period.{isActive, virtualInterval}
-use Rattle.pywr.specs.StepFile.{NodeStep, StepFile, readDate, isStorage, boundFits, volumeFits, boundsRead, readNodeStep, readNodeSteps, readAggregateStep, readAggregateSteps, readStorageStep, readStorageSteps, readStep}
-use Rattle.pywr.specs.StepIntervals.{intervals, nodeInterval, nodeIntervals, storageIntervals, Intervals}
+use Rattle.pywr.specs.StepFile.{NodeStep, StepFile, readDate, isStorage, boundFits, volumeFits, boundsRead, readNodeStep, readNodeSteps, readAggregateStep, readAggregateSteps, readVirtualStorageStep, readVirtualStorageSteps, readStep}
+use Rattle.pywr.specs.StepIntervals.{intervals, nodeInterval, nodeIntervals, virtualStorageIntervals, Intervals}
 use Rattle.pywr.proofs.BoundLaws.{IsInterval}
-use Rattle.pywr.proofs.NumberLaws.{flow-bound, small-is, Divisor, days-is, storage-interval, virtual-interval, flow-interval}
+use Rattle.pywr.proofs.NumberLaws.{flow-bound, small-is, Divisor, days-is, virtual-storage-interval, virtual-interval, flow-interval}
 use Rattle.pywr.proofs.VaryingLaws.{sentinels-interval}
 use Rattle.pywr.proofs.RunLaws.{bind-then, bind-value, need-value}
 use Rattle.pywr.proofs.ListLaws.{AllMem, all-none, all-cons, all-snoc}
@@ -47,7 +47,7 @@ bounds-ok : (c st : Bool) (min max now : ℕ) → T (c || cond st (isSmall min) 
     → BoundsOk (cond {A = Option NodeBounds} c none (cond {A = Option NodeBounds} st (some (storageBounds (ofPattern min) (ofPattern max) (ofPattern now))) (some (Flow (ofPattern min) (ofPattern max)))))
 unfolding nodeInterval
 bounds-ok true st min max now hmin hmax hnow s days d = sentinels-interval s
-bounds-ok false true min max now hmin hmax hnow s days d = storage-interval days (ofPattern min) (ofPattern max) (ofPattern now) d (small-is min hmin) (small-is max hmax) (small-is now hnow)
+bounds-ok false true min max now hmin hmax hnow s days d = virtual-storage-interval days (ofPattern min) (ofPattern max) (ofPattern now) d (small-is min hmin) (small-is max hmax) (small-is now hnow)
 bounds-ok false false min max now hmin hmax hnow s days d = flow-interval days (ofPattern min) (ofPattern max) (flow-bound min hmin) (flow-bound max hmax)
 
 abbrev pub StepOk : NodeStep → Type 0
@@ -72,20 +72,20 @@ read-node-steps file (n ∷ ns) soFar at r e h =
 
 -- ---- aggregates
 
-read-group : (file : List ℕ) (place : ℕ) (r : Interval) → readAggregateStep file place ≡ value r → IsInterval r
+read-aggregate : (file : List ℕ) (place : ℕ) (r : Interval) → readAggregateStep file place ≡ value r → IsInterval r
 unfolding readAggregateStep
-read-group file place r e =
+read-aggregate file place r e =
     bind-then _ _ r e (λ a a-is e. bind-then _ _ r e (λ b b-is e. bind-then _ _ r e (λ c c-is e.
     subst IsInterval (same-value _ r e)
     (record { lower = flow-bound b (checked-value 13 a isFlow _ b b-is); upper = flow-bound c (checked-value 13 a isFlow _ c c-is) }))))
 
-read-groups : (file : List ℕ) (count : ℕ) (soFar : List Interval) (at : ℕ) (r : Read (List Interval)) → readAggregateSteps file count soFar at ≡ value r → AllMem IsInterval soFar
+read-aggregates : (file : List ℕ) (count : ℕ) (soFar : List Interval) (at : ℕ) (r : Read (List Interval)) → readAggregateSteps file count soFar at ≡ value r → AllMem IsInterval soFar
     → AllMem IsInterval (r .item) × (length (r .item) ≡ length soFar + count)
 unfolding readAggregateSteps
-read-groups file zero soFar at r e h = subst (λ (q : Read (List Interval)). AllMem IsInterval (q .item) × (length (q .item) ≡ length soFar + 0)) (same-value _ r e) (h, sym (add-zero (length soFar)))
-read-groups file (suc count) soFar at r e h =
+read-aggregates file zero soFar at r e h = subst (λ (q : Read (List Interval)). AllMem IsInterval (q .item) × (length (q .item) ≡ length soFar + 0)) (same-value _ r e) (h, sym (add-zero (length soFar)))
+read-aggregates file (suc count) soFar at r e h =
     let a = bind-value _ _ r e in
-    let ih = read-groups file count (soFar ++ (a .0 ∷ [])) (at + 18) r (a .2) (all-snoc IsInterval soFar (a .0) h (read-group file at (a .0) (a .1))) in
+    let ih = read-aggregates file count (soFar ++ (a .0 ∷ [])) (at + 18) r (a .2) (all-snoc IsInterval soFar (a .0) h (read-aggregate file at (a .0) (a .1))) in
     let l = length-append soFar (a .0 ∷ []) in
     (ih .0, ih .1 ∙ (let k : length (soFar ++ (a .0 ∷ [])) + count ≡ length soFar + suc count = omega arith in k))
 
@@ -94,8 +94,8 @@ read-groups file (suc count) soFar at r e h =
 abbrev pub VolumeOk : NodeBounds → Type 0
 VolumeOk b = (s : Sentinel) (days : Float) (active : Bool) → Divisor days → IsInterval (virtualInterval s days active b)
 
-read-store : (file : List ℕ) (place : ℕ) (r : NodeBounds) → readStorageStep file place ≡ value r → VolumeOk r
-unfolding readStorageStep
+read-store : (file : List ℕ) (place : ℕ) (r : NodeBounds) → readVirtualStorageStep file place ≡ value r → VolumeOk r
+unfolding readVirtualStorageStep
 read-store file place r e =
     bind-then _ _ r e (λ a a-is e. bind-then _ _ r e (λ b b-is e. bind-then _ _ r e (λ c c-is e. bind-then _ _ r e (λ d d-is e.
     subst VolumeOk (same-value _ r e)
@@ -105,40 +105,40 @@ read-store file place r e =
     (small-is c (checked-value 13 a isSmall _ c c-is))
     (small-is d (checked-value 13 a isSmall _ d d-is)))))))
 
-read-stores : (file : List ℕ) (count : ℕ) (soFar : List NodeBounds) (at : ℕ) (r : Read (List NodeBounds)) → readStorageSteps file count soFar at ≡ value r → AllMem VolumeOk soFar
+read-virtual-storages : (file : List ℕ) (count : ℕ) (soFar : List NodeBounds) (at : ℕ) (r : Read (List NodeBounds)) → readVirtualStorageSteps file count soFar at ≡ value r → AllMem VolumeOk soFar
     → AllMem VolumeOk (r .item) × (length (r .item) ≡ length soFar + count)
-unfolding readStorageSteps
-read-stores file zero soFar at r e h = subst (λ (q : Read (List NodeBounds)). AllMem VolumeOk (q .item) × (length (q .item) ≡ length soFar + 0)) (same-value _ r e) (h, sym (add-zero (length soFar)))
-read-stores file (suc count) soFar at r e h =
+unfolding readVirtualStorageSteps
+read-virtual-storages file zero soFar at r e h = subst (λ (q : Read (List NodeBounds)). AllMem VolumeOk (q .item) × (length (q .item) ≡ length soFar + 0)) (same-value _ r e) (h, sym (add-zero (length soFar)))
+read-virtual-storages file (suc count) soFar at r e h =
     let a = bind-value _ _ r e in
-    let ih = read-stores file count (soFar ++ (a .0 ∷ [])) (at + 26) r (a .2) (all-snoc VolumeOk soFar (a .0) h (read-store file at (a .0) (a .1))) in
+    let ih = read-virtual-storages file count (soFar ++ (a .0 ∷ [])) (at + 26) r (a .2) (all-snoc VolumeOk soFar (a .0) h (read-store file at (a .0) (a .1))) in
     let l = length-append soFar (a .0 ∷ []) in
     (ih .0, ih .1 ∙ (let k : length (soFar ++ (a .0 ∷ [])) + count ≡ length soFar + suc count = omega arith in k))
 
 -- ---- the whole file
 
-pub record StepSound (aggregates storages : ℕ) (f : StepFile) : Type 0 where
+pub record StepSound (aggregates virtualStorages : ℕ) (f : StepFile) : Type 0 where
   pub days : Divisor (f .days)
   pub nodes : AllMem StepOk (f .nodes)
   pub groups : AllMem IsInterval (f .aggregates)
-  pub groupCount : length (f .aggregates) ≡ aggregates
+  pub aggregateCount : length (f .aggregates) ≡ aggregates
   pub stores : AllMem VolumeOk (f .virtualStorages)
-  pub storeCount : length (f .virtualStorages) ≡ storages
+  pub storeCount : length (f .virtualStorages) ≡ virtualStorages
 
-pub step-sound : (shapes : List NodeShape) (aggregates storages : ℕ) (file : List ℕ) (f : StepFile) → readStep shapes aggregates storages file ≡ value f → StepSound aggregates storages f
+pub step-sound : (shapes : List NodeShape) (aggregates virtualStorages : ℕ) (file : List ℕ) (f : StepFile) → readStep shapes aggregates virtualStorages file ≡ value f → StepSound aggregates virtualStorages f
 unfolding readStep
-step-sound shapes aggregates storages file f e =
+step-sound shapes aggregates virtualStorages file f e =
     bind-then _ _ f e (λ a a-is e. bind-then _ _ f e (λ b b-is e. bind-then _ _ f e (λ c c-is e. bind-then _ _ f e (λ d d-is e.
-    let g = read-groups file aggregates [] (b .next) c c-is (all-none IsInterval) in
-    let h = read-stores file storages [] (c .next) d d-is (all-none VolumeOk) in
+    let g = read-aggregates file aggregates [] (b .next) c c-is (all-none IsInterval) in
+    let h = read-virtual-storages file virtualStorages [] (c .next) d d-is (all-none VolumeOk) in
     let gl : length (c .item) ≡ 0 + aggregates = g .1 in
-    let hl : length (d .item) ≡ 0 + storages = h .1 in
-    subst (StepSound aggregates storages) (need-value _ 12 (d .next) _ f e)
+    let hl : length (d .item) ≡ 0 + virtualStorages = h .1 in
+    subst (StepSound aggregates virtualStorages) (need-value _ 12 (d .next) _ f e)
     (record {
       days = read-date file a a-is;
       nodes = read-node-steps file shapes [] (a .next) b b-is (all-none StepOk);
       groups = g .0;
-      groupCount = omega arith;
+      aggregateCount = omega arith;
       stores = h .0;
       storeCount = omega arith;
     })))))
@@ -157,20 +157,20 @@ node-sound s days d (n ∷ ns) h =
     all-cons IsInterval _ (nodeIntervals s days ns) (h n (List·Memᴰ·head refl) s days d) (node-sound s days d ns (λ x m. h x (List·Memᴰ·tail m)))
 
 store-sound : (s : Sentinel) (f : StepFile) → Divisor (f .days) → (ps : List Period) (bs : List NodeBounds) → length ps ≡ length bs → AllMem VolumeOk bs
-    → AllMem IsInterval (storageIntervals s f ps bs) × (length (storageIntervals s f ps bs) ≡ length ps)
-unfolding storageIntervals
+    → AllMem IsInterval (virtualStorageIntervals s f ps bs) × (length (virtualStorageIntervals s f ps bs) ≡ length ps)
+unfolding virtualStorageIntervals
 store-sound s f d [] bs l h = (all-none IsInterval, refl)
 store-sound s f d (p ∷ ps) [] l h = let z : suc (length ps) ≡ 0 = l in absurd (omega arith)
 store-sound s f d (p ∷ ps) (b ∷ bs) l h =
     let ih = store-sound s f d ps bs (let z : suc (length ps) ≡ suc (length bs) = l in omega arith) (λ x m. h x (List·Memᴰ·tail m)) in
-    (all-cons IsInterval _ (storageIntervals s f ps bs) (h b (List·Memᴰ·head refl) s (f .days) (isActive p (f .month) (f .day)) d) (ih .0), ap suc (ih .1))
+    (all-cons IsInterval _ (virtualStorageIntervals s f ps bs) (h b (List·Memᴰ·head refl) s (f .days) (isActive p (f .month) (f .day)) d) (ih .0), ap suc (ih .1))
 
-pub record IntervalsOk (aggregates storages : ℕ) (i : Intervals) : Type 0 where
+pub record IntervalsOk (aggregates virtualStorages : ℕ) (i : Intervals) : Type 0 where
   pub nodes : AllMem IsInterval (i .nodes)
   pub aggregates-are : AllMem IsInterval (i .aggregates)
   pub aggregateCount : length (i .aggregates) ≡ aggregates
-  pub storages-are : AllMem IsInterval (i .virtualStorages)
-  pub storageCount : length (i .virtualStorages) ≡ storages
+  pub virtual-storages-are : AllMem IsInterval (i .virtualStorages)
+  pub virtualStorageCount : length (i .virtualStorages) ≡ virtualStorages
 
 pub intervals-sound : (s : Sentinel) (ps : List Period) (aggregates : ℕ) (f : StepFile) → StepSound aggregates (length ps) f → IntervalsOk aggregates (length ps) (intervals s ps f)
 unfolding intervals
@@ -179,7 +179,7 @@ intervals-sound s ps aggregates f ok =
     record {
       nodes = node-sound s (f .days) (ok .days) (f .nodes) (ok .nodes);
       aggregates-are = ok .groups;
-      aggregateCount = ok .groupCount;
-      storages-are = v .0;
-      storageCount = v .1;
+      aggregateCount = ok .aggregateCount;
+      virtual-storages-are = v .0;
+      virtualStorageCount = v .1;
     }

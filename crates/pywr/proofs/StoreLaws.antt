@@ -9,9 +9,9 @@ use lib.ListN.{length, getD, set, length-set, length-append, List·getD-append}
 use lib.Seq.{sets, length-sets, getD-set-same, getD-set-other, getD-append-add}
 use lib.Dec.{eqb, lit≤}
 use Rattle.pywr.specs.ColEdgeMap.{MappedEdge}
-use Rattle.pywr.specs.Programme.{NodeShape, RowType, continuous, binaryUpper, binaryLower, NodeRow, StorageShape, Built}
-use Rattle.pywr.specs.Store.{Store, rowTypeOf, entries, nodeEntry, edgeEntry, nodeRowEntry, storageEntry, shapeOf}
-use Rattle.pywr.specs.Written.{rowTypeWord, flagWord, nodeWords, edgeWords, nodeRowWords, storageWords, countWords, shapeAfter, builtStore}
+use Rattle.pywr.specs.Programme.{NodeShape, RowType, continuous, binaryUpper, binaryLower, NodeRow, VirtualStorageShape, Built}
+use Rattle.pywr.specs.Store.{Store, rowTypeOf, entries, nodeEntry, edgeEntry, nodeRowEntry, virtualStorageEntry, shapeOf}
+use Rattle.pywr.specs.Written.{rowTypeWord, flagWord, nodeWords, edgeWords, nodeRowWords, virtualStorageWords, countWords, shapeAfter, builtStore}
 
 -- ---- a run of words at an offset
 
@@ -124,15 +124,15 @@ module _ (s : Store) where
       let e = word-at (s .shape) at (nodeRowWords x) h 3 (lit≤ tt) in
       λ i. record { node = a i; row = b i; rowType = (ap rowTypeOf c ∙ type-back (x .rowType)) i; set = e i }
 
-  storage-reads : (at : ℕ) (x : StorageShape) → Holds 0 (s .shape) at (storageWords x) → storageEntry s at ≡ x
-  unfolding storageEntry storageWords
-  storage-reads at x h =
-      let a = first-word (s .shape) at (storageWords x) h (lit≤ tt) in
-      let b = word-at (s .shape) at (storageWords x) h 1 (lit≤ tt) in
-      let c = word-at (s .shape) at (storageWords x) h 2 (lit≤ tt) in
-      let e = word-at (s .shape) at (storageWords x) h 3 (lit≤ tt) in
-      let f = word-at (s .shape) at (storageWords x) h 4 (lit≤ tt) in
-      let g = word-at (s .shape) at (storageWords x) h 5 (lit≤ tt) in
+  virtual-storage-reads : (at : ℕ) (x : VirtualStorageShape) → Holds 0 (s .shape) at (virtualStorageWords x) → virtualStorageEntry s at ≡ x
+  unfolding virtualStorageEntry virtualStorageWords
+  virtual-storage-reads at x h =
+      let a = first-word (s .shape) at (virtualStorageWords x) h (lit≤ tt) in
+      let b = word-at (s .shape) at (virtualStorageWords x) h 1 (lit≤ tt) in
+      let c = word-at (s .shape) at (virtualStorageWords x) h 2 (lit≤ tt) in
+      let e = word-at (s .shape) at (virtualStorageWords x) h 3 (lit≤ tt) in
+      let f = word-at (s .shape) at (virtualStorageWords x) h 4 (lit≤ tt) in
+      let g = word-at (s .shape) at (virtualStorageWords x) h 5 (lit≤ tt) in
       λ i.
       record {
         row = a i;
@@ -163,9 +163,9 @@ pub nodeRow-wide : (x : NodeRow) → length (nodeRowWords x) ≡ 4
 unfolding nodeRowWords
 nodeRow-wide x = refl
 
-pub storage-wide : (x : StorageShape) → length (storageWords x) ≡ 6
-unfolding storageWords
-storage-wide x = refl
+pub virtual-storage-wide : (x : VirtualStorageShape) → length (virtualStorageWords x) ≡ 6
+unfolding virtualStorageWords
+virtual-storage-wide x = refl
 
 counts-wide : (b : Built) → length (countWords b) ≡ 11
 unfolding countWords
@@ -193,8 +193,8 @@ module _ (b : Built) where
   abbrev nodeRowTable : List ℕ
   nodeRowTable = flatMap nodeRowWords (b .shape .nodeRows)
 
-  abbrev storageTable : List ℕ
-  storageTable = flatMap storageWords (b .shape .virtualStorages)
+  abbrev virtualStorageTable : List ℕ
+  virtualStorageTable = flatMap virtualStorageWords (b .shape .virtualStorages)
 
   -- the run after each table
   abbrev r1 : List ℕ → List ℕ
@@ -240,8 +240,8 @@ module _ (old : List ℕ) (b : Built) (room : 19723 ≤ length old) (fit : Table
   n5 : 19467 + length (b .shape .aggregates) ≤ 19531
   n5 = let h = fit .aggregates in omega arith
 
-  n6 : 19531 + length (storageTable b) ≤ 19723
-  n6 = let e = flat-length storageWords 6 storage-wide (b .shape .virtualStorages) in let h = fit .virtualStorages in omega arith
+  n6 : 19531 + length (virtualStorageTable b) ≤ 19723
+  n6 = let e = flat-length virtualStorageWords 6 virtual-storage-wide (b .shape .virtualStorages) in let h = fit .virtualStorages in omega arith
 
   pub counts-held : Holds 0 (shapeAfter old b) 0 (countWords b)
   unfolding shapeAfter
@@ -252,7 +252,7 @@ module _ (old : List ℕ) (b : Built) (room : 19723 ≤ length old) (fit : Table
       let d = holds-after 0 (pipeTable b) (countWords b) (r2 b old) 0 523 (omega arith) c in
       let e = holds-after 0 (nodeRowTable b) (countWords b) (r3 b old) 0 2059 (omega arith) d in
       let f = holds-after 0 (b .shape .aggregates) (countWords b) (r4 b old) 0 19467 (omega arith) e in
-      holds-after 0 (storageTable b) (countWords b) (r5 b old) 0 19531 (omega arith) f
+      holds-after 0 (virtualStorageTable b) (countWords b) (r5 b old) 0 19531 (omega arith) f
 
   pub nodes-held : Holds 0 (shapeAfter old b) 11 (nodeTable b)
   unfolding shapeAfter
@@ -262,7 +262,7 @@ module _ (old : List ℕ) (b : Built) (room : 19723 ≤ length old) (fit : Table
       let d = holds-after 0 (pipeTable b) (nodeTable b) (r2 b old) 11 523 n c in
       let e = holds-after 0 (nodeRowTable b) (nodeTable b) (r3 b old) 11 2059 (omega arith) d in
       let f = holds-after 0 (b .shape .aggregates) (nodeTable b) (r4 b old) 11 19467 (omega arith) e in
-      holds-after 0 (storageTable b) (nodeTable b) (r5 b old) 11 19531 (omega arith) f
+      holds-after 0 (virtualStorageTable b) (nodeTable b) (r5 b old) 11 19531 (omega arith) f
 
   pub pipes-held : Holds 0 (shapeAfter old b) 523 (pipeTable b)
   unfolding shapeAfter
@@ -271,7 +271,7 @@ module _ (old : List ℕ) (b : Built) (room : 19723 ≤ length old) (fit : Table
       let d = sets-holds 0 (pipeTable b) (r2 b old) 523 (let l = l2 in omega arith) in
       let e = holds-after 0 (nodeRowTable b) (pipeTable b) (r3 b old) 523 2059 n d in
       let f = holds-after 0 (b .shape .aggregates) (pipeTable b) (r4 b old) 523 19467 (omega arith) e in
-      holds-after 0 (storageTable b) (pipeTable b) (r5 b old) 523 19531 (omega arith) f
+      holds-after 0 (virtualStorageTable b) (pipeTable b) (r5 b old) 523 19531 (omega arith) f
 
   pub nodeRows-held : Holds 0 (shapeAfter old b) 2059 (nodeRowTable b)
   unfolding shapeAfter
@@ -279,18 +279,18 @@ module _ (old : List ℕ) (b : Built) (room : 19723 ≤ length old) (fit : Table
       let n = n4 in
       let e = sets-holds 0 (nodeRowTable b) (r3 b old) 2059 (let l = l3 in omega arith) in
       let f = holds-after 0 (b .shape .aggregates) (nodeRowTable b) (r4 b old) 2059 19467 n e in
-      holds-after 0 (storageTable b) (nodeRowTable b) (r5 b old) 2059 19531 (omega arith) f
+      holds-after 0 (virtualStorageTable b) (nodeRowTable b) (r5 b old) 2059 19531 (omega arith) f
 
   pub aggregates-held : Holds 0 (shapeAfter old b) 19467 (b .shape .aggregates)
   unfolding shapeAfter
   aggregates-held =
       let n = n5 in
       let f = sets-holds 0 (b .shape .aggregates) (r4 b old) 19467 (let l = l4 in omega arith) in
-      holds-after 0 (storageTable b) (b .shape .aggregates) (r5 b old) 19467 19531 n f
+      holds-after 0 (virtualStorageTable b) (b .shape .aggregates) (r5 b old) 19467 19531 n f
 
-  pub storages-held : Holds 0 (shapeAfter old b) 19531 (storageTable b)
+  pub virtual-storages-held : Holds 0 (shapeAfter old b) 19531 (virtualStorageTable b)
   unfolding shapeAfter
-  storages-held = let n = n6 in sets-holds 0 (storageTable b) (r5 b old) 19531 (let l = l5 in omega arith)
+  virtual-storages-held = let n = n6 in sets-holds 0 (virtualStorageTable b) (r5 b old) 19531 (let l = l5 in omega arith)
 
 -- ---- what is read of a built store is what was built
 
@@ -317,7 +317,7 @@ module _ (old : Store) (b : Built) (room : 19723 ≤ length (old .shape)) (fit :
       ap (entries (λ (at : ℕ). getD run at 0) 1 19467) (count-is 9 (lit≤ tt))
       ∙ entries-back 0 run (λ (at : ℕ). getD run at 0) 1 (λ (x : ℕ). x ∷ []) (λ x. refl) (row-reads s) (b .shape .aggregates) 19467
       (subst (λ (l : List ℕ). Holds 0 run 19467 l) (sym (singles (b .shape .aggregates))) (aggregates-held (old .shape) b room fit)) in
-      let storages : entries (storageEntry s) 6 19531 (getD run 10 0) ≡ b .shape .virtualStorages =
-      ap (entries (storageEntry s) 6 19531) (count-is 10 (lit≤ tt))
-      ∙ entries-back 0 run (storageEntry s) 6 storageWords storage-wide (storage-reads s) (b .shape .virtualStorages) 19531 (storages-held (old .shape) b room fit) in
-      λ i. record { nodes = nodes i; mappedEdges = mappedEdges i; edgeColumns = count-is 3 (lit≤ tt) i; nodeRows = nodeRows i; aggregates = aggregates i; virtualStorages = storages i }
+      let virtualStorages : entries (virtualStorageEntry s) 6 19531 (getD run 10 0) ≡ b .shape .virtualStorages =
+      ap (entries (virtualStorageEntry s) 6 19531) (count-is 10 (lit≤ tt))
+      ∙ entries-back 0 run (virtualStorageEntry s) 6 virtualStorageWords virtual-storage-wide (virtual-storage-reads s) (b .shape .virtualStorages) 19531 (virtual-storages-held (old .shape) b room fit) in
+      λ i. record { nodes = nodes i; mappedEdges = mappedEdges i; edgeColumns = count-is 3 (lit≤ tt) i; nodeRows = nodeRows i; aggregates = aggregates i; virtualStorages = virtualStorages i }

@@ -29,7 +29,7 @@ pub record Upto (g n : ℕ) (x : Float) : Type 0 where
 
 pub data AllUpto (g n : ℕ) : List Element → Type 0 where
   none : AllUpto g n []
-  more : {e : Element} {es : List Element} → Upto g n (e .factor) → AllUpto g n es → AllUpto g n (e ∷ es)
+  more : {e : Element} {es : List Element} → Upto g n (e .value) → AllUpto g n es → AllUpto g n (e ∷ es)
 
 -- ---- add is exact
 
@@ -65,15 +65,15 @@ module _ {g : ℕ} (f : ColumnMap) (plan : Plan) (c : ℕ) (x : Float) (b n : �
       go ih Ordering·eq q =
           let same : c ≡ e .column = eqb→eq c (e .column) (subst (λ (o : Ordering). T (isEq o)) (sym q) tt) in
           ap (λ (y : ℤ). y *ℤ pos (onColumn f plan c) +ℤ rowSum f plan es)
-          (exact-add b n (e .factor) x room ue u)
-          ∙ ap (λ (y : ℤ). y +ℤ rowSum f plan es) (add-mulℤ (exact (e .factor)) (exact x) (pos (onColumn f plan c)) ∙ +ℤ-comm (term (e .factor) c) (term x c))
-          ∙ +ℤ-assoc (term x c) (term (e .factor) c) (rowSum f plan es)
-          ∙ ap (λ (k : ℕ). term x c +ℤ (term (e .factor) k +ℤ rowSum f plan es)) same
+          (exact-add b n (e .value) x room ue u)
+          ∙ ap (λ (y : ℤ). y +ℤ rowSum f plan es) (add-mulℤ (exact (e .value)) (exact x) (pos (onColumn f plan c)) ∙ +ℤ-comm (term (e .value) c) (term x c))
+          ∙ +ℤ-assoc (term x c) (term (e .value) c) (rowSum f plan es)
+          ∙ ap (λ (k : ℕ). term x c +ℤ (term (e .value) k +ℤ rowSum f plan es)) same
       go ih Ordering·gt q =
-          ap (λ (y : ℤ). term (e .factor) (e .column) +ℤ y) ih
-          ∙ sym (+ℤ-assoc (term (e .factor) (e .column)) (term x c) (rowSum f plan es))
-          ∙ ap (λ (y : ℤ). y +ℤ rowSum f plan es) (+ℤ-comm (term (e .factor) (e .column)) (term x c))
-          ∙ +ℤ-assoc (term x c) (term (e .factor) (e .column)) (rowSum f plan es)
+          ap (λ (y : ℤ). term (e .value) (e .column) +ℤ y) ih
+          ∙ sym (+ℤ-assoc (term (e .value) (e .column)) (term x c) (rowSum f plan es))
+          ∙ ap (λ (y : ℤ). y +ℤ rowSum f plan es) (+ℤ-comm (term (e .value) (e .column)) (term x c))
+          ∙ +ℤ-assoc (term x c) (term (e .value) (e .column)) (rowSum f plan es)
 
 -- ---- the steps of a row's elements after an addition
 
@@ -82,7 +82,7 @@ wider {g} a b x h u = record { grain = u .grain; most = le-trans (u .most) (mul-
 
 pub all-wider : {g : ℕ} (a b : ℕ) (row : List Element) → a ≤ b → AllUpto g a row → AllUpto g b row
 all-wider a b [] h none = none
-all-wider a b (e ∷ es) h (more u us) = more (wider a b (e .factor) h u) (all-wider a b es h us)
+all-wider a b (e ∷ es) h (more u us) = more (wider a b (e .value) h u) (all-wider a b es h us)
 
 pub zero-upto : (g : ℕ) → Upto g 0 zero64
 unfolding zero64
@@ -98,9 +98,9 @@ module _ {g : ℕ} (c : ℕ) (x : Float) (b n : ℕ) (room : b + n < 2 ^ 53) (u 
   add-element-upto (e ∷ es) (more ue us) = go (add-element-upto es us) (compare c (e .column))
     where
       go : AllUpto g (b + n) (addElement c x es) → (o : Ordering) → AllUpto g (b + n) (insert o c x e es (addElement c x es))
-      go ih Ordering·lt = more new-upto (more (wider b (b + n) (e .factor) (omega arith) ue) (all-wider b (b + n) es (omega arith) us))
-      go ih Ordering·eq = more (add-upto b n (e .factor) x room ue u) (all-wider b (b + n) es (omega arith) us)
-      go ih Ordering·gt = more (wider b (b + n) (e .factor) (omega arith) ue) ih
+      go ih Ordering·lt = more new-upto (more (wider b (b + n) (e .value) (omega arith) ue) (all-wider b (b + n) es (omega arith) us))
+      go ih Ordering·eq = more (add-upto b n (e .value) x room ue u) (all-wider b (b + n) es (omega arith) us)
+      go ih Ordering·gt = more (wider b (b + n) (e .value) (omega arith) ue) ih
 
 -- ---- one factor on a list of columns
 

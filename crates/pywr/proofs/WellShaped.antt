@@ -17,26 +17,26 @@ use Rattle.pywr.specs.Network.{Edge, VirtualStorage, Network, listed}
 use Rattle.pywr.specs.ColEdgeMap.{columns, MappedEdge, withColumns, mappedEdges}
 use Rattle.pywr.specs.ExclusiveSets.{exclusiveSets}
 use Rattle.pywr.specs.Rows.{Element, columnMap, aggregateRow, virtualStorageRow}
-use Rattle.pywr.specs.Programme.{Row, Programme, NodeShape, RowType, continuous, binaryUpper, binaryLower, NodeRow, StorageShape, Built}
+use Rattle.pywr.specs.Programme.{Row, Programme, NodeShape, RowType, continuous, binaryUpper, binaryLower, NodeRow, VirtualStorageShape, Built}
 use Rattle.pywr.specs.VaryingRows.{RowRequest, requestsFrom, freshRow}
 use Rattle.pywr.specs.FixedRows.{massRowsFrom, constantRowsFrom, exclusivityRows}
-use Rattle.pywr.specs.Build.{allColumns, nodeShape, placedNodeRows, placedStorages, requestedRow, assemble, programmeOf, elementCount, underCeilings}
-use Rattle.pywr.specs.Store.{Store, word, sentinelCode, nodeCount, edgeCount, edgeColumnCount, setCount, varyingCount, fixedCount, elementsKept, nodeRowCount, aggregateCount, storageCount, rowCount, columnCount, startOf, columnsOfRow}
-use Rattle.pywr.specs.Misshapen.{countsFit, startsRise, columnsRise, rowColumnsRise, nodeFits, edgeFits, nodeRowFits, aggregateFits, storageFits, allEntries, wellShaped}
-use Rattle.pywr.specs.Written.{sentinelWord, rowTypeWord, flagWord, nodeWords, edgeWords, nodeRowWords, storageWords, countWords, shapeAfter, startsFrom, columnsIn, rowsOf, builtStore}
+use Rattle.pywr.specs.Build.{allColumns, nodeShape, placedNodeRows, placedVirtualStorages, requestedRow, assemble, programmeOf, elementCount, underCeilings}
+use Rattle.pywr.specs.Store.{Store, word, sentinelCode, nodeCount, edgeCount, edgeColumnCount, setCount, varyingCount, fixedCount, elementsKept, nodeRowCount, aggregateCount, virtualStorageCount, rowCount, columnCount, startOf, columnsOfRow}
+use Rattle.pywr.specs.Misshapen.{countsFit, startsRise, columnsRise, rowColumnsRise, nodeFits, edgeFits, nodeRowFits, aggregateFits, virtualStorageFits, allEntries, wellShaped}
+use Rattle.pywr.specs.Written.{sentinelWord, rowTypeWord, flagWord, nodeWords, edgeWords, nodeRowWords, virtualStorageWords, countWords, shapeAfter, startsFrom, columnsIn, rowsOf, builtStore}
 use Rattle.pywr.specs.Plans.{Plan}
 use Rattle.pywr.proofs.AmountLaws.{pipes-length}
 use Rattle.pywr.proofs.EvenLaws.{mapped-edge-of}
 use Rattle.pywr.proofs.MassLaws.{Every}
-use Rattle.pywr.proofs.StoreLaws.{Holds, holds-left, holds-right, word-at, first-word, node-wide, pipe-wide, nodeRow-wide, storage-wide, nodes-held, pipes-held, nodeRows-held, aggregates-held, storages-held, count-is}
+use Rattle.pywr.proofs.StoreLaws.{Holds, holds-left, holds-right, word-at, first-word, node-wide, pipe-wide, nodeRow-wide, virtual-storage-wide, nodes-held, pipes-held, nodeRows-held, aggregates-held, virtual-storages-held, count-is}
 use Rattle.pywr.proofs.RowsBack.{held-head, held-tail, start-head, part-is, columns-length}
 use Rattle.pywr.proofs.Represents.{Roomy, Represents, ProgrammeFits, built-represents}
 use Rattle.pywr.proofs.ListLaws.{AllMem, all-none, all-cons, all-append, all-map, every-mem, found-mem, mem-found, not-found, same-some, below-found, found-left, found-map}
-use Rattle.pywr.proofs.ListingLaws.{mem-listed}
+use Rattle.pywr.proofs.MembershipLaws.{mem-listed}
 use Rattle.pywr.proofs.ReadLaws.{Good, Sound, EdgeOk}
-use Rattle.pywr.proofs.FitLaws.{elements-append, columns-long, columns-most, forNodes, forAggregates, forStorages, integers-all, programme-fits}
+use Rattle.pywr.proofs.FitLaws.{elements-append, columns-long, columns-most, forNodes, forAggregates, forVirtualStorages, integers-all, programme-fits}
 use Rattle.pywr.proofs.CountLaws.{sets-under, requests-few}
-use Rattle.pywr.proofs.ShapeLaws.{cols, Good-row, rising-test, aggregate-good, storage-good, masses-good, constants-good, actives-good, AskOk, requests-ok, Sits, sits-all, sits-stay, joins-all}
+use Rattle.pywr.proofs.ShapeLaws.{cols, Good-row, rising-test, aggregate-good, virtual-storage-good, masses-good, constants-good, actives-good, AskOk, requests-ok, Sits, sits-all, sits-stay, joins-all}
 
 -- ---- tests of entries
 
@@ -132,11 +132,11 @@ module _ (net : Network) (sound : Sound net) (rows : List (List Element)) where
       moved (inl q) = inl q
       moved (inr q) = inr (q .0, subst (λ (l : List ℕ). List·Memᴰ (columns net .count + a .set) l) (sym e) (q .1))
 
-storages-under : (n : ℕ) (vs : List VirtualStorage) (ps : List ℕ) → AllMem (λ (p : ℕ). p < n) ps → AllMem (λ (v : StorageShape). v .row < n) (placedStorages vs ps)
-unfolding placedStorages
-storages-under n [] ps h = all-none (λ (v : StorageShape). v .row < n)
-storages-under n (v ∷ vs) [] h = all-none (λ (v : StorageShape). v .row < n)
-storages-under n (v ∷ vs) (p ∷ ps) h = all-cons (λ (v : StorageShape). v .row < n) _ (placedStorages vs ps) (h p (List·Memᴰ·head refl)) (storages-under n vs ps (λ q m. h q (List·Memᴰ·tail m)))
+virtual-storages-under : (n : ℕ) (vs : List VirtualStorage) (ps : List ℕ) → AllMem (λ (p : ℕ). p < n) ps → AllMem (λ (v : VirtualStorageShape). v .row < n) (placedVirtualStorages vs ps)
+unfolding placedVirtualStorages
+virtual-storages-under n [] ps h = all-none (λ (v : VirtualStorageShape). v .row < n)
+virtual-storages-under n (v ∷ vs) [] h = all-none (λ (v : VirtualStorageShape). v .row < n)
+virtual-storages-under n (v ∷ vs) (p ∷ ps) h = all-cons (λ (v : VirtualStorageShape). v .row < n) _ (placedVirtualStorages vs ps) (h p (List·Memᴰ·head refl)) (virtual-storages-under n vs ps (λ q m. h q (List·Memᴰ·tail m)))
 
 record PipeOk (nodes edges : ℕ) (p : MappedEdge) : Type 0 where
   from-under : p .from < nodes
@@ -214,7 +214,7 @@ module _ (w : Sentinel) (net : Network) (sound : Sound net) (old : Store) (room 
   store = builtStore old b
 
   abbrev joined : List (List Element)
-  joined = forStorages w net idle .rows
+  joined = forVirtualStorages w net idle .rows
 
   few : length (exclusiveSets net) ≤ 128
   few = sets-under net (programmeOf w net .programme) under
@@ -265,7 +265,7 @@ module _ (w : Sentinel) (net : Network) (sound : Sound net) (old : Store) (room 
   unfolding builtStore countWords
   c9 = counted 9 (lit≤ tt)
 
-  c10 : storageCount store ≡ length (b .shape .virtualStorages)
+  c10 : virtualStorageCount store ≡ length (b .shape .virtualStorages)
   unfolding builtStore countWords
   c10 = counted 10 (lit≤ tt)
 
@@ -288,7 +288,7 @@ module _ (w : Sentinel) (net : Network) (sound : Sound net) (old : Store) (room 
   counts-ok =
       let g = sound .good in
       let ne = g .edgeCount in
-      nine (leb (nodeCount store) 256) (leb (edgeCount store) 512) (leb (edgeColumnCount store) 512) (leb (setCount store) 128) (leb (rowCount store) 1024) (leb (elementsKept store) 4096) (leb (nodeRowCount store) 4352) (leb (aggregateCount store) 64) (leb (storageCount store) 32)
+      nine (leb (nodeCount store) 256) (leb (edgeCount store) 512) (leb (edgeColumnCount store) 512) (leb (setCount store) 128) (leb (rowCount store) 1024) (leb (elementsKept store) 4096) (leb (nodeRowCount store) 4352) (leb (aggregateCount store) 64) (leb (virtualStorageCount store) 32)
       (leb-is (nodeCount store) (length (net .nodes)) 256 c1 (g .nodeCount))
       (leb-is (edgeCount store) (length (net .edges)) 512 c2 ne)
       (leb-is (edgeColumnCount store) (columns net .count) 512 c3 (le-trans (columns-most net) ne))
@@ -297,7 +297,7 @@ module _ (w : Sentinel) (net : Network) (sound : Sound net) (old : Store) (room 
       (leb-is (elementsKept store) (elementCount (rowsOf (b .programme))) 4096 (c7 ∙ sym (rows-elements (b .programme))) (fits .elements))
       (leb-is (nodeRowCount store) (length (b .shape .nodeRows)) 4352 c8 (fits .tables .nodeRows))
       (leb-is (aggregateCount store) (length (b .shape .aggregates)) 64 c9 (fits .tables .aggregates))
-      (leb-is (storageCount store) (length (b .shape .virtualStorages)) 32 c10 (fits .tables .virtualStorages))
+      (leb-is (virtualStorageCount store) (length (b .shape .virtualStorages)) 32 c10 (fits .tables .virtualStorages))
 
   starts-ok : T (eqb (startOf store 0) 0 && startsRise store 0 (rowCount store))
   starts-ok =
@@ -313,7 +313,7 @@ module _ (w : Sentinel) (net : Network) (sound : Sound net) (old : Store) (room 
   joined-good : AllMem (Good-row net sound) joined
   joined-good =
       joins-all (Good-row net sound) (map (virtualStorageRow (columnMap net)) (net .virtualStorages)) (record { rows = forAggregates w net idle .rows; places = [] })
-      (all-map (Good-row net sound) (virtualStorageRow (columnMap net)) (net .virtualStorages) (λ v m. storage-good net sound v))
+      (all-map (Good-row net sound) (virtualStorageRow (columnMap net)) (net .virtualStorages) (λ v m. virtual-storage-good net sound v))
       (joins-all (Good-row net sound) (map (aggregateRow (columnMap net)) (net .aggregates)) (record { rows = forNodes w net idle .rows; places = [] })
       (all-map (Good-row net sound) (aggregateRow (columnMap net)) (net .aggregates) (λ a m. aggregate-good net sound a))
       (joins-all (Good-row net sound) (map requestedRow (requestsFrom (columnMap net) 0 (net .nodes))) (record { rows = []; places = [] }) (requests-rise net sound) (all-none (Good-row net sound))))
@@ -380,7 +380,7 @@ module _ (w : Sentinel) (net : Network) (sound : Sound net) (old : Store) (room 
       sits-stay (map (aggregateRow (columnMap net)) (net .aggregates)) (forAggregates w net idle .places) (map (virtualStorageRow (columnMap net)) (net .virtualStorages)) (record { rows = forAggregates w net idle .rows; places = [] })
       (sits-all (map (aggregateRow (columnMap net)) (net .aggregates)) [] (record { rows = forNodes w net idle .rows; places = [] }) Sits.none)
 
-  sitsV : Sits joined (map (virtualStorageRow (columnMap net)) (net .virtualStorages)) (forStorages w net idle .places)
+  sitsV : Sits joined (map (virtualStorageRow (columnMap net)) (net .virtualStorages)) (forVirtualStorages w net idle .places)
   sitsV = sits-all (map (virtualStorageRow (columnMap net)) (net .virtualStorages)) [] (record { rows = forAggregates w net idle .rows; places = [] }) Sits.none
 
   -- the columns of a varying row
@@ -437,20 +437,20 @@ module _ (w : Sentinel) (net : Network) (sound : Sound net) (old : Store) (room 
       (row-all (shapeAfter (old .shape) b) (aggregateFits store) (length joined) (λ at x k e. ltb-is (word store at) x (varyingCount store) (length joined) e c5 k)
       (b .shape .aggregates) 19467 (places-under joined _ _ sitsA) (aggregates-held (old .shape) b (room .shape) (fits .tables)))
 
-  storages-ok : T (allEntries (storageFits store) 6 19531 (storageCount store))
-  unfolding builtStore storageFits storageWords countWords programmeOf assemble
-  storages-ok =
-      subst (λ (n : ℕ). T (allEntries (storageFits store) 6 19531 n)) (sym (counted 10 (lit≤ tt)))
-      (table-all (shapeAfter (old .shape) b) (storageFits store) 6 storageWords (λ (v : StorageShape). v .row < length joined) storage-wide
+  virtual-storages-ok : T (allEntries (virtualStorageFits store) 6 19531 (virtualStorageCount store))
+  unfolding builtStore virtualStorageFits virtualStorageWords countWords programmeOf assemble
+  virtual-storages-ok =
+      subst (λ (n : ℕ). T (allEntries (virtualStorageFits store) 6 19531 n)) (sym (counted 10 (lit≤ tt)))
+      (table-all (shapeAfter (old .shape) b) (virtualStorageFits store) 6 virtualStorageWords (λ (v : VirtualStorageShape). v .row < length joined) virtual-storage-wide
       (λ at x k h.
       and-i (ltb (word store at) (varyingCount store)) (leb (word store (at + 1)) 1)
-      (ltb-is (word store at) (x .row) (varyingCount store) (length joined) (first-word (shapeAfter (old .shape) b) at (storageWords x) h (lit≤ tt)) c5 k)
-      (leb-is (word store (at + 1)) (flagWord (not (x .period .always))) 1 (word-at (shapeAfter (old .shape) b) at (storageWords x) h 1 (lit≤ tt)) (flag-most (not (x .period .always)))))
-      (b .shape .virtualStorages) 19531 (storages-under (length joined) (net .virtualStorages) (forStorages w net idle .places) (places-under joined _ _ sitsV)) (storages-held (old .shape) b (room .shape) (fits .tables)))
+      (ltb-is (word store at) (x .row) (varyingCount store) (length joined) (first-word (shapeAfter (old .shape) b) at (virtualStorageWords x) h (lit≤ tt)) c5 k)
+      (leb-is (word store (at + 1)) (flagWord (not (x .period .always))) 1 (word-at (shapeAfter (old .shape) b) at (virtualStorageWords x) h 1 (lit≤ tt)) (flag-most (not (x .period .always)))))
+      (b .shape .virtualStorages) 19531 (virtual-storages-under (length joined) (net .virtualStorages) (forVirtualStorages w net idle .places) (places-under joined _ _ sitsV)) (virtual-storages-held (old .shape) b (room .shape) (fits .tables)))
 
   pub shaped : T (wellShaped (builtStore old (programmeOf w net)))
   unfolding wellShaped
   shaped =
       nine (countsFit store) (leb (sentinelCode store) 1) (eqb (startOf store 0) 0 && startsRise store 0 (rowCount store)) (allEntries (rowColumnsRise store) 1 0 (rowCount store)) (allEntries (nodeFits store) 2 11 (nodeCount store))
-      (allEntries (edgeFits store) 3 523 (edgeCount store)) (allEntries (nodeRowFits store) 4 2059 (nodeRowCount store)) (allEntries (aggregateFits store) 1 19467 (aggregateCount store)) (allEntries (storageFits store) 6 19531 (storageCount store))
-      counts-ok (leb-is (sentinelCode store) (sentinelWord w) 1 c0 (sentinel-most w)) starts-ok rows-ok nodes-ok edges-ok nodeRows-ok aggregates-ok storages-ok
+      (allEntries (edgeFits store) 3 523 (edgeCount store)) (allEntries (nodeRowFits store) 4 2059 (nodeRowCount store)) (allEntries (aggregateFits store) 1 19467 (aggregateCount store)) (allEntries (virtualStorageFits store) 6 19531 (virtualStorageCount store))
+      counts-ok (leb-is (sentinelCode store) (sentinelWord w) 1 c0 (sentinel-most w)) starts-ok rows-ok nodes-ok edges-ok nodeRows-ok aggregates-ok virtual-storages-ok

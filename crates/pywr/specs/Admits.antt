@@ -27,7 +27,7 @@ onColumn f plan c = cond (ltb c (f .edgeColumns)) (carried plan c 0 (f .mappedEd
 -- a row's sum, in units of 2 ^ -2148
 unfoldable pub rowSum : ColumnMap → Plan → List Element → ℤ
 rowSum f plan [] = pos 0
-rowSum f plan (e ∷ es) = exact (e .factor) *ℤ pos (onColumn f plan (e .column)) +ℤ rowSum f plan es
+rowSum f plan (e ∷ es) = exact (e .value) *ℤ pos (onColumn f plan (e .column)) +ℤ rowSum f plan es
 
 -- "every column and row bound is met, summed exactly"
 unfoldable pub rowMet : Sentinel → ColumnMap → Plan → ℕ → Row → Bool

@@ -61,8 +61,8 @@ nodeMeets s net i plan n x = isExclusive (net .aggregates) n || meets s (ownInte
 unfoldable pub aggregateMeets : Sentinel → Network → Intervals → Plan → ℕ → Aggregate → Bool
 aggregateMeets s net i plan n a = meets s (getD (i .aggregates) n (sentinels s)) (scaled (setsAmount net plan (a .sets)))
 
-unfoldable pub storageMeets : Sentinel → Network → Intervals → Plan → ℕ → VirtualStorage → Bool
-storageMeets s net i plan n v = meets s (getD (i .virtualStorages) n (sentinels s)) (partsAmount net plan (v .parts))
+unfoldable pub virtualStorageMeets : Sentinel → Network → Intervals → Plan → ℕ → VirtualStorage → Bool
+virtualStorageMeets s net i plan n v = meets s (getD (i .virtualStorages) n (sentinels s)) (partsAmount net plan (v .parts))
 
 -- "an exclusive node's amount is, per set, at most min(max, 1e6) when on and 0 when off, and if min isn't 0 at least max(min, 1e-6) when on and 0 when off"
 unfoldable pub onAmount : Bool → Float → ℤ
@@ -100,5 +100,5 @@ allows s net i plan =
     allFrom (balanced net plan) 0 (net .nodes)
     && allFrom (nodeMeets s net i plan) 0 (net .nodes)
     && allFrom (aggregateMeets s net i plan) 0 (net .aggregates)
-    && allFrom (storageMeets s net i plan) 0 (net .virtualStorages)
+    && allFrom (virtualStorageMeets s net i plan) 0 (net .virtualStorages)
     && allFrom (exclusivityMeets s net i plan) 0 (net .aggregates)

@@ -11,7 +11,7 @@ use Rattle.pywr.specs.Network.{Node, VirtualStorage, Network}
 use Rattle.pywr.specs.NetworkFile.{parseNetwork}
 use Rattle.pywr.specs.Rows.{Element, ColumnMap, columnMap, aggregateRow, virtualStorageRow}
 use Rattle.pywr.specs.VariableRows.{addVariableRows, Joined}
-use Rattle.pywr.specs.Programme.{Column, Row, Programme, NodeShape, NodeRow, StorageShape, Built}
+use Rattle.pywr.specs.Programme.{Column, Row, Programme, NodeShape, NodeRow, VirtualStorageShape, Built}
 use Rattle.pywr.specs.VaryingRows.{RowRequest, requestsFrom, freshRow}
 use Rattle.pywr.specs.FixedRows.{massRowsFrom, constantRowsFrom, exclusivityRows}
 
@@ -33,10 +33,10 @@ placedNodeRows [] places = []
 placedNodeRows (a ∷ rest) [] = []
 placedNodeRows (a ∷ rest) (r ∷ places) = record { node = a .node; row = r; rowType = a .rowType; set = a .set } ∷ placedNodeRows rest places
 
-unfoldable pub placedStorages : List VirtualStorage → List ℕ → List StorageShape
-placedStorages [] places = []
-placedStorages (v ∷ vs) [] = []
-placedStorages (v ∷ vs) (r ∷ places) = record { row = r; period = v .period } ∷ placedStorages vs places
+unfoldable pub placedVirtualStorages : List VirtualStorage → List ℕ → List VirtualStorageShape
+placedVirtualStorages [] places = []
+placedVirtualStorages (v ∷ vs) [] = []
+placedVirtualStorages (v ∷ vs) (r ∷ places) = record { row = r; period = v .period } ∷ placedVirtualStorages vs places
 
 unfoldable pub requestedRow : RowRequest → List Element
 requestedRow a = a .row
@@ -47,13 +47,13 @@ assemble s net f =
     let requests : List RowRequest = requestsFrom f 0 (net .nodes) in
     let forNodes : Joined = addVariableRows (map requestedRow requests) (record { rows = []; places = [] }) in
     let forAggregates : Joined = addVariableRows (map (aggregateRow f) (net .aggregates)) (record { rows = forNodes .rows; places = [] }) in
-    let forStorages : Joined = addVariableRows (map (virtualStorageRow f) (net .virtualStorages)) (record { rows = forAggregates .rows; places = [] }) in
+    let forVirtualStorages : Joined = addVariableRows (map (virtualStorageRow f) (net .virtualStorages)) (record { rows = forAggregates .rows; places = [] }) in
     record {
       programme =
           record {
             sentinel = s;
             columns = allColumns s f;
-            varying = map (freshRow s) (forStorages .rows);
+            varying = map (freshRow s) (forVirtualStorages .rows);
             fixed = massRowsFrom f 0 (net .nodes) ++ constantRowsFrom s f 0 (net .nodes) ++ exclusivityRows f (net .aggregates);
           };
       shape =
@@ -63,7 +63,7 @@ assemble s net f =
             edgeColumns = f .edgeColumns;
             nodeRows = placedNodeRows requests (forNodes .places);
             aggregates = forAggregates .places;
-            virtualStorages = placedStorages (net .virtualStorages) (forStorages .places);
+            virtualStorages = placedVirtualStorages (net .virtualStorages) (forVirtualStorages .places);
           };
     }
 

@@ -9,24 +9,24 @@ use Rattle.pywr.specs.Numbers.{double, zero64, one64, two64, million, mi
 use Rattle.pywr.specs.Network.{noNode, kindOf, keepIf, listed, anyListed, isExclusive, edgesWith, incoming, outgoing}
 use Rattle.pywr.specs.NetworkFile.{constantFits, readNode, joins, badEdge, readEdge, readMembers, readSets, readAggregate, readParts, readVirtualStorage, markAt, inOrder, hasRoom, withNode, withEdge, withAggregate, withVirtualStorage, readBody, between, mostConstant, activeFits, leastDate, mostDate, readRecord, readRecords, firstRefused, isEmpty, unconnectedLink, badConstant, refusedIf, checkNetwork, parseNetwork}
 use Rattle.pywr.specs.ColEdgeMap.{columns, columnAt, put, putNew, addSimpleEdge, addEqualEdges, single, sharesWith, placeEdge, placeEdges, withColumns, mappedEdges, columnOf}
-use Rattle.pywr.specs.ExclusiveSets.{sameSet, hasSet, addSets, setsFrom, exclusiveSets, setNumber, timesIn, setsListing}
+use Rattle.pywr.specs.ExclusiveSets.{sameSet, hasSet, addSets, setsFrom, exclusiveSets, setNumber, timesIn, setsWithNode}
 use Rattle.pywr.specs.Rows.{insert, addElement, addOn, columnMap, columnsWith, columnsInto, columnsOutOf, addNode, nodeRow, massRow, addNodes, addSetsOf, aggregateRow, addParts, virtualStorageRow, upperRow, lowerRow, addActive, exclusivityRow}
 use Rattle.pywr.specs.VariableRows.{sameRow, position, addVariableRows, addVariableRow}
 use Rattle.pywr.specs.VaryingRows.{exclusiveRequests, requestsBySets, requestsFrom, freshRow}
 use Rattle.pywr.specs.FixedRows.{massRowsFrom, upperCoefficient, lowerCoefficient, exclusiveRows, constantRows, constantRowsFrom, exclusivityRows}
-use Rattle.pywr.specs.Build.{edgeColumn, setColumn, allColumns, nodeShape, placedNodeRows, placedStorages, requestedRow, assemble, programmeOf, elementCount, underCeilings, build}
+use Rattle.pywr.specs.Build.{edgeColumn, setColumn, allColumns, nodeShape, placedNodeRows, placedVirtualStorages, requestedRow, assemble, programmeOf, elementCount, underCeilings, build}
 use Rattle.pywr.specs.Interval.{tighten, sentinels, intervalOf, storageBounds, virtualBounds}
 use Rattle.pywr.specs.Period.{isActive, virtualInterval}
-use Rattle.pywr.specs.StepFile.{expectMark, daysIn, readDate, boundFits, volumeFits, boundsRead, readNodeStep, readNodeSteps, readAggregateStep, readAggregateSteps, readStorageStep, readStorageSteps, readStep}
-use Rattle.pywr.specs.StepIntervals.{intervals, nodeInterval, nodeIntervals, storageIntervals, isCrossed, firstCrossed, unless, ordered}
+use Rattle.pywr.specs.StepFile.{expectMark, daysIn, readDate, boundFits, volumeFits, boundsRead, readNodeStep, readNodeSteps, readAggregateStep, readAggregateSteps, readVirtualStorageStep, readVirtualStorageSteps, readStep}
+use Rattle.pywr.specs.StepIntervals.{intervals, nodeInterval, nodeIntervals, virtualStorageIntervals, isCrossed, firstCrossed, unless, ordered}
 use Rattle.pywr.specs.Costs.{outgoingCost, incomingCost, edgeCost, kindAt, costAt, stepCosts, addCosts}
-use Rattle.pywr.specs.Step.{adjust, bounded, applyRowBounds, setFactor, withFactor, applyInterval, applyNodeRows, applyIntervals, rowOf, periodOf, stepRows, periods, withCosts, stepped}
-use Rattle.pywr.specs.Store.{storeHasRoom, sentinelOf, rowTypeOf, entries, nodeEntry, edgeEntry, nodeRowEntry, storageEntry, shapeOf, elementsOf, columnsOfRow, rowEntry, columnEntry, programmeIn}
-use Rattle.pywr.specs.Misshapen.{countsFit, startsRise, columnsRise, rowColumnsRise, nodeFits, edgeFits, nodeRowFits, aggregateFits, storageFits, allEntries, wellShaped}
-use Rattle.pywr.specs.Written.{sentinelWord, rowTypeWord, flagWord, nodeWords, edgeWords, nodeRowWords, storageWords, integerColumns, countWords, shapeAfter, startsFrom, columnsIn, factorsIn, lowerOf, upperOf, rowsOf, builtStore, steppedStore}
+use Rattle.pywr.specs.Step.{adjust, bounded, applyRowBounds, setCoefficient, withCoefficient, applyInterval, applyNodeRows, applyIntervals, rowOf, periodOf, stepRows, periods, withCosts, stepped}
+use Rattle.pywr.specs.Store.{storeHasRoom, sentinelOf, rowTypeOf, entries, nodeEntry, edgeEntry, nodeRowEntry, virtualStorageEntry, shapeOf, elementsOf, columnsOfRow, rowEntry, columnEntry, programmeIn}
+use Rattle.pywr.specs.Misshapen.{countsFit, startsRise, columnsRise, rowColumnsRise, nodeFits, edgeFits, nodeRowFits, aggregateFits, virtualStorageFits, allEntries, wellShaped}
+use Rattle.pywr.specs.Written.{sentinelWord, rowTypeWord, flagWord, nodeWords, edgeWords, nodeRowWords, virtualStorageWords, integerColumns, countWords, shapeAfter, startsFrom, columnsIn, valuesIn, lowerOf, upperOf, rowsOf, builtStore, steppedStore}
 use Rattle.pywr.specs.Calls.{cleared, buildRoom, buildAnswer, storeOfBuild, buildStore, buildWords, buildNumbers, stepRoom, stepRead, stepIntervals, stepAnswer, storeOfStep, stepStore, stepWork, isAccepted, rowAnswer, partOf, rowPart}
 use Rattle.pywr.specs.Plans.{exact, meets, unit, signed, isFinite, scaled, lowerMet, upperMet, allFrom}
-use Rattle.pywr.specs.Allows.{allows, flowWith, inflow, outflow, nodeAmount, nodesAmount, setsAmount, partsAmount, balanced, ownInterval, nodeMeets, aggregateMeets, storageMeets, onAmount, exclusiveMeets, memberMeets, setsMeet, onCount, exclusivityMeets}
+use Rattle.pywr.specs.Allows.{allows, flowWith, inflow, outflow, nodeAmount, nodesAmount, setsAmount, partsAmount, balanced, ownInterval, nodeMeets, aggregateMeets, virtualStorageMeets, onAmount, exclusiveMeets, memberMeets, setsMeet, onCount, exclusivityMeets}
 use Rattle.pywr.specs.Admits.{admits, carried, equalInColumn, onColumn, rowSum, rowMet, columnMet}
 use Rattle.pywr.specs.Correspondence.{storeAfter, reports, lastAccepted, periodsOf, readBy, allowsRead, allowsUnder, networkAllows, programmeAdmits, exclusiveConstant, isWhole, factorsWhole, anyAccepted}
 use Rattle.pywr.specs.FileBytes.{w16, w32, w64, varying, constant, edge, setBytes, exclusive, date, nodeStep, aggregateStep}
@@ -43,22 +43,22 @@ reading = 0
 
 -- columns, rows and programmes
 unfoldable pub building : ℕ
-unfolding columnAt put putNew addSimpleEdge addEqualEdges single sharesWith placeEdge placeEdges columns withColumns mappedEdges columnOf sameSet hasSet addSets setsFrom exclusiveSets setNumber timesIn setsListing insert addElement addOn columnMap columnsWith columnsInto columnsOutOf addNode nodeRow massRow addNodes addSetsOf aggregateRow addParts virtualStorageRow upperRow lowerRow addActive exclusivityRow sameRow position addVariableRow addVariableRows exclusiveRequests requestsBySets requestsFrom freshRow massRowsFrom upperCoefficient lowerCoefficient exclusiveRows constantRows constantRowsFrom exclusivityRows edgeColumn setColumn allColumns nodeShape placedNodeRows placedStorages requestedRow assemble programmeOf elementCount underCeilings build
+unfolding columnAt put putNew addSimpleEdge addEqualEdges single sharesWith placeEdge placeEdges columns withColumns mappedEdges columnOf sameSet hasSet addSets setsFrom exclusiveSets setNumber timesIn setsWithNode insert addElement addOn columnMap columnsWith columnsInto columnsOutOf addNode nodeRow massRow addNodes addSetsOf aggregateRow addParts virtualStorageRow upperRow lowerRow addActive exclusivityRow sameRow position addVariableRow addVariableRows exclusiveRequests requestsBySets requestsFrom freshRow massRowsFrom upperCoefficient lowerCoefficient exclusiveRows constantRows constantRowsFrom exclusivityRows edgeColumn setColumn allColumns nodeShape placedNodeRows placedVirtualStorages requestedRow assemble programmeOf elementCount underCeilings build
 building = 0
 
 -- step files and steps
 unfoldable pub stepping : ℕ
-unfolding tighten sentinels intervalOf storageBounds virtualBounds isActive virtualInterval expectMark daysIn readDate boundFits volumeFits boundsRead readNodeStep readNodeSteps readAggregateStep readAggregateSteps readStorageStep readStorageSteps readStep nodeInterval nodeIntervals storageIntervals intervals isCrossed firstCrossed unless ordered outgoingCost incomingCost edgeCost kindAt costAt addCosts stepCosts adjust bounded applyRowBounds setFactor withFactor applyInterval applyNodeRows applyIntervals rowOf periodOf stepRows periods withCosts stepped
+unfolding tighten sentinels intervalOf storageBounds virtualBounds isActive virtualInterval expectMark daysIn readDate boundFits volumeFits boundsRead readNodeStep readNodeSteps readAggregateStep readAggregateSteps readVirtualStorageStep readVirtualStorageSteps readStep nodeInterval nodeIntervals virtualStorageIntervals intervals isCrossed firstCrossed unless ordered outgoingCost incomingCost edgeCost kindAt costAt addCosts stepCosts adjust bounded applyRowBounds setCoefficient withCoefficient applyInterval applyNodeRows applyIntervals rowOf periodOf stepRows periods withCosts stepped
 stepping = 0
 
 -- stores and calls
 unfoldable pub storing : ℕ
-unfolding flatMap storeHasRoom sentinelOf rowTypeOf entries nodeEntry edgeEntry nodeRowEntry storageEntry shapeOf elementsOf columnsOfRow rowEntry columnEntry programmeIn countsFit startsRise columnsRise rowColumnsRise nodeFits edgeFits nodeRowFits aggregateFits storageFits allEntries wellShaped sentinelWord rowTypeWord flagWord nodeWords edgeWords nodeRowWords storageWords integerColumns countWords shapeAfter startsFrom columnsIn factorsIn lowerOf upperOf rowsOf builtStore steppedStore cleared buildRoom buildAnswer storeOfBuild buildStore buildWords buildNumbers stepRoom stepRead stepIntervals stepAnswer storeOfStep stepStore stepWork isAccepted rowAnswer partOf rowPart
+unfolding flatMap storeHasRoom sentinelOf rowTypeOf entries nodeEntry edgeEntry nodeRowEntry virtualStorageEntry shapeOf elementsOf columnsOfRow rowEntry columnEntry programmeIn countsFit startsRise columnsRise rowColumnsRise nodeFits edgeFits nodeRowFits aggregateFits virtualStorageFits allEntries wellShaped sentinelWord rowTypeWord flagWord nodeWords edgeWords nodeRowWords virtualStorageWords integerColumns countWords shapeAfter startsFrom columnsIn valuesIn lowerOf upperOf rowsOf builtStore steppedStore cleared buildRoom buildAnswer storeOfBuild buildStore buildWords buildNumbers stepRoom stepRead stepIntervals stepAnswer storeOfStep stepStore stepWork isAccepted rowAnswer partOf rowPart
 storing = 0
 
 -- plans and the lists of steps
 unfoldable pub planning : ℕ
-unfolding unit signed exact isFinite scaled lowerMet upperMet meets allFrom flowWith inflow outflow nodeAmount nodesAmount setsAmount partsAmount balanced ownInterval nodeMeets aggregateMeets storageMeets onAmount exclusiveMeets memberMeets setsMeet onCount exclusivityMeets allows carried equalInColumn onColumn rowSum rowMet columnMet admits storeAfter reports lastAccepted periodsOf readBy allowsRead allowsUnder networkAllows programmeAdmits exclusiveConstant isWhole factorsWhole anyAccepted
+unfolding unit signed exact isFinite scaled lowerMet upperMet meets allFrom flowWith inflow outflow nodeAmount nodesAmount setsAmount partsAmount balanced ownInterval nodeMeets aggregateMeets virtualStorageMeets onAmount exclusiveMeets memberMeets setsMeet onCount exclusivityMeets allows carried equalInColumn onColumn rowSum rowMet columnMet admits storeAfter reports lastAccepted periodsOf readBy allowsRead allowsUnder networkAllows programmeAdmits exclusiveConstant isWhole factorsWhole anyAccepted
 planning = 0
 
 -- the bytes of files

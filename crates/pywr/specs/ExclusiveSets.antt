@@ -39,6 +39,6 @@ unfoldable pub timesIn : ℕ → ℕ → List ℕ → List ℕ
 timesIn n k [] = []
 timesIn n k (m ∷ ms) = keepIf (eqb m n) k (timesIn n k ms)
 
-unfoldable pub setsListing : ℕ → ℕ → List (List ℕ) → List ℕ
-setsListing n k [] = []
-setsListing n k (s ∷ ss) = timesIn n k s ++ setsListing n (suc k) ss
+unfoldable pub setsWithNode : ℕ → ℕ → List (List ℕ) → List ℕ
+setsWithNode n k [] = []
+setsWithNode n k (s ∷ ss) = timesIn n k s ++ setsWithNode n (suc k) ss

@@ -8,7 +8,7 @@ use lib.Ieee.{Float, neg, eq}
 use Rattle.pywr.specs.declared.Sentinel.{Sentinel}
 use Rattle.pywr.specs.Numbers.{double, zero64, million, millionth, high, lesser, greater}
 use Rattle.pywr.specs.Network.{link, Node, Aggregate}
-use Rattle.pywr.specs.ExclusiveSets.{setsListing}
+use Rattle.pywr.specs.ExclusiveSets.{setsWithNode}
 use Rattle.pywr.specs.Rows.{ColumnMap, nodeRow, massRow, upperRow, lowerRow, exclusivityRow}
 use Rattle.pywr.specs.Programme.{Row}
 
@@ -40,7 +40,7 @@ constantRows s f n x (k ∷ ks) = exclusiveRows s f n x (k ∷ ks)
 
 unfoldable pub constantRowsFrom : Sentinel → ColumnMap → ℕ → List Node → List Row
 constantRowsFrom s f n [] = []
-constantRowsFrom s f n (x ∷ xs) = cond (x .constant) (constantRows s f n x (setsListing n 0 (f .sets))) [] ++ constantRowsFrom s f (suc n) xs
+constantRowsFrom s f n (x ∷ xs) = cond (x .constant) (constantRows s f n x (setsWithNode n 0 (f .sets))) [] ++ constantRowsFrom s f (suc n) xs
 
 -- "Exclusivity row: .. bounds min_active and max_active."
 unfoldable pub exclusivityRows : ColumnMap → List Aggregate → List Row

@@ -43,7 +43,7 @@ pub record NodeRow : Type 0 where
   pub rowType : RowType
   pub set : ℕ
 
-pub record StorageShape : Type 0 where
+pub record VirtualStorageShape : Type 0 where
   pub row : ℕ
   pub period : Period
 
@@ -53,7 +53,7 @@ pub record Shape : Type 0 where
   pub edgeColumns : ℕ
   pub nodeRows : List NodeRow
   pub aggregates : List ℕ
-  pub virtualStorages : List StorageShape
+  pub virtualStorages : List VirtualStorageShape
 
 pub record Built : Type 0 where
   pub programme : Programme

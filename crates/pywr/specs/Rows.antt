@@ -11,15 +11,15 @@ use Rattle.pywr.specs.ExclusiveSets.{exclusiveSets, setNumber}
 
 pub record Element : Type 0 where
   pub column : ℕ
-  pub factor : Float
+  pub value : Float
 
 abbrev pub element : ℕ → Float → Element
-element column factor = record { column = column; factor = factor }
+element column value = record { column = column; value = value }
 
 -- add_element: "Elements of a row rise by column; repeats add, from 0.0."
 unfoldable pub insert : Ordering → ℕ → Float → Element → List Element → List Element → List Element
 insert Ordering·lt c x e es more = element c (add binary64 zero64 x) ∷ e ∷ es
-insert Ordering·eq c x e es more = element c (add binary64 (e .factor) x) ∷ es
+insert Ordering·eq c x e es more = element c (add binary64 (e .value) x) ∷ es
 insert Ordering·gt c x e es more = e ∷ more
 
 unfoldable pub addElement : ℕ → Float → List Element → List Element

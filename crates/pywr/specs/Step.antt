@@ -9,7 +9,7 @@ use Rattle.pywr.specs.declared.Sentinel.{Sentinel}
 use Rattle.pywr.specs.declared.Interval.{Interval}
 use Rattle.pywr.specs.Network.{Period}
 use Rattle.pywr.specs.Rows.{Element, element}
-use Rattle.pywr.specs.Programme.{Column, Row, Programme, RowType, continuous, binaryUpper, binaryLower, NodeRow, StorageShape, Shape}
+use Rattle.pywr.specs.Programme.{Column, Row, Programme, RowType, continuous, binaryUpper, binaryLower, NodeRow, VirtualStorageShape, Shape}
 use Rattle.pywr.specs.Interval.{tighten, sentinels}
 use Rattle.pywr.specs.StepFile.{StepFile}
 use Rattle.pywr.specs.StepIntervals.{intervals, Intervals}
@@ -28,18 +28,18 @@ unfoldable pub applyRowBounds : Interval → Row → Row
 applyRowBounds by r = bounded (tighten (record { lower = r .lower; upper = r .upper }) by) r
 
 -- the element on a column set
-unfoldable pub setFactor : ℕ → Float → List Element → List Element
-setFactor c x [] = []
-setFactor c x (e ∷ es) = cond (eqb (e .column) c) (element c x ∷ es) (e ∷ setFactor c x es)
+unfoldable pub setCoefficient : ℕ → Float → List Element → List Element
+setCoefficient c x [] = []
+setCoefficient c x (e ∷ es) = cond (eqb (e .column) c) (element c x ∷ es) (e ∷ setCoefficient c x es)
 
-unfoldable pub withFactor : ℕ → Float → Row → Row
-withFactor c x r = record { lower = r .lower; upper = r .upper; elements = setFactor c x (r .elements) }
+unfoldable pub withCoefficient : ℕ → Float → Row → Row
+withCoefficient c x r = record { lower = r .lower; upper = r .upper; elements = setCoefficient c x (r .elements) }
 
 -- "the integer column's coefficient becomes the upper bound, or minus the lower, uncapped. On a shared row the last wins."
 unfoldable pub applyInterval : RowType → ℕ → Interval → Row → Row
 applyInterval continuous column i = applyRowBounds i
-applyInterval binaryUpper column i = withFactor column (i .upper)
-applyInterval binaryLower column i = withFactor column (neg (i .lower))
+applyInterval binaryUpper column i = withCoefficient column (i .upper)
+applyInterval binaryLower column i = withCoefficient column (neg (i .lower))
 
 -- update_node_constraint_bounds. Invariant of the loop: `.. ≡ applyNodeRows .. (drop i nodeRows) rowsNow`
 unfoldable pub applyNodeRows : Sentinel → ℕ → List Interval → List NodeRow → List Row → List Row
@@ -53,10 +53,10 @@ applyIntervals [] is rows = rows
 applyIntervals (r ∷ rs) [] rows = rows
 applyIntervals (r ∷ rs) (i ∷ is) rows = applyIntervals rs is (adjust (applyRowBounds i) r rows)
 
-unfoldable pub rowOf : StorageShape → ℕ
+unfoldable pub rowOf : VirtualStorageShape → ℕ
 rowOf v = v .row
 
-unfoldable pub periodOf : StorageShape → Period
+unfoldable pub periodOf : VirtualStorageShape → Period
 periodOf v = v .period
 
 -- "A step resets varying rows to the sentinels, then applies each interval"

@@ -95,27 +95,27 @@ readAggregateSteps file (suc count) soFar at = do
   readAggregateSteps file count (soFar ++ (step ∷ [])) (at + 18)
 
 -- "per virtual storage `VB` min, max, volume"
-unfoldable pub readStorageStep : List ℕ → ℕ → Result NodeBounds
-readStorageStep file place = do
+unfoldable pub readVirtualStorageStep : List ℕ → ℕ → Result NodeBounds
+readVirtualStorageStep file place = do
   at ← expectMark file place 86 66
   min ← checked 13 at isSmall (bits64 file at 12 (at + 2))
   max ← checked 13 at isSmall (bits64 file at 12 (at + 10))
   now ← checked 13 at isSmall (bits64 file at 12 (at + 18))
   value (virtualBounds (ofPattern min) (ofPattern max) (ofPattern now))
 
-unfoldable pub readStorageSteps : List ℕ → ℕ → List NodeBounds → ℕ → Result (Read (List NodeBounds))
-readStorageSteps file zero soFar at = value (record { item = soFar; next = at })
-readStorageSteps file (suc count) soFar at = do
-  step ← readStorageStep file at
-  readStorageSteps file count (soFar ++ (step ∷ [])) (at + 26)
+unfoldable pub readVirtualStorageSteps : List ℕ → ℕ → List NodeBounds → ℕ → Result (Read (List NodeBounds))
+readVirtualStorageSteps file zero soFar at = value (record { item = soFar; next = at })
+readVirtualStorageSteps file (suc count) soFar at = do
+  step ← readVirtualStorageStep file at
+  readVirtualStorageSteps file count (soFar ++ (step ∷ [])) (at + 26)
 
 -- the file left to right, and 12 "with bytes left over (then the first such byte)"
 unfoldable pub readStep : List NodeShape → ℕ → ℕ → List ℕ → Result StepFile
-readStep shapes aggregates storages file = do
+readStep shapes aggregates virtualStorages file = do
   date ← readDate file
   nodes ← readNodeSteps file shapes [] (date .next)
   groups ← readAggregateSteps file aggregates [] (nodes .next)
-  stores ← readStorageSteps file storages [] (groups .next)
+  stores ← readVirtualStorageSteps file virtualStorages [] (groups .next)
   need (leb (length file) (stores .next)) 12 (stores .next)
       (record {
         month = date .item .month;

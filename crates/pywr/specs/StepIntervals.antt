@@ -23,10 +23,10 @@ nodeIntervals s days [] = []
 nodeIntervals s days (n ∷ ns) = nodeInterval s days (n .bounds) ∷ nodeIntervals s days ns
 
 -- each virtual storage's on the step's date
-unfoldable pub storageIntervals : Sentinel → StepFile → List Period → List NodeBounds → List Interval
-storageIntervals s f [] bs = []
-storageIntervals s f (p ∷ ps) [] = []
-storageIntervals s f (p ∷ ps) (b ∷ bs) = virtualInterval s (f .days) (isActive p (f .month) (f .day)) b ∷ storageIntervals s f ps bs
+unfoldable pub virtualStorageIntervals : Sentinel → StepFile → List Period → List NodeBounds → List Interval
+virtualStorageIntervals s f [] bs = []
+virtualStorageIntervals s f (p ∷ ps) [] = []
+virtualStorageIntervals s f (p ∷ ps) (b ∷ bs) = virtualInterval s (f .days) (isActive p (f .month) (f .day)) b ∷ virtualStorageIntervals s f ps bs
 
 -- the intervals that a step applies: of the nodes, the aggregates and the virtual storages
 pub record Intervals : Type 0 where
@@ -39,7 +39,7 @@ intervals s periods f =
     record {
       nodes = nodeIntervals s (f .days) (f .nodes);
       aggregates = f .aggregates;
-      virtualStorages = storageIntervals s f periods (f .virtualStorages);
+      virtualStorages = virtualStorageIntervals s f periods (f .virtualStorages);
     }
 
 unfoldable pub isCrossed : Interval → Bool

@@ -19,7 +19,7 @@ use Rattle.pywr.specs.declared.Sentinel.the-variants.{Infinity, Largest}
 use Rattle.pywr.specs.Numbers.{zero64}
 use Rattle.pywr.specs.ColEdgeMap.{MappedEdge}
 use Rattle.pywr.specs.Rows.{Element, element}
-use Rattle.pywr.specs.Programme.{Column, Row, Programme, NodeShape, RowType, continuous, binaryUpper, binaryLower, NodeRow, StorageShape, Shape}
+use Rattle.pywr.specs.Programme.{Column, Row, Programme, NodeShape, RowType, continuous, binaryUpper, binaryLower, NodeRow, VirtualStorageShape, Shape}
 
 pub record Store : Type 0 where
   pub colLower : List Float
@@ -80,8 +80,8 @@ nodeRowCount s = word s 8
 abbrev pub aggregateCount : Store → ℕ
 aggregateCount s = word s 9
 
-abbrev pub storageCount : Store → ℕ
-storageCount s = word s 10
+abbrev pub virtualStorageCount : Store → ℕ
+virtualStorageCount s = word s 10
 
 abbrev pub rowCount : Store → ℕ
 rowCount s = varyingCount s + fixedCount s
@@ -103,8 +103,8 @@ nodeRowsAt = 2059
 abbrev pub aggregatesAt : ℕ
 aggregatesAt = 19467
 
-abbrev pub storagesAt : ℕ
-storagesAt = 19531
+abbrev pub virtualStoragesAt : ℕ
+virtualStoragesAt = 19531
 
 -- ---- reading the store
 
@@ -131,8 +131,8 @@ edgeEntry s at = record { from = word s at; to = word s (at + 1); column = word 
 unfoldable pub nodeRowEntry : Store → ℕ → NodeRow
 nodeRowEntry s at = record { node = word s at; row = word s (at + 1); rowType = rowTypeOf (word s (at + 2)); set = word s (at + 3) }
 
-unfoldable pub storageEntry : Store → ℕ → StorageShape
-storageEntry s at =
+unfoldable pub virtualStorageEntry : Store → ℕ → VirtualStorageShape
+virtualStorageEntry s at =
     record {
       row = word s at;
       period =
@@ -153,7 +153,7 @@ shapeOf s =
       edgeColumns = edgeColumnCount s;
       nodeRows = entries (nodeRowEntry s) 4 nodeRowsAt (nodeRowCount s);
       aggregates = entries (word s) 1 aggregatesAt (aggregateCount s);
-      virtualStorages = entries (storageEntry s) 6 storagesAt (storageCount s);
+      virtualStorages = entries (virtualStorageEntry s) 6 virtualStoragesAt (virtualStorageCount s);
     }
 
 unfoldable pub elementsOf : List ℕ → List Float → List Element

@@ -12,7 +12,7 @@ unfoldable pub sameRow : List Element → List Element → Bool
 sameRow [] [] = true
 sameRow [] (y ∷ ys) = false
 sameRow (x ∷ xs) [] = false
-sameRow (x ∷ xs) (y ∷ ys) = eqb (x .column) (y .column) && eq (x .factor) (y .factor) && sameRow xs ys
+sameRow (x ∷ xs) (y ∷ ys) = eqb (x .column) (y .column) && eq (x .value) (y .value) && sameRow xs ys
 
 -- where the first equal row stands; the count of rows if there is none
 unfoldable pub position : List Element → List (List Element) → ℕ

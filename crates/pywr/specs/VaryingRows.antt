@@ -6,7 +6,7 @@ use lib.Ieee.{neg}
 use Rattle.pywr.specs.declared.Sentinel.{Sentinel}
 use Rattle.pywr.specs.Numbers.{zero64, one64, high}
 use Rattle.pywr.specs.Network.{Node}
-use Rattle.pywr.specs.ExclusiveSets.{setsListing}
+use Rattle.pywr.specs.ExclusiveSets.{setsWithNode}
 use Rattle.pywr.specs.Rows.{Element, ColumnMap, nodeRow, upperRow, lowerRow}
 use Rattle.pywr.specs.Programme.{Row, RowType, continuous, binaryUpper, binaryLower}
 
@@ -32,7 +32,7 @@ requestsBySets f n (k ∷ ks) = exclusiveRequests f n (k ∷ ks)
 
 unfoldable pub requestsFrom : ColumnMap → ℕ → List Node → List RowRequest
 requestsFrom f n [] = []
-requestsFrom f n (x ∷ xs) = cond (x .constant) [] (requestsBySets f n (setsListing n 0 (f .sets))) ++ requestsFrom f (suc n) xs
+requestsFrom f n (x ∷ xs) = cond (x .constant) [] (requestsBySets f n (setsWithNode n 0 (f .sets))) ++ requestsFrom f (suc n) xs
 
 -- "Varying rows start at lower 0 and the high sentinel."
 unfoldable pub freshRow : Sentinel → List Element → Row

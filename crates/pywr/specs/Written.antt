@@ -9,9 +9,9 @@ use Rattle.pywr.specs.declared.Sentinel.{Sentinel}
 use Rattle.pywr.specs.declared.Sentinel.the-variants.{Infinity, Largest}
 use Rattle.pywr.specs.ColEdgeMap.{MappedEdge}
 use Rattle.pywr.specs.Rows.{Element}
-use Rattle.pywr.specs.Programme.{Column, Row, Programme, NodeShape, RowType, continuous, binaryUpper, binaryLower, NodeRow, StorageShape, Built}
+use Rattle.pywr.specs.Programme.{Column, Row, Programme, NodeShape, RowType, continuous, binaryUpper, binaryLower, NodeRow, VirtualStorageShape, Built}
 use Rattle.pywr.specs.Build.{elementCount}
-use Rattle.pywr.specs.Store.{Store, nodesAt, edgesAt, nodeRowsAt, aggregatesAt, storagesAt}
+use Rattle.pywr.specs.Store.{Store, nodesAt, edgesAt, nodeRowsAt, aggregatesAt, virtualStoragesAt}
 
 unfoldable pub sentinelWord : Sentinel → ℕ
 sentinelWord Infinity = 0
@@ -35,8 +35,8 @@ edgeWords p = p .from ∷ p .to ∷ p .column ∷ []
 unfoldable pub nodeRowWords : NodeRow → List ℕ
 nodeRowWords r = r .node ∷ r .row ∷ rowTypeWord (r .rowType) ∷ r .set ∷ []
 
-unfoldable pub storageWords : StorageShape → List ℕ
-storageWords v =
+unfoldable pub virtualStorageWords : VirtualStorageShape → List ℕ
+virtualStorageWords v =
     v .row
     ∷ flagWord (not (v .period .always))
     ∷ v .period .startMonth
@@ -71,7 +71,7 @@ shapeAfter old b =
     let edges : List ℕ = sets nodes edgesAt (flatMap edgeWords (b .shape .mappedEdges)) in
     let nodeRows : List ℕ = sets edges nodeRowsAt (flatMap nodeRowWords (b .shape .nodeRows)) in
     let groups : List ℕ = sets nodeRows aggregatesAt (b .shape .aggregates) in
-    sets groups storagesAt (flatMap storageWords (b .shape .virtualStorages))
+    sets groups virtualStoragesAt (flatMap virtualStorageWords (b .shape .virtualStorages))
 
 -- the starts of the rows and, last, the element count
 unfoldable pub startsFrom : ℕ → List Row → List ℕ
@@ -81,8 +81,8 @@ startsFrom at (r ∷ rs) = at ∷ startsFrom (at + length (r .elements)) rs
 unfoldable pub columnsIn : Row → List ℕ
 columnsIn r = map (λ (e : Element). e .column) (r .elements)
 
-unfoldable pub factorsIn : Row → List Float
-factorsIn r = map (λ (e : Element). e .factor) (r .elements)
+unfoldable pub valuesIn : Row → List Float
+valuesIn r = map (λ (e : Element). e .value) (r .elements)
 
 unfoldable pub lowerOf : Row → Float
 lowerOf r = r .lower
@@ -104,7 +104,7 @@ builtStore old b =
       colObjCoef = sets (old .colObjCoef) 0 (map (λ (c : Column). c .cost) (p .columns));
       rowLower = sets (old .rowLower) 0 (map lowerOf rows);
       rowUpper = sets (old .rowUpper) 0 (map upperOf rows);
-      elements = sets (old .elements) 0 (flatMap factorsIn rows);
+      elements = sets (old .elements) 0 (flatMap valuesIn rows);
       columns = sets (old .columns) 0 (flatMap columnsIn rows);
       rowStarts = sets (old .rowStarts) 0 (startsFrom 0 rows);
       shape = shapeAfter (old .shape) b;
@@ -119,7 +119,7 @@ steppedStore old p =
       colObjCoef = sets (old .colObjCoef) 0 (map (λ (c : Column). c .cost) (p .columns));
       rowLower = sets (old .rowLower) 0 (map lowerOf (p .varying));
       rowUpper = sets (old .rowUpper) 0 (map upperOf (p .varying));
-      elements = sets (old .elements) 0 (flatMap factorsIn (p .varying));
+      elements = sets (old .elements) 0 (flatMap valuesIn (p .varying));
       columns = old .columns;
       rowStarts = old .rowStarts;
       shape = old .shape;

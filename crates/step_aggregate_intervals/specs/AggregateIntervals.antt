@@ -3,7 +3,7 @@ use Prim.Native.Nat.{ℕ, _+_, _*_}
 use mathlib.Core.List.{List}
 use lib.ListN.{getD}
 use Rattle.pywr.specs.declared.Interval.{Interval}
-use Rattle.step_file.specs.Decoded.{aggregateStepAt, groupsAt}
+use Rattle.step_file.specs.Decoded.{aggregateStepAt, aggregateStepsAt}
 
 unfoldable pub aggregateNumbered : List ℕ → List ℕ → ℕ → Interval
-aggregateNumbered shape file k = aggregateStepAt file (groupsAt (getD shape 1 0) + 18 * k)
+aggregateNumbered shape file k = aggregateStepAt file (aggregateStepsAt (getD shape 1 0) + 18 * k)

@@ -13,7 +13,7 @@ use Rattle.pywr.specs.declared.Answer.the-variants.{Accepted, Refused}
 use Rattle.pywr.specs.Result.{Result, value, refused, _>>=_, need}
 use Rattle.pywr.specs.Answers.{answerOf}
 use Rattle.pywr.specs.StepIntervals.{ordered}
-use Rattle.pywr.specs.Store.{Store, storeHasRoom, word, nodeCount, aggregateCount, storageCount, nodesAt, aggregatesAt, storagesAt, nodeEntry, storageEntry, shapeOf}
+use Rattle.pywr.specs.Store.{Store, storeHasRoom, word, nodeCount, aggregateCount, virtualStorageCount, nodesAt, aggregatesAt, virtualStoragesAt, nodeEntry, virtualStorageEntry, shapeOf}
 use Rattle.pywr.specs.Misshapen.{wellShaped}
 use Rattle.pywr.specs.Calls.{stepRoom, stepRead, stepIntervals, stepAnswer}
 use Rattle.laws.proofs.Tests.{of-true}
@@ -23,7 +23,7 @@ use Rattle.pywr.proofs.AcceptedLaws.{afterReading, step-answers}
 use Rattle.store_shape.proofs.EntryLaws.{entries-length}
 use Rattle.step_file.specs.Decoded.{fileLength}
 use Rattle.step_file.proofs.DecodedLaws.{accepted-decoded, accepted-length}
-use Rattle.step_work.specs.Held.{Held}
+use Rattle.step_work.specs.WorkRun.{IntervalsHeld}
 use Rattle.store.proofs.Passed.{shaped}
 use Rattle.step_checks.specs.Judged.{readOn, decodedBy, Judged}
 
@@ -93,17 +93,17 @@ module _ (s : Store) (file : List ℕ) (work : List Float) where
       unfolding afterReading _>>=_
       judged lent room = answers lent room ∙ ap (afterReading (stepIntervals s)) read-as
 
-      pub long : fileLength (nodeCount s) (aggregateCount s) (storageCount s) ≤ length file
+      pub long : fileLength (nodeCount s) (aggregateCount s) (virtualStorageCount s) ≤ length file
       unfolding shapeOf
       long =
           let l = accepted-length (shapeOf s .nodes) (length (shapeOf s .aggregates)) (length (shapeOf s .virtualStorages)) file (sym e) in
           let n = entries-length (nodeEntry s) 2 nodesAt (nodeCount s) in
           let a = entries-length (word s) 1 aggregatesAt (aggregateCount s) in
-          let v = entries-length (storageEntry s) 6 storagesAt (storageCount s) in
+          let v = entries-length (virtualStorageEntry s) 6 virtualStoragesAt (virtualStorageCount s) in
           omega (arith, l, n, a, v)
 
       -- 14, 15, or accepted
-      pub judged-intervals : (r : Answer) → r ≡ answerOf (ordered (stepIntervals s (decodedBy s file))) → (r ≡ Accepted → Held (nodeCount s) (aggregateCount s) (storageCount s) work (stepIntervals s (decodedBy s file)))
+      pub judged-intervals : (r : Answer) → r ≡ answerOf (ordered (stepIntervals s (decodedBy s file))) → (r ≡ Accepted → IntervalsHeld (nodeCount s) (aggregateCount s) (virtualStorageCount s) work (stepIntervals s (decodedBy s file)))
           → Judged s file r work
       judged-intervals r a h =
           let i = ordered (stepIntervals s (decodedBy s file)) in

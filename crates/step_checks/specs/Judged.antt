@@ -10,11 +10,11 @@ use Rattle.pywr.specs.declared.Answer.the-variants.{Accepted}
 use Rattle.pywr.specs.Result.{Result, value}
 use Rattle.pywr.specs.Answers.{answerOf}
 use Rattle.pywr.specs.StepFile.{StepFile, readStep}
-use Rattle.pywr.specs.Store.{Store, nodeCount, aggregateCount, storageCount, shapeOf}
+use Rattle.pywr.specs.Store.{Store, nodeCount, aggregateCount, virtualStorageCount, shapeOf}
 use Rattle.pywr.specs.Misshapen.{wellShaped}
 use Rattle.pywr.specs.Calls.{stepRoom, stepIntervals, stepAnswer}
 use Rattle.step_file.specs.Decoded.{decoded, fileLength}
-use Rattle.step_work.specs.Held.{Held}
+use Rattle.step_work.specs.WorkRun.{IntervalsHeld}
 
 -- the file as the store's shape reads it: left to right, and by the places of its numbers
 abbrev pub readOn : Store → List ℕ → Result StepFile
@@ -26,8 +26,8 @@ decodedBy s file = decoded (shapeOf s .nodes) (length (shapeOf s .aggregates)) (
 -- an accepted file: the store is well shaped, the file is long enough, and the work run holds its intervals
 pub record Ready (s : Store) (file : List ℕ) (work : List Float) : Type 0 where
   pub shaped : wellShaped s ≡ true
-  pub long : fileLength (nodeCount s) (aggregateCount s) (storageCount s) ≤ length file
-  pub held : Held (nodeCount s) (aggregateCount s) (storageCount s) work (stepIntervals s (decodedBy s file))
+  pub long : fileLength (nodeCount s) (aggregateCount s) (virtualStorageCount s) ≤ length file
+  pub held : IntervalsHeld (nodeCount s) (aggregateCount s) (virtualStorageCount s) work (stepIntervals s (decodedBy s file))
 
 pub record Judged (s : Store) (file : List ℕ) (r : Answer) (work : List Float) : Type 0 where
   pub answer : (lent : List Float) → stepRoom s lent ≡ true → r ≡ answerOf (stepAnswer s file lent)

@@ -1,2 +1,2 @@
 pub mod ColumnPlace
-pub mod FactorLaws
+pub mod SetCoefficientLaws

@@ -16,7 +16,7 @@ use Rattle.pywr.specs.Programme.{Column, NodeShape, Shape}
 use Rattle.pywr.specs.ColEdgeMap.{MappedEdge}
 use Rattle.pywr.specs.StepFile.{NodeStep}
 use Rattle.pywr.specs.Costs.{edgeCost, kindAt, costAt, addCosts, stepCosts}
-use Rattle.pywr.specs.Store.{Store, word, entries, nodeEntry, edgeEntry, nodeRowEntry, storageEntry, nodeCount, edgeColumnCount, columnCount, shapeOf, programmeIn}
+use Rattle.pywr.specs.Store.{Store, word, entries, nodeEntry, edgeEntry, nodeRowEntry, virtualStorageEntry, nodeCount, edgeColumnCount, columnCount, shapeOf, programmeIn}
 use Rattle.pywr.specs.Step.{withCosts}
 use Rattle.pywr.specs.Misshapen.{edgeFits, allEntries}
 use Rattle.laws.proofs.Tests.{of-true}
@@ -101,7 +101,7 @@ front-is d xs n e h =
 
 -- the shape is that of the shape run alone
 of-shape : (s : Store) → shapeOf s ≡ shapeOf (ofShape (s .shape))
-unfolding shapeOf nodeEntry edgeEntry nodeRowEntry storageEntry
+unfolding shapeOf nodeEntry edgeEntry nodeRowEntry virtualStorageEntry
 of-shape s = refl
 
 module _ (file shape : List ℕ) where

@@ -52,14 +52,14 @@ pub nodes-of : (s : Store) (shape : List ℕ) → s .shape ≡ shape → shapeOf
 unfolding shapeOf nodeEntry
 nodes-of s shape e = rw e
 
-pub step-answer : (s : Store) (file shape : List ℕ) (n aggregates storages : ℕ) → s .shape ≡ shape → n ≡ getD shape 1 0 → aggregates ≡ getD shape 9 0 → storages ≡ getD shape 10 0
-    → answerOf (readStep (shapeOf s .nodes) (length (shapeOf s .aggregates)) (length (shapeOf s .virtualStorages)) file) ≡ checkFile file (shapeOf s .nodes) n aggregates storages
+pub step-answer : (s : Store) (file shape : List ℕ) (n aggregates virtualStorages : ℕ) → s .shape ≡ shape → n ≡ getD shape 1 0 → aggregates ≡ getD shape 9 0 → virtualStorages ≡ getD shape 10 0
+    → answerOf (readStep (shapeOf s .nodes) (length (shapeOf s .aggregates)) (length (shapeOf s .virtualStorages)) file) ≡ checkFile file (shapeOf s .nodes) n aggregates virtualStorages
 unfolding shapeOf
-step-answer s file shape n aggregates storages e qn qa qv =
+step-answer s file shape n aggregates virtualStorages e qn qa qv =
     let ln : length (shapeOf s .nodes) ≡ n = entries-length _ 2 11 _ ∙ ap (λ (l : List ℕ). getD l 1 0) e ∙ sym qn in
     let la : length (shapeOf s .aggregates) ≡ aggregates = entries-length _ 1 19467 _ ∙ ap (λ (l : List ℕ). getD l 9 0) e ∙ sym qa in
-    let lv : length (shapeOf s .virtualStorages) ≡ storages = entries-length _ 6 19531 _ ∙ ap (λ (l : List ℕ). getD l 10 0) e ∙ sym qv in
+    let lv : length (shapeOf s .virtualStorages) ≡ virtualStorages = entries-length _ 6 19531 _ ∙ ap (λ (l : List ℕ). getD l 10 0) e ∙ sym qv in
     ap answerOf (step-law (shapeOf s .nodes) _ _ file) ∙ answer-back _ _ ∙ counts ln la lv
   where
-    counts : {n′ a′ v′ : ℕ} → n′ ≡ n → a′ ≡ aggregates → v′ ≡ storages → checkFile file (shapeOf s .nodes) n′ a′ v′ ≡ checkFile file (shapeOf s .nodes) n aggregates storages
+    counts : {n′ a′ v′ : ℕ} → n′ ≡ n → a′ ≡ aggregates → v′ ≡ virtualStorages → checkFile file (shapeOf s .nodes) n′ a′ v′ ≡ checkFile file (shapeOf s .nodes) n aggregates virtualStorages
     counts p q r = rw (p, q, r)

@@ -17,11 +17,11 @@ use Rattle.pywr.specs.Numbers.{isFlow, isSmall}
 use Rattle.pywr.specs.NetworkFile.{Read}
 use Rattle.pywr.specs.Programme.{NodeShape}
 use Rattle.pywr.specs.Store.{entries}
-use Rattle.pywr.specs.StepFile.{NodeStep, StepFile, expectMark, readDate, isStorage, boundFits, volumeFits, readNodeStep, readNodeSteps, readAggregateStep, readAggregateSteps, readStorageStep, readStorageSteps, readStep}
+use Rattle.pywr.specs.StepFile.{NodeStep, StepFile, expectMark, readDate, isStorage, boundFits, volumeFits, readNodeStep, readNodeSteps, readAggregateStep, readAggregateSteps, readVirtualStorageStep, readVirtualStorageSteps, readStep}
 use Rattle.step_record.specs.declared.Range.{Range}
 use Rattle.step_record.specs.declared.Range.the-variants.{Flow, Small, Days}
-use Rattle.step_record.specs.Check.{inRange, boundRange, volumeRange, checkMark, checkField, checkByte, answerThen, checkDate, checkNode, checkAggregate, checkStorage}
-use Rattle.step_file.specs.Decoded.{f64At, nodeStepAt, nodeStepsAt, aggregateStepAt, storageStepAt, groupsAt, storesAt, decoded}
+use Rattle.step_record.specs.Check.{inRange, boundRange, volumeRange, checkMark, checkField, checkByte, answerThen, checkDate, checkNode, checkAggregate, checkVirtualStorageStep}
+use Rattle.step_file.specs.Decoded.{f64At, nodeStepAt, nodeStepsAt, aggregateStepAt, virtualStorageStepAt, aggregateStepsAt, virtualStorageStepsAt, decoded}
 use Rattle.step_file.specs.CheckStep.{checkNodes, checkRecords, checkEnd, checkFile}
 
 -- what is read where the check passes
@@ -128,10 +128,10 @@ module _ (file : List ℕ) where
       (then-law _ _ at x _ _ (mark-law file at 71 66)
       (then-law _ _ (le64 file (at + 2)) x _ _ (flow-law file at (at + 2)) (last-law _ _ (le64 file (at + 10)) x _ (flow-law file at (at + 10)) refl)))
 
-  storage-law : (at : ℕ) → readStorageStep file at ≡ asResult (storageStepAt file at) (checkStorage file at)
-  unfolding readStorageStep checkStorage storageStepAt
-  storage-law at =
-      let x : NodeBounds = storageStepAt file at in
+  virtual-storage-law : (at : ℕ) → readVirtualStorageStep file at ≡ asResult (virtualStorageStepAt file at) (checkVirtualStorageStep file at)
+  unfolding readVirtualStorageStep checkVirtualStorageStep virtualStorageStepAt
+  virtual-storage-law at =
+      let x : NodeBounds = virtualStorageStepAt file at in
       simp then-then
       (then-law _ _ at x _ _ (mark-law file at 86 66)
       (then-law _ _ (le64 file (at + 2)) x _ _ (small-law file at (at + 2))
@@ -181,18 +181,18 @@ module _ (file : List ℕ) where
   unfolding readAggregateSteps
   aggregates-law count at = records-law (readAggregateStep file) (aggregateStepAt file) (checkAggregate file) 18 (readAggregateSteps file) (λ soFar at. refl) (λ count soFar at. refl) (aggregate-law file) count [] at
 
-  storages-law : (count at : ℕ) → readStorageSteps file count [] at ≡ asResult (readUpTo (entries (storageStepAt file) 26 at count) (at + 26 * count)) (checkRecords (checkStorage file) 26 count at)
-  unfolding readStorageSteps
-  storages-law count at = records-law (readStorageStep file) (storageStepAt file) (checkStorage file) 26 (readStorageSteps file) (λ soFar at. refl) (λ count soFar at. refl) (storage-law file) count [] at
+  virtual-storages-law : (count at : ℕ) → readVirtualStorageSteps file count [] at ≡ asResult (readUpTo (entries (virtualStorageStepAt file) 26 at count) (at + 26 * count)) (checkRecords (checkVirtualStorageStep file) 26 count at)
+  unfolding readVirtualStorageSteps
+  virtual-storages-law count at = records-law (readVirtualStorageStep file) (virtualStorageStepAt file) (checkVirtualStorageStep file) 26 (readVirtualStorageSteps file) (λ soFar at. refl) (λ count soFar at. refl) (virtual-storage-law file) count [] at
 
 -- ---- the whole file
 
-pub step-law : (shapes : List NodeShape) (aggregates storages : ℕ) (file : List ℕ)
-    → readStep shapes aggregates storages file ≡ asResult (decoded shapes aggregates storages file) (checkFile file shapes (length shapes) aggregates storages)
+pub step-law : (shapes : List NodeShape) (aggregates virtualStorages : ℕ) (file : List ℕ)
+    → readStep shapes aggregates virtualStorages file ≡ asResult (decoded shapes aggregates virtualStorages file) (checkFile file shapes (length shapes) aggregates virtualStorages)
 unfolding readStep checkFile checkEnd decoded
-step-law shapes aggregates storages file =
-    let x : StepFile = decoded shapes aggregates storages file in
+step-law shapes aggregates virtualStorages file =
+    let x : StepFile = decoded shapes aggregates virtualStorages file in
     then-law _ _ (dateRead file) x _ _ (date-law file)
-    (then-law _ _ (readUpTo (nodeStepsAt file shapes 12) (groupsAt (length shapes))) x _ _ (nodes-law file shapes [] 12)
-    (then-law _ _ _ x _ _ (aggregates-law file aggregates (groupsAt (length shapes)))
-    (then-law _ _ _ x _ _ (storages-law file storages (storesAt (length shapes) aggregates)) (need-law _ 12 _ x))))
+    (then-law _ _ (readUpTo (nodeStepsAt file shapes 12) (aggregateStepsAt (length shapes))) x _ _ (nodes-law file shapes [] 12)
+    (then-law _ _ _ x _ _ (aggregates-law file aggregates (aggregateStepsAt (length shapes)))
+    (then-law _ _ _ x _ _ (virtual-storages-law file virtualStorages (virtualStorageStepsAt (length shapes) aggregates)) (need-law _ 12 _ x))))

@@ -7,8 +7,8 @@ use lib.Dec.{leb}
 use Rattle.pywr.specs.declared.Answer.{Answer}
 use Rattle.pywr.specs.declared.Answer.the-variants.{Accepted, Refused}
 use Rattle.pywr.specs.Programme.{NodeShape}
-use Rattle.step_record.specs.Check.{answerThen, checkDate, checkNode, checkAggregate, checkStorage}
-use Rattle.step_file.specs.Decoded.{groupsAt, storesAt, fileLength}
+use Rattle.step_record.specs.Check.{answerThen, checkDate, checkNode, checkAggregate, checkVirtualStorageStep}
+use Rattle.step_file.specs.Decoded.{aggregateStepsAt, virtualStorageStepsAt, fileLength}
 
 unfoldable pub checkNodes : List ℕ → List NodeShape → ℕ → Answer
 checkNodes file [] at = Accepted
@@ -25,8 +25,8 @@ checkEnd file end = cond (leb (length file) end) Accepted (Refused 12 end)
 
 -- n nodes with these shapes
 unfoldable pub checkFile : List ℕ → List NodeShape → ℕ → ℕ → ℕ → Answer
-checkFile file shapes n aggregates storages =
+checkFile file shapes n aggregates virtualStorages =
     answerThen (checkDate file)
     (answerThen (checkNodes file shapes 12)
-    (answerThen (checkRecords (checkAggregate file) 18 aggregates (groupsAt n))
-    (answerThen (checkRecords (checkStorage file) 26 storages (storesAt n aggregates)) (checkEnd file (fileLength n aggregates storages)))))
+    (answerThen (checkRecords (checkAggregate file) 18 aggregates (aggregateStepsAt n))
+    (answerThen (checkRecords (checkVirtualStorageStep file) 26 virtualStorages (virtualStorageStepsAt n aggregates)) (checkEnd file (fileLength n aggregates virtualStorages)))))

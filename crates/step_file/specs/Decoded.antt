@@ -27,26 +27,26 @@ nodeStepsAt file (n ∷ ns) at = nodeStepAt file n at ∷ nodeStepsAt file ns (a
 unfoldable pub aggregateStepAt : List ℕ → ℕ → Interval
 aggregateStepAt file at = record { lower = f64At file (at + 2); upper = f64At file (at + 10) }
 
-unfoldable pub storageStepAt : List ℕ → ℕ → NodeBounds
-storageStepAt file at = virtualBounds (f64At file (at + 2)) (f64At file (at + 10)) (f64At file (at + 18))
+unfoldable pub virtualStorageStepAt : List ℕ → ℕ → NodeBounds
+virtualStorageStepAt file at = virtualBounds (f64At file (at + 2)) (f64At file (at + 10)) (f64At file (at + 18))
 
 -- where the `GB` and the `VB` records start, and the file's length
-abbrev pub groupsAt : ℕ → ℕ
-groupsAt nodes = 12 + 34 * nodes
+abbrev pub aggregateStepsAt : ℕ → ℕ
+aggregateStepsAt nodes = 12 + 34 * nodes
 
-abbrev pub storesAt : ℕ → ℕ → ℕ
-storesAt nodes aggregates = groupsAt nodes + 18 * aggregates
+abbrev pub virtualStorageStepsAt : ℕ → ℕ → ℕ
+virtualStorageStepsAt nodes aggregates = aggregateStepsAt nodes + 18 * aggregates
 
 abbrev pub fileLength : ℕ → ℕ → ℕ → ℕ
-fileLength nodes aggregates storages = storesAt nodes aggregates + 26 * storages
+fileLength nodes aggregates virtualStorages = virtualStorageStepsAt nodes aggregates + 26 * virtualStorages
 
 unfoldable pub decoded : List NodeShape → ℕ → ℕ → List ℕ → StepFile
-decoded shapes aggregates storages file =
+decoded shapes aggregates virtualStorages file =
     record {
       month = byte file 2;
       day = byte file 3;
       days = f64At file 4;
       nodes = nodeStepsAt file shapes 12;
-      aggregates = entries (aggregateStepAt file) 18 (groupsAt (length shapes)) aggregates;
-      virtualStorages = entries (storageStepAt file) 26 (storesAt (length shapes) aggregates) storages;
+      aggregates = entries (aggregateStepAt file) 18 (aggregateStepsAt (length shapes)) aggregates;
+      virtualStorages = entries (virtualStorageStepAt file) 26 (virtualStorageStepsAt (length shapes) aggregates) virtualStorages;
     }

@@ -5,17 +5,17 @@ ghost use lib.ListN.{length, getD};
 ghost use Rattle.pywr.specs.Answers.{answerOf};
 ghost use Rattle.pywr.specs.StepFile.{readStep};
 ghost use Rattle.pywr.specs.Store.{Store, shapeOf};
-ghost use Rattle.step_record.specs.Check.{checkAggregate, checkStorage};
+ghost use Rattle.step_record.specs.Check.{checkAggregate, checkVirtualStorageStep};
 ghost use Rattle.step_file.specs.CheckStep.{checkNodes, checkRecords, checkEnd};
 use pywr::Answer;
 use step_record::check_aggregate;
 use step_record::check_date;
 use step_record::check_node;
-use step_record::check_storage;
+use step_record::check_virtual_storage_step;
 use store_shape::AGGREGATE_COUNT;
 use store_shape::NODE_COUNT;
 use store_shape::NODES_AT;
-use store_shape::STORAGE_COUNT;
+use store_shape::VIRTUAL_STORAGE_COUNT;
 use store_shape::wide;
 
 // The `NB` record of each node of the store.
@@ -66,14 +66,14 @@ fn check_aggregates(file: &[u8], from: usize, count: usize) -> Answer
 }
 
 // `count` `VB` records from `from`.
-fn check_storages(file: &[u8], from: usize, count: usize) -> Answer
+fn check_virtual_storages(file: &[u8], from: usize, count: usize) -> Answer
     requires { ⌜ (from ≤ 16384) × (count ≤ 32) ⌝ }
-    ensures { λ r. ⌜ r ≡ checkRecords (checkStorage (now (file .entry))) 26 count from ⌝ }
+    ensures { λ r. ⌜ r ≡ checkRecords (checkVirtualStorageStep (now (file .entry))) 26 count from ⌝ }
 {
     let mut at = from;
     let mut i: usize = 0;
     while i < count {
-        let storage = check_storage(file, at);
+        let storage = check_virtual_storage_step(file, at);
         match storage {
             Answer::Refused(number, place) => {
                 return Answer::Refused(number, place);
@@ -104,9 +104,9 @@ pub fn read_step(file: &[u8], shape: &[u16]) -> Answer
 {
     let count = wide(shape[NODE_COUNT]);
     let aggregates = wide(shape[AGGREGATE_COUNT]);
-    let storages = wide(shape[STORAGE_COUNT]);
+    let virtual_storages = wide(shape[VIRTUAL_STORAGE_COUNT]);
     let aggregates_at = 12 + 34 * count;
-    let storages_at = aggregates_at + 18 * aggregates;
+    let virtual_storages_at = aggregates_at + 18 * aggregates;
     let date = check_date(file);
     match date {
         Answer::Refused(number, place) => Answer::Refused(number, place),
@@ -119,10 +119,17 @@ pub fn read_step(file: &[u8], shape: &[u16]) -> Answer
                     match intervals {
                         Answer::Refused(number, place) => Answer::Refused(number, place),
                         Answer::Accepted => {
-                            let volumes = check_storages(file, storages_at, storages);
+                            let volumes = check_virtual_storages(
+                                file,
+                                virtual_storages_at,
+                                virtual_storages,
+                            );
                             match volumes {
                                 Answer::Refused(number, place) => Answer::Refused(number, place),
-                                Answer::Accepted => check_end(file, storages_at + 26 * storages),
+                                Answer::Accepted => check_end(
+                                    file,
+                                    virtual_storages_at + 26 * virtual_storages,
+                                ),
                             }
                         }
                     }

@@ -13,16 +13,16 @@ use Rattle.pywr.specs.declared.Sentinel.{Sentinel}
 use Rattle.pywr.specs.Answers.{answerOf}
 use Rattle.pywr.specs.Result.{Result, _>>=_}
 use Rattle.pywr.specs.StepIntervals.{Intervals, firstCrossed, unless, ordered}
-use Rattle.pywr.specs.Store.{Store, word, nodeCount, aggregateCount, storageCount, sentinelOf, entries}
+use Rattle.pywr.specs.Store.{Store, word, nodeCount, aggregateCount, virtualStorageCount, sentinelOf, entries}
 use Rattle.step_file.specs.Decoded.{f64At}
-use Rattle.step_work.specs.Held.{heldAt, heldFrom, Held}
+use Rattle.step_work.specs.WorkRun.{heldAt, heldFrom, IntervalsHeld}
 use Rattle.step_work.specs.Written.{Written, crossedAnswer, Looked}
 use Rattle.step_node_intervals.specs.NodeIntervals.{nodeNumbered}
-use Rattle.step_virtual_storage_intervals.specs.StorageIntervals.{storageNumbered}
+use Rattle.step_virtual_storage_intervals.specs.VirtualStorageIntervals.{virtualStorageNumbered}
 use Rattle.step_aggregate_intervals.specs.AggregateIntervals.{aggregateNumbered}
 use Rattle.step_intervals.specs.Found.{intervalsIn, Found}
 use Rattle.store_shape.proofs.EntryLaws.{entries-same}
-use Rattle.step_intervals.proofs.IntervalLaws.{nodes-are, aggregates-are, storages-are}
+use Rattle.step_intervals.proofs.IntervalLaws.{nodes-are, aggregates-are, virtual-storages-are}
 
 refuses : (o : Option ℕ) (i : Intervals) (next : Intervals → Result Intervals) (r : Answer) (number place : ℕ) → r ≡ crossedAnswer 14 o → r ≡ Refused number place
     → Refused number place ≡ answerOf (unless 14 o i >>= next)
@@ -65,16 +65,16 @@ module _ (s : Store) (shape file : List ℕ) (e : s .shape ≡ shape) (days : Fl
 
   module _ (few-nodes : getD shape 1 0 ≤ 256) (few-aggregates : getD shape 9 0 ≤ 64) (accepted : r₁ ≡ Accepted)
       (w₂ w₃ : List Float) (r₂ : Answer) (two : Written (aggregateNumbered shape file) 256 (getD shape 9 0) w₁ w₂)
-      (three : Looked 15 (storageNumbered sentinel days shape file) 320 (getD shape 10 0) w₂ r₂ w₃) where
-    storages-looked : Looked 15 (storageNumbered (sentinelOf (word s 0)) (f64At file 4) (s .shape) file) 320 (storageCount s) w₂ r₂ w₃
-    storages-looked = rw (of-days, kept, ← e) at three
+      (three : Looked 15 (virtualStorageNumbered sentinel days shape file) 320 (getD shape 10 0) w₂ r₂ w₃) where
+    virtual-storages-looked : Looked 15 (virtualStorageNumbered (sentinelOf (word s 0)) (f64At file 4) (s .shape) file) 320 (virtualStorageCount s) w₂ r₂ w₃
+    virtual-storages-looked = rw (of-days, kept, ← e) at three
 
     aggregates-written : Written (aggregateNumbered (s .shape) file) 256 (aggregateCount s) w₁ w₂
     aggregates-written = rw (← e) at two
 
-    all-held : r₂ ≡ Accepted → Held (nodeCount s) (aggregateCount s) (storageCount s) w₃ (intervalsIn s file)
+    all-held : r₂ ≡ Accepted → IntervalsHeld (nodeCount s) (aggregateCount s) (virtualStorageCount s) w₃ (intervalsIn s file)
     all-held a =
-        let v = storages-looked .written a in
+        let v = virtual-storages-looked .written a in
         let n = nodes-looked .written accepted in
         record {
           nodes-are = holds w₃ (nodeNumbered (sentinelOf (word s 0)) (f64At file 4) (s .shape) file) 0 (nodeCount s)
@@ -83,14 +83,14 @@ module _ (s : Store) (shape file : List ℕ) (e : s .shape ≡ shape) (days : Fl
           aggregates-are = holds w₃ (aggregateNumbered (s .shape) file) 256 (aggregateCount s)
               (λ k lt. v .kept (256 + k) (omega (arith, ap (λ (l : List ℕ). getD l 9 0) e)) ∙ aggregates-written .held k lt)
               ∙ sym (aggregates-are s file);
-          storages-are = holds w₃ (storageNumbered (sentinelOf (word s 0)) (f64At file 4) (s .shape) file) 320 (storageCount s) (v .held) ∙ sym (storages-are s file);
+          virtual-storages-are = holds w₃ (virtualStorageNumbered (sentinelOf (word s 0)) (f64At file 4) (s .shape) file) 320 (virtualStorageCount s) (v .held) ∙ sym (virtual-storages-are s file);
         }
 
     pub all-found : Found s file r₂ w₃
     unfolding ordered unless _>>=_
     all-found =
         let none-crossed = passes (firstCrossed 0 (intervalsIn s file .nodes)) r₁ nodes-answer accepted in
-        let last : r₂ ≡ crossedAnswer 15 (firstCrossed 0 (intervalsIn s file .virtualStorages)) = rw (storages-are s file) (storages-looked .answer) in
+        let last : r₂ ≡ crossedAnswer 15 (firstCrossed 0 (intervalsIn s file .virtualStorages)) = rw (virtual-storages-are s file) (virtual-storages-looked .answer) in
         record {
           answer = last ∙ answers (firstCrossed 0 (intervalsIn s file .virtualStorages)) (intervalsIn s file) ∙ sym (rw none-crossed);
           held = all-held;

@@ -9,13 +9,13 @@ use Rattle.pywr.specs.Calls.{stepIntervals}
 use Rattle.pywr.specs.Period.{isActive, virtualInterval}
 use Rattle.pywr.specs.Step.{periodOf, periods}
 use Rattle.pywr.specs.StepFile.{StepFile}
-use Rattle.pywr.specs.StepIntervals.{nodeInterval, nodeIntervals, storageIntervals, intervals}
-use Rattle.pywr.specs.Store.{Store, word, nodeCount, aggregateCount, storageCount, sentinelOf, entries, nodeEntry, storageEntry, shapeOf, programmeIn}
-use Rattle.step_file.specs.Decoded.{f64At, nodeStepAt, nodeStepsAt, aggregateStepAt, storageStepAt, groupsAt, storesAt, decoded}
+use Rattle.pywr.specs.StepIntervals.{nodeInterval, nodeIntervals, virtualStorageIntervals, intervals}
+use Rattle.pywr.specs.Store.{Store, word, nodeCount, aggregateCount, virtualStorageCount, sentinelOf, entries, nodeEntry, virtualStorageEntry, shapeOf, programmeIn}
+use Rattle.step_file.specs.Decoded.{f64At, nodeStepAt, nodeStepsAt, aggregateStepAt, virtualStorageStepAt, aggregateStepsAt, virtualStorageStepsAt, decoded}
 use Rattle.step_node_intervals.specs.NodeIntervals.{nodeNumbered}
 use Rattle.step_period.specs.PeriodAt.{periodAt}
-use Rattle.step_virtual_interval.specs.VirtualInterval.{storageAt}
-use Rattle.step_virtual_storage_intervals.specs.StorageIntervals.{storageNumbered}
+use Rattle.step_virtual_interval.specs.VirtualInterval.{virtualIntervalAt}
+use Rattle.step_virtual_storage_intervals.specs.VirtualStorageIntervals.{virtualStorageNumbered}
 use Rattle.step_aggregate_intervals.specs.AggregateIntervals.{aggregateNumbered}
 use Rattle.step_intervals.specs.Found.{intervalsIn}
 use Rattle.store_shape.proofs.EntryLaws.{first-entry, next-entry, entries-length, entries-same}
@@ -45,21 +45,21 @@ module _ (s : Store) (file : List ℕ) where
   unfolding intervalsIn stepIntervals intervals decoded shapeOf aggregateNumbered
   aggregates-are =
       rw (entries-length (nodeEntry s) 2 11 (nodeCount s), entries-length (word s) 1 19467 (aggregateCount s))
-      (entries-same (aggregateStepAt file) (aggregateNumbered (s .shape) file) 18 1 (groupsAt (nodeCount s)) 0 (aggregateCount s)
+      (entries-same (aggregateStepAt file) (aggregateNumbered (s .shape) file) 18 1 (aggregateStepsAt (nodeCount s)) 0 (aggregateCount s)
       (λ k lt. ap (aggregateNumbered (s .shape) file) (let e : k ≡ 0 + 1 * k = omega arith in e)))
 
-  storage-list : (t : Sentinel) (f : StepFile) (g : ℕ → Interval) (n at : ℕ)
-      → ((k : ℕ) → virtualInterval t (f .days) (isActive (storageEntry s (19531 + 6 * k) .period) (f .month) (f .day)) (storageStepAt file (at + 26 * k)) ≡ g (0 + k))
-      → storageIntervals t f (map periodOf (entries (storageEntry s) 6 19531 n)) (entries (storageStepAt file) 26 at n) ≡ entries g 1 0 n
-  unfolding storageIntervals entries periodOf
-  storage-list t f g n at h =
-      listed (λ (n place at : ℕ). storageIntervals t f (map periodOf (entries (storageEntry s) 6 place n)) (entries (storageStepAt file) 26 at n))
-      (λ (place at : ℕ). virtualInterval t (f .days) (isActive (storageEntry s place .period) (f .month) (f .day)) (storageStepAt file at)) 6 26 (λ place at. refl) (λ n place at. refl)
+  virtual-storage-list : (t : Sentinel) (f : StepFile) (g : ℕ → Interval) (n at : ℕ)
+      → ((k : ℕ) → virtualInterval t (f .days) (isActive (virtualStorageEntry s (19531 + 6 * k) .period) (f .month) (f .day)) (virtualStorageStepAt file (at + 26 * k)) ≡ g (0 + k))
+      → virtualStorageIntervals t f (map periodOf (entries (virtualStorageEntry s) 6 19531 n)) (entries (virtualStorageStepAt file) 26 at n) ≡ entries g 1 0 n
+  unfolding virtualStorageIntervals entries periodOf
+  virtual-storage-list t f g n at h =
+      listed (λ (n place at : ℕ). virtualStorageIntervals t f (map periodOf (entries (virtualStorageEntry s) 6 place n)) (entries (virtualStorageStepAt file) 26 at n))
+      (λ (place at : ℕ). virtualInterval t (f .days) (isActive (virtualStorageEntry s place .period) (f .month) (f .day)) (virtualStorageStepAt file at)) 6 26 (λ place at. refl) (λ n place at. refl)
       g n 19531 at 0 h
 
-  pub storages-are : intervalsIn s file .virtualStorages ≡ entries (storageNumbered (sentinelOf (word s 0)) (f64At file 4) (s .shape) file) 1 0 (storageCount s)
-  unfolding intervalsIn stepIntervals intervals decoded shapeOf programmeIn periods storageEntry periodAt storageAt storageNumbered
-  storages-are =
-      rw (entries-length (nodeEntry s) 2 11 (nodeCount s), entries-length (word s) 1 19467 (aggregateCount s), entries-length (storageEntry s) 6 19531 (storageCount s))
-      (storage-list (sentinelOf (word s 0)) _ (storageNumbered (sentinelOf (word s 0)) (f64At file 4) (s .shape) file) (storageCount s) (storesAt (nodeCount s) (aggregateCount s))
-      (λ k. ap (storageNumbered (sentinelOf (word s 0)) (f64At file 4) (s .shape) file) (let e : k ≡ 0 + k = omega arith in e)))
+  pub virtual-storages-are : intervalsIn s file .virtualStorages ≡ entries (virtualStorageNumbered (sentinelOf (word s 0)) (f64At file 4) (s .shape) file) 1 0 (virtualStorageCount s)
+  unfolding intervalsIn stepIntervals intervals decoded shapeOf programmeIn periods virtualStorageEntry periodAt virtualIntervalAt virtualStorageNumbered
+  virtual-storages-are =
+      rw (entries-length (nodeEntry s) 2 11 (nodeCount s), entries-length (word s) 1 19467 (aggregateCount s), entries-length (virtualStorageEntry s) 6 19531 (virtualStorageCount s))
+      (virtual-storage-list (sentinelOf (word s 0)) _ (virtualStorageNumbered (sentinelOf (word s 0)) (f64At file 4) (s .shape) file) (virtualStorageCount s) (virtualStorageStepsAt (nodeCount s) (aggregateCount s))
+      (λ k. ap (virtualStorageNumbered (sentinelOf (word s 0)) (f64At file 4) (s .shape) file) (let e : k ≡ 0 + k = omega arith in e)))

@@ -9,9 +9,9 @@ use Rattle.pywr.specs.declared.Answer.the-variants.{Accepted}
 use Rattle.pywr.specs.Answers.{answerOf}
 use Rattle.pywr.specs.Calls.{stepIntervals}
 use Rattle.pywr.specs.StepIntervals.{Intervals, ordered}
-use Rattle.pywr.specs.Store.{Store, nodeCount, aggregateCount, storageCount, shapeOf}
+use Rattle.pywr.specs.Store.{Store, nodeCount, aggregateCount, virtualStorageCount, shapeOf}
 use Rattle.step_file.specs.Decoded.{decoded}
-use Rattle.step_work.specs.Held.{Held}
+use Rattle.step_work.specs.WorkRun.{IntervalsHeld}
 
 -- the intervals that a file gives on a store
 unfoldable pub intervalsIn : Store → List ℕ → Intervals
@@ -19,4 +19,4 @@ intervalsIn s file = stepIntervals s (decoded (shapeOf s .nodes) (length (shapeO
 
 pub record Found (s : Store) (file : List ℕ) (r : Answer) (work : List Float) : Type 0 where
   pub answer : r ≡ answerOf (ordered (intervalsIn s file))
-  pub held : r ≡ Accepted → Held (nodeCount s) (aggregateCount s) (storageCount s) work (intervalsIn s file)
+  pub held : r ≡ Accepted → IntervalsHeld (nodeCount s) (aggregateCount s) (virtualStorageCount s) work (intervalsIn s file)

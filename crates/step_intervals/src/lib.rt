@@ -21,7 +21,7 @@ pub fn find_intervals(file: &[u8], shape: &[u16], work: &mut [f64]) -> Answer
         Answer::Refused(number, place) => Answer::Refused(number, place),
         Answer::Accepted => {
             step_aggregate_intervals::find_aggregate_intervals(file, shape, work);
-            step_virtual_storage_intervals::find_storage_intervals(
+            step_virtual_storage_intervals::find_virtual_storage_intervals(
                 file,
                 shape,
                 days,

@@ -1,2 +1,2 @@
 pub mod VaryingLaws
-pub mod NodeRows
+pub mod NodeRowLaws

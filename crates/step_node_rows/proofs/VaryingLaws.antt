@@ -10,15 +10,15 @@ use lib.Ieee.{Float, neg}
 use Rattle.pywr.specs.declared.Interval.{Interval}
 use Rattle.pywr.specs.Programme.{Row}
 use Rattle.pywr.specs.Store.{Store, word, rowTypeOf, nodeRowEntry, columnsOfRow, varyingCount, edgeColumnCount, startOf}
-use Rattle.pywr.specs.Step.{adjust, bounded, applyRowBounds, withFactor, applyInterval}
-use Rattle.pywr.specs.Written.{columnsIn, factorsIn, lowerOf, upperOf}
-use Rattle.step_work.specs.Held.{heldAt}
+use Rattle.pywr.specs.Step.{adjust, bounded, applyRowBounds, withCoefficient, applyInterval}
+use Rattle.pywr.specs.Written.{columnsIn, valuesIn, lowerOf, upperOf}
+use Rattle.step_work.specs.WorkRun.{heldAt}
 use Rattle.store_shape.proofs.EntryLaws.{entries-length}
 use Rattle.step_row_bounds.specs.RowBounds.{RowTightened}
 use Rattle.step_row_bounds.proofs.AdjustLaws.{map-kept, flat-kept, tightened, set-written}
 use Rattle.step_coefficients.specs.RowCoefficients.{CoefficientSet}
 use Rattle.step_node_rows.specs.NodeConstraintBounds.{VaryingWritten, VaryingFit, nodeRowApplied}
-use Rattle.step_coefficients.proofs.FactorLaws.{with-columns, factor-written, factors-long, starts-mono}
+use Rattle.step_coefficients.proofs.SetCoefficientLaws.{with-columns, coefficient-written, values-long, starts-mono}
 
 -- ---- one row
 
@@ -26,17 +26,17 @@ bounds-columns : (by : Interval) (row : Row) → columnsIn (applyRowBounds by ro
 unfolding applyRowBounds bounded columnsIn
 bounds-columns by row = refl
 
-pub bounds-factors : (by : Interval) (row : Row) → factorsIn (applyRowBounds by row) ≡ factorsIn row
-unfolding applyRowBounds bounded factorsIn
-bounds-factors by row = refl
+pub bounds-values : (by : Interval) (row : Row) → valuesIn (applyRowBounds by row) ≡ valuesIn row
+unfolding applyRowBounds bounded valuesIn
+bounds-values by row = refl
 
-factor-lower : (c : ℕ) (x : Float) (row : Row) → lowerOf (withFactor c x row) ≡ lowerOf row
-unfolding withFactor lowerOf
-factor-lower c x row = refl
+coefficient-lower : (c : ℕ) (x : Float) (row : Row) → lowerOf (withCoefficient c x row) ≡ lowerOf row
+unfolding withCoefficient lowerOf
+coefficient-lower c x row = refl
 
-factor-upper : (c : ℕ) (x : Float) (row : Row) → upperOf (withFactor c x row) ≡ upperOf row
-unfolding withFactor upperOf
-factor-upper c x row = refl
+coefficient-upper : (c : ℕ) (x : Float) (row : Row) → upperOf (withCoefficient c x row) ≡ upperOf row
+unfolding withCoefficient upperOf
+coefficient-upper c x row = refl
 
 module _ (s : Store) (rows : List Row) where
   pub rows-many : {lower upper elements : List Float} → VaryingWritten s rows lower upper elements → length rows ≡ varyingCount s
@@ -49,35 +49,35 @@ module _ (s : Store) (rows : List Row) where
         let n = rows-many w in
         record {
           bounds = tightened rows (s .rowLower) (s .rowUpper) lower upper lower′ upper′ r by (omega arith) (omega arith) (omega arith) (w .bounds) t;
-          factors = w .factors ∙ ap (sets (s .elements) 0) (sym (flat-kept (applyRowBounds by) factorsIn (bounds-factors by) r rows));
+          factors = w .factors ∙ ap (sets (s .elements) 0) (sym (flat-kept (applyRowBounds by) valuesIn (bounds-values by) r rows));
           columns = map-kept (applyRowBounds by) columnsIn (bounds-columns by) r rows ∙ w .columns;
         }
 
-    factor-applied : VaryingFit (s .columns) (s .rowStarts) (s .shape) → (elements′ : List Float) (r c : ℕ) (x : Float) → r < varyingCount s
-        → CoefficientSet (s .columns) (s .rowStarts) r c x elements elements′ → VaryingWritten s (adjust (withFactor c x) r rows) lower upper elements′
+    coefficient-applied : VaryingFit (s .columns) (s .rowStarts) (s .shape) → (elements′ : List Float) (r c : ℕ) (x : Float) → r < varyingCount s
+        → CoefficientSet (s .columns) (s .rowStarts) r c x elements elements′ → VaryingWritten s (adjust (withCoefficient c x) r rows) lower upper elements′
     unfolding columnsOfRow
-    factor-applied fit elements′ r c x lt k =
+    coefficient-applied fit elements′ r c x lt k =
         let h = fit .rows .starts in
         let room = fit .rows .columns-long in
         let kept = fit .rows .kept in
         let n : ℕ = varyingCount s in
         let d : ℕ = n - (r + 1) in
         let q : r + 1 + d ≡ n = omega arith in
-        let long = factors-long s h (omega arith) rows n 0 (w .columns) (omega arith) in
-        let long′ : length (flatMap factorsIn rows) ≡ startOf s n - startOf s 0 = rw zero-add at long in
+        let long = values-long s h (omega arith) rows n 0 (w .columns) (omega arith) in
+        let long′ : length (flatMap valuesIn rows) ≡ startOf s n - startOf s 0 = rw zero-add at long in
         let mono : startOf s (r + 1) ≤ startOf s n = rw q at (starts-mono s h (omega arith) d (r + 1) (omega arith)) in
-        let place : k .place < length (flatMap factorsIn rows) = omega (arith, h .first, k .under) in
+        let place : k .place < length (flatMap valuesIn rows) = omega (arith, h .first, k .under) in
         record {
           bounds =
               record {
-                lowers = w .bounds .lowers ∙ ap (sets (s .rowLower) 0) (sym (map-kept (withFactor c x) lowerOf (factor-lower c x) r rows));
-                uppers = w .bounds .uppers ∙ ap (sets (s .rowUpper) 0) (sym (map-kept (withFactor c x) upperOf (factor-upper c x) r rows));
+                lowers = w .bounds .lowers ∙ ap (sets (s .rowLower) 0) (sym (map-kept (withCoefficient c x) lowerOf (coefficient-lower c x) r rows));
+                uppers = w .bounds .uppers ∙ ap (sets (s .rowUpper) 0) (sym (map-kept (withCoefficient c x) upperOf (coefficient-upper c x) r rows));
               };
           factors = k .stored
               ∙ ap (λ (l : List Float). set l (k .place) x) (w .factors)
-              ∙ set-written (flatMap factorsIn rows) (s .elements) (k .place) x place
-              ∙ ap (sets (s .elements) 0) (factor-written s h (omega arith) c (getD (s .shape) 3 0 + getD (s .shape) 4 0) (k .place) x (k .on) rows n r (w .columns) (omega arith) lt (k .from) (k .under) (fit .rise r lt));
-          columns = map-kept (withFactor c x) columnsIn (with-columns c x) r rows ∙ w .columns;
+              ∙ set-written (flatMap valuesIn rows) (s .elements) (k .place) x place
+              ∙ ap (sets (s .elements) 0) (coefficient-written s h (omega arith) c (getD (s .shape) 3 0 + getD (s .shape) 4 0) (k .place) x (k .on) rows n r (w .columns) (omega arith) lt (k .from) (k .under) (fit .rise r lt));
+          columns = map-kept (withCoefficient c x) columnsIn (with-columns c x) r rows ∙ w .columns;
         }
 
 -- ---- a node row by its type
@@ -87,12 +87,12 @@ module _ (s : Store) (work : List Float) (at : ℕ) (rows : List Row) where
   unfolding nodeRowEntry rowTypeOf applyInterval
   type-continuous e = rw e
 
-  type-upper : word s (at + 2) ≡ 1 → nodeRowApplied s work at rows ≡ adjust (withFactor (edgeColumnCount s + word s (at + 3)) (heldAt work (word s at) .upper)) (word s (at + 1)) rows
+  type-upper : word s (at + 2) ≡ 1 → nodeRowApplied s work at rows ≡ adjust (withCoefficient (edgeColumnCount s + word s (at + 3)) (heldAt work (word s at) .upper)) (word s (at + 1)) rows
   unfolding nodeRowEntry rowTypeOf applyInterval
   type-upper e = rw e
 
   type-lower : (word s (at + 2) ≡ 0 → ⊥) → (word s (at + 2) ≡ 1 → ⊥)
-      → nodeRowApplied s work at rows ≡ adjust (withFactor (edgeColumnCount s + word s (at + 3)) (neg (heldAt work (word s at) .lower))) (word s (at + 1)) rows
+      → nodeRowApplied s work at rows ≡ adjust (withCoefficient (edgeColumnCount s + word s (at + 3)) (neg (heldAt work (word s at) .lower))) (word s (at + 1)) rows
   unfolding nodeRowEntry rowTypeOf applyInterval
   type-lower a b = let e : word s (at + 2) ≡ suc (suc (word s (at + 2) - 2)) = omega arith in rw e
 
@@ -104,7 +104,7 @@ module _ (s : Store) (work : List Float) (at : ℕ) (rows : List Row) where
 
     module _ (fit : VaryingFit (s .columns) (s .rowStarts) (s .shape)) (elements′ : List Float) (r c : ℕ) (q : r ≡ word s (at + 1)) (lt : word s (at + 1) < varyingCount s) (on : c ≡ edgeColumnCount s + word s (at + 3)) where
       pub node-upper : word s (at + 2) ≡ 1 → CoefficientSet (s .columns) (s .rowStarts) r c (by .upper) elements elements′ → VaryingWritten s (nodeRowApplied s work at rows) lower upper elements′
-      node-upper e k = rw (type-upper e, ← held, ← q, ← on) (factor-applied s rows lower upper elements w fit elements′ r c (by .upper) (omega arith) k)
+      node-upper e k = rw (type-upper e, ← held, ← q, ← on) (coefficient-applied s rows lower upper elements w fit elements′ r c (by .upper) (omega arith) k)
 
       pub node-lower : (word s (at + 2) ≡ 0 → ⊥) → (word s (at + 2) ≡ 1 → ⊥) → CoefficientSet (s .columns) (s .rowStarts) r c (neg (by .lower)) elements elements′ → VaryingWritten s (nodeRowApplied s work at rows) lower upper elements′
-      node-lower a b k = rw (type-lower a b, ← held, ← q, ← on) (factor-applied s rows lower upper elements w fit elements′ r c (neg (by .lower)) (omega arith) k)
+      node-lower a b k = rw (type-lower a b, ← held, ← q, ← on) (coefficient-applied s rows lower upper elements w fit elements′ r c (neg (by .lower)) (omega arith) k)

@@ -11,9 +11,9 @@ use Rattle.pywr.specs.Programme.{Row}
 use Rattle.pywr.specs.Store.{Store, varyingCount, edgeColumnCount, nodeCount, sentinelCode, sentinelOf, entries, nodeRowEntry, columnsOfRow}
 use Rattle.pywr.specs.Misshapen.{columnsRise}
 use Rattle.pywr.specs.Step.{adjust, applyInterval, applyNodeRows}
-use Rattle.pywr.specs.Written.{columnsIn, factorsIn}
+use Rattle.pywr.specs.Written.{columnsIn, valuesIn}
 use Rattle.store_rows.specs.Starts.{RowsWithin}
-use Rattle.step_work.specs.Held.{heldAt, heldFrom}
+use Rattle.step_work.specs.WorkRun.{heldAt, heldFrom}
 use Rattle.step_row_bounds.specs.RowBounds.{BoundsWritten}
 
 -- the store s with these columns, row starts and shape
@@ -34,7 +34,7 @@ over s columns rowStarts shape =
 -- the row runs of s after its varying rows became `rows`, on the same columns
 pub record VaryingWritten (s : Store) (rows : List Row) (lower upper elements : List Float) : Type 0 where
   pub bounds : BoundsWritten rows (s .rowLower) (s .rowUpper) lower upper
-  pub factors : elements ≡ sets (s .elements) 0 (flatMap factorsIn rows)
+  pub factors : elements ≡ sets (s .elements) 0 (flatMap valuesIn rows)
   pub columns : map columnsIn rows ≡ entries (columnsOfRow s) 1 0 (varyingCount s)
 
 -- a node row: a node, a varying row and, unless it is continuous, a set whose integer column is in the row

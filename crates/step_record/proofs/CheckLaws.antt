@@ -14,7 +14,7 @@ use Rattle.pywr.specs.Numbers.{leastDays, mostDays, double}
 use Rattle.pywr.specs.Programme.{NodeShape}
 use Rattle.step_record.specs.declared.Range.{Range}
 use Rattle.step_record.specs.declared.Range.the-variants.{Flow, Small, Days}
-use Rattle.step_record.specs.Check.{checkMark, checkField, checkByte, answerThen, checkDate, checkNode, checkAggregate, checkStorage}
+use Rattle.step_record.specs.Check.{checkMark, checkField, checkByte, answerThen, checkDate, checkNode, checkAggregate, checkVirtualStorageStep}
 
 -- the ends of a step's days by their bits
 pub least-days : leastDays ≡ ofBits binary64 0x3f50000000000000
@@ -61,6 +61,6 @@ module _ (file : List ℕ) where
   unfolding checkAggregate
   aggregate-within at e = let h = field-within file at (at + 10) Flow (then-passed _ _ e .1) in omega arith
 
-  pub storage-within : (at : ℕ) → checkStorage file at ≡ Accepted → at + 26 ≤ length file
-  unfolding checkStorage
-  storage-within at e = let h = field-within file at (at + 18) Small (then-passed _ _ e .1) in omega arith
+  pub virtual-storage-within : (at : ℕ) → checkVirtualStorageStep file at ≡ Accepted → at + 26 ≤ length file
+  unfolding checkVirtualStorageStep
+  virtual-storage-within at e = let h = field-within file at (at + 18) Small (then-passed _ _ e .1) in omega arith

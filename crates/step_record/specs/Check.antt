@@ -58,8 +58,8 @@ checkAggregate file at =
     let lower = answerThen (checkMark file at 71 66) (checkField file at (at + 2) Flow) in
     answerThen lower (checkField file at (at + 10) Flow)
 
-unfoldable pub checkStorage : List ℕ → ℕ → Answer
-checkStorage file at =
+unfoldable pub checkVirtualStorageStep : List ℕ → ℕ → Answer
+checkVirtualStorageStep file at =
     let min = answerThen (checkMark file at 86 66) (checkField file at (at + 2) Small) in
     let max = answerThen min (checkField file at (at + 10) Small) in
     answerThen max (checkField file at (at + 18) Small)

@@ -4,7 +4,7 @@ ghost use Prim.Native.Nat.{_≤_};
 ghost use lib.Dec.{eqb};
 ghost use Rattle.pywr.specs.Numbers.{isDays};
 ghost use Rattle.pywr.specs.StepFile.{daysIn};
-ghost use Rattle.step_record.specs.Check.{inRange, boundRange, volumeRange, checkMark, checkField, checkByte, answerThen, checkDate, checkNode, checkAggregate, checkStorage};
+ghost use Rattle.step_record.specs.Check.{inRange, boundRange, volumeRange, checkMark, checkField, checkByte, answerThen, checkDate, checkNode, checkAggregate, checkVirtualStorageStep};
 use pywr::Answer;
 
 // What a double of the file may be. One that is not read may be anything.
@@ -168,9 +168,9 @@ pub fn check_aggregate(file: &[u8], at: usize) -> Answer
 }
 
 // `VB` min, max, volume.
-pub fn check_storage(file: &[u8], at: usize) -> Answer
+pub fn check_virtual_storage_step(file: &[u8], at: usize) -> Answer
     requires { ⌜ at ≤ 65536 ⌝ }
-    ensures { λ r. ⌜ r ≡ checkStorage (now (file .entry)) at ⌝ }
+    ensures { λ r. ⌜ r ≡ checkVirtualStorageStep (now (file .entry)) at ⌝ }
 {
     let mark = check_mark(file, at, 86, 66);
     let min = field_after(mark, file, at, at + 2, Range::Small);

@@ -10,7 +10,7 @@ use Rattle.pywr.specs.declared.Interval.{Interval}
 use Rattle.pywr.specs.Programme.{Row}
 use Rattle.pywr.specs.Store.{entries}
 use Rattle.pywr.specs.Step.{adjust, applyRowBounds, applyIntervals}
-use Rattle.step_work.specs.Held.{heldAt, heldFrom}
+use Rattle.step_work.specs.WorkRun.{heldAt, heldFrom}
 use Rattle.step_row_bounds.specs.RowBounds.{BoundsWritten, RowTightened, RowTable}
 use Rattle.step_row_bounds.proofs.AdjustLaws.{adjust-length, tightened}
 

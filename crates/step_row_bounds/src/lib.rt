@@ -14,7 +14,7 @@ ghost use Rattle.pywr.specs.Interval.{tighten, sentinels};
 ghost use Rattle.pywr.specs.Programme.{Row};
 ghost use Rattle.pywr.specs.Store.{sentinelOf, entries};
 ghost use Rattle.pywr.specs.Step.{bounded, applyIntervals};
-ghost use Rattle.step_work.specs.Held.{heldAt, heldFrom};
+ghost use Rattle.step_work.specs.WorkRun.{heldAt, heldFrom};
 ghost use Rattle.step_row_bounds.specs.RowBounds.{BoundsWritten, RowTightened, RowTable};
 
 // Where the upper bounds of the work run's intervals start.

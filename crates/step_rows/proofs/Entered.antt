@@ -12,22 +12,22 @@ use Rattle.pywr.specs.Rows.{Element}
 use Rattle.pywr.specs.Programme.{Row}
 use Rattle.pywr.specs.Store.{Store, entries, elementsOf, columnsOfRow, rowEntry, startOf, varyingCount}
 use Rattle.pywr.specs.Step.{bounded}
-use Rattle.pywr.specs.Written.{columnsIn, factorsIn}
+use Rattle.pywr.specs.Written.{columnsIn, valuesIn}
 use Rattle.store_shape.proofs.EntryLaws.{entries-map}
 use Rattle.store_rows.specs.Starts.{StartsRise}
 use Rattle.store_rows.proofs.Starts.{start-under}
 use Rattle.step_row_bounds.specs.RowBounds.{BoundsWritten}
 use Rattle.step_node_rows.specs.NodeConstraintBounds.{VaryingWritten, VaryingFit}
-use Rattle.step_coefficients.proofs.FactorLaws.{starts-mono}
+use Rattle.step_coefficients.proofs.SetCoefficientLaws.{starts-mono}
 
 -- ---- lists
 
-factors-of : (cs : List ℕ) (xs : List Float) → length cs ≡ length xs → map (λ (e : Element). e .factor) (elementsOf cs xs) ≡ xs
+values-of : (cs : List ℕ) (xs : List Float) → length cs ≡ length xs → map (λ (e : Element). e .value) (elementsOf cs xs) ≡ xs
 unfolding elementsOf
-factors-of [] [] e = refl
-factors-of [] (x ∷ xs) e = let z : 0 ≡ suc (length xs) = e in absurd (omega arith)
-factors-of (c ∷ cs) [] e = let z : suc (length cs) ≡ 0 = e in absurd (omega arith)
-factors-of (c ∷ cs) (x ∷ xs) e = ap (λ (l : List Float). x ∷ l) (factors-of cs xs (let z : suc (length cs) ≡ suc (length xs) = e in omega arith))
+values-of [] [] e = refl
+values-of [] (x ∷ xs) e = let z : 0 ≡ suc (length xs) = e in absurd (omega arith)
+values-of (c ∷ cs) [] e = let z : suc (length cs) ≡ 0 = e in absurd (omega arith)
+values-of (c ∷ cs) (x ∷ xs) e = ap (λ (l : List Float). x ∷ l) (values-of cs xs (let z : suc (length cs) ≡ suc (length xs) = e in omega arith))
 
 columns-of : (cs : List ℕ) (xs : List Float) → length cs ≡ length xs → map (λ (e : Element). e .column) (elementsOf cs xs) ≡ cs
 unfolding elementsOf
@@ -58,10 +58,10 @@ module _ {A : Type 0} where
 -- ---- rows
 
 module _ (i : Interval) where
-  factors-bounded : (rows : List Row) → flatMap factorsIn (map (bounded i) rows) ≡ flatMap factorsIn rows
-  unfolding flatMap bounded factorsIn
-  factors-bounded [] = refl
-  factors-bounded (x ∷ xs) = ap (λ (l : List Float). map (λ (e : Element). e .factor) (x .elements) ++ l) (factors-bounded xs)
+  values-bounded : (rows : List Row) → flatMap valuesIn (map (bounded i) rows) ≡ flatMap valuesIn rows
+  unfolding flatMap bounded valuesIn
+  values-bounded [] = refl
+  values-bounded (x ∷ xs) = ap (λ (l : List Float). map (λ (e : Element). e .value) (x .elements) ++ l) (values-bounded xs)
 
   columns-bounded : (rows : List Row) → map columnsIn (map (bounded i) rows) ≡ map columnsIn rows
   unfolding bounded columnsIn
@@ -75,23 +75,23 @@ module _ (s : Store) {total kept : ℕ} (starts : StartsRise (s .rowStarts) tota
         let u = start-under starts (r + 1) (omega arith) in
         length-slice (startOf s r) (startOf s (r + 1)) (s .columns) (omega arith) ∙ sym (length-slice (startOf s r) (startOf s (r + 1)) (s .elements) (omega arith))
 
-    row-factors : factorsIn (rowEntry s r) ≡ slice (startOf s r) (startOf s (r + 1)) (s .elements)
-    unfolding rowEntry factorsIn columnsOfRow
-    row-factors = factors-of (slice (startOf s r) (startOf s (r + 1)) (s .columns)) (slice (startOf s r) (startOf s (r + 1)) (s .elements)) same-many
+    row-values : valuesIn (rowEntry s r) ≡ slice (startOf s r) (startOf s (r + 1)) (s .elements)
+    unfolding rowEntry valuesIn columnsOfRow
+    row-values = values-of (slice (startOf s r) (startOf s (r + 1)) (s .columns)) (slice (startOf s r) (startOf s (r + 1)) (s .elements)) same-many
 
     row-columns : columnsIn (rowEntry s r) ≡ columnsOfRow s r
     unfolding rowEntry columnsIn columnsOfRow
     row-columns = columns-of (slice (startOf s r) (startOf s (r + 1)) (s .columns)) (slice (startOf s r) (startOf s (r + 1)) (s .elements)) same-many
 
-  factors-from : (n k : ℕ) → k + n ≤ total → flatMap factorsIn (entries (rowEntry s) 1 k n) ≡ slice (startOf s k) (startOf s (k + n)) (s .elements)
+  values-from : (n k : ℕ) → k + n ≤ total → flatMap valuesIn (entries (rowEntry s) 1 k n) ≡ slice (startOf s k) (startOf s (k + n)) (s .elements)
   unfolding entries flatMap
-  factors-from zero k h = let z : k + 0 ≡ k = add-zero k in rw z (sym (slice-empty (startOf s k) (s .elements)))
-  factors-from (suc n) k h =
+  values-from zero k h = let z : k + 0 ≡ k = add-zero k in rw z (sym (slice-empty (startOf s k) (s .elements)))
+  values-from (suc n) k h =
       let j : k + 1 + n ≡ k + suc n = omega arith in
       let a = starts .rise k (omega arith) in
       let b : startOf s (k + 1) ≤ startOf s (k + 1 + n) = starts-mono s starts fits n (k + 1) (omega arith) in
       let u = start-under starts (k + 1 + n) (omega arith) in
-      ap₂ (λ (x y : List Float). x ++ y) (row-factors k (omega arith)) (factors-from n (k + 1) (omega arith))
+      ap₂ (λ (x y : List Float). x ++ y) (row-values k (omega arith)) (values-from n (k + 1) (omega arith))
       ∙ slice-seam (s .elements) (startOf s k) (startOf s (k + 1)) (startOf s (k + 1 + n)) a b (omega arith)
       ∙ ap (λ (m : ℕ). slice (startOf s k) (startOf s m) (s .elements)) j
 
@@ -111,10 +111,10 @@ entered s fit long i lower upper w =
     let under = start-under h n (omega arith) in
     let fits : getD (s .shape) 7 0 ≤ length (s .columns) = omega arith in
     let fits′ : getD (s .shape) 7 0 ≤ length (s .elements) = omega arith in
-    let flat = factors-from s h fits fits′ n 0 (omega arith) in
-    let flat′ : flatMap factorsIn rows ≡ take (startOf s n) (s .elements) = rw (zero-add, h .first) at flat in
+    let flat = values-from s h fits fits′ n 0 (omega arith) in
+    let flat′ : flatMap valuesIn rows ≡ take (startOf s n) (s .elements) = rw (zero-add, h .first) at flat in
     record {
       bounds = w;
-      factors = same-written (s .elements) (startOf s n) (omega arith) ∙ ap (sets (s .elements) 0) (sym (factors-bounded i rows ∙ flat′));
+      factors = same-written (s .elements) (startOf s n) (omega arith) ∙ ap (sets (s .elements) 0) (sym (values-bounded i rows ∙ flat′));
       columns = columns-bounded i rows ∙ columns-from s h fits fits′ n 0 (omega arith);
     }

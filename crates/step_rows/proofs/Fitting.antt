@@ -11,8 +11,8 @@ use lib.Ieee.{Float}
 use lib.Ieee.Fits.{and-l, and-r}
 use Rattle.laws.proofs.Tests.{of-true, to-true, or-elim}
 use Rattle.pywr.specs.Network.{listed}
-use Rattle.pywr.specs.Store.{Store, word, nodeCount, edgeColumnCount, setCount, varyingCount, rowCount, nodeRowCount, aggregateCount, storageCount, columnsOfRow}
-use Rattle.pywr.specs.Misshapen.{columnsRise, rowColumnsRise, nodeRowFits, aggregateFits, storageFits}
+use Rattle.pywr.specs.Store.{Store, word, nodeCount, edgeColumnCount, setCount, varyingCount, rowCount, nodeRowCount, aggregateCount, virtualStorageCount, columnsOfRow}
+use Rattle.pywr.specs.Misshapen.{columnsRise, rowColumnsRise, nodeRowFits, aggregateFits, virtualStorageFits}
 use Rattle.store_shape.proofs.Entries.{entry-passes}
 use Rattle.store.proofs.Passed.{shaped}
 use Rattle.step_row_bounds.specs.RowBounds.{RowTable}
@@ -24,9 +24,9 @@ pub record Fitting (columns rowStarts shape : List ℕ) : Type 0 where
   pub node-rows-few : getD shape 8 0 ≤ 4352
   pub node-rows : (k : ℕ) → k < getD shape 8 0 → NodeRowFits columns rowStarts shape (2059 + 4 * k)
   pub aggregates-few : getD shape 9 0 ≤ 64
-  pub storages-few : getD shape 10 0 ≤ 32
+  pub virtual-storages-few : getD shape 10 0 ≤ 32
   pub aggregates : RowTable shape 19467 1 (getD shape 9 0)
-  pub storages : RowTable shape 19531 6 (getD shape 10 0)
+  pub virtualStorages : RowTable shape 19531 6 (getD shape 10 0)
 
 module _ (s : Store) where
   row-rises : (r : ℕ) → rowColumnsRise s r ≡ true → columnsRise (edgeColumnCount s + setCount s) 0 (slice (getD (s .rowStarts) r 0) (getD (s .rowStarts) (r + 1) 0) (s .columns)) ≡ true
@@ -56,9 +56,9 @@ module _ (s : Store) where
   unfolding aggregateFits
   aggregate-row at q = ltb→lt (word s at) (varyingCount s) (of-true (ltb (word s at) (varyingCount s)) q)
 
-  storage-row : (at : ℕ) → storageFits s at ≡ true → word s at < varyingCount s
-  unfolding storageFits
-  storage-row at q =
+  virtual-storage-row : (at : ℕ) → virtualStorageFits s at ≡ true → word s at < varyingCount s
+  unfolding virtualStorageFits
+  virtual-storage-row at q =
       let a : Bool = ltb (word s at) (varyingCount s) in
       let b : Bool = leb (word s (at + 1)) 1 in
       ltb→lt (word s at) (varyingCount s) (and-l a b (of-true (a && b) q))
@@ -91,7 +91,7 @@ module _ (s : Store) where
         node-rows-few = n .node-rows;
         node-rows = λ k lt. node-row-fits (2059 + 4 * k) (entry-passes (nodeRowFits s) 4 (nodeRowCount s) 2059 (h .node-rows) k lt);
         aggregates-few = n .aggregates;
-        storages-few = n .storages;
+        virtual-storages-few = n .virtualStorages;
         aggregates =
             record {
               shape-long = p .shape-long;
@@ -100,12 +100,12 @@ module _ (s : Store) where
               within = omega (arith, n .aggregates);
               rows = λ k lt. aggregate-row (19467 + 1 * k) (entry-passes (aggregateFits s) 1 (aggregateCount s) 19467 (h .aggregates) k lt);
             };
-        storages =
+        virtualStorages =
             record {
               shape-long = p .shape-long;
               varying = few;
               some-words = omega arith;
-              within = omega (arith, n .storages);
-              rows = λ k lt. storage-row (19531 + 6 * k) (entry-passes (storageFits s) 6 (storageCount s) 19531 (h .storages) k lt);
+              within = omega (arith, n .virtualStorages);
+              rows = λ k lt. virtual-storage-row (19531 + 6 * k) (entry-passes (virtualStorageFits s) 6 (virtualStorageCount s) 19531 (h .virtualStorages) k lt);
             };
       }

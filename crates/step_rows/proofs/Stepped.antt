@@ -9,25 +9,25 @@ use Rattle.pywr.specs.declared.Interval.{Interval}
 use Rattle.pywr.specs.Interval.{sentinels}
 use Rattle.pywr.specs.Programme.{Row}
 use Rattle.pywr.specs.StepIntervals.{Intervals}
-use Rattle.pywr.specs.Store.{Store, entries, rowEntry, storageEntry, word, varyingCount, nodeRowCount, aggregateCount, storageCount, sentinelOf, sentinelCode, shapeOf, programmeIn}
+use Rattle.pywr.specs.Store.{Store, entries, rowEntry, virtualStorageEntry, word, varyingCount, nodeRowCount, aggregateCount, virtualStorageCount, sentinelOf, sentinelCode, shapeOf, programmeIn}
 use Rattle.pywr.specs.Step.{bounded, applyRowBounds, applyIntervals, rowOf, stepRows}
-use Rattle.pywr.specs.Written.{factorsIn}
-use Rattle.step_work.specs.Held.{heldFrom}
+use Rattle.pywr.specs.Written.{valuesIn}
+use Rattle.step_work.specs.WorkRun.{heldFrom}
 use Rattle.store_shape.proofs.EntryLaws.{entries-length, entries-map}
 use Rattle.step_row_bounds.specs.RowBounds.{BoundsWritten}
 use Rattle.step_row_bounds.proofs.AdjustLaws.{adjust-length, flat-kept}
 use Rattle.step_node_rows.specs.NodeConstraintBounds.{over, VaryingWritten, VaryingFit, nodeRowsApplied}
-use Rattle.step_node_rows.proofs.VaryingLaws.{rows-many, bounds-factors}
+use Rattle.step_node_rows.proofs.VaryingLaws.{rows-many, bounds-values}
 use Rattle.step_rows.specs.ConstraintBounds.{steppedRows, StepWritten, HasRuns, HeldIn}
 use Rattle.step_rows.proofs.Entered.{entered}
 
 -- ---- intervals change no element
 
-factors-applied : (rs : List ℕ) (is : List Interval) (rows : List Row) → flatMap factorsIn (applyIntervals rs is rows) ≡ flatMap factorsIn rows
+values-applied : (rs : List ℕ) (is : List Interval) (rows : List Row) → flatMap valuesIn (applyIntervals rs is rows) ≡ flatMap valuesIn rows
 unfolding applyIntervals
-factors-applied [] is rows = refl
-factors-applied (r ∷ rs) [] rows = refl
-factors-applied (r ∷ rs) (i ∷ is) rows = factors-applied rs is _ ∙ flat-kept (applyRowBounds i) factorsIn (bounds-factors i) r rows
+values-applied [] is rows = refl
+values-applied (r ∷ rs) [] rows = refl
+values-applied (r ∷ rs) (i ∷ is) rows = values-applied rs is _ ∙ flat-kept (applyRowBounds i) valuesIn (bounds-values i) r rows
 
 length-applied : (rs : List ℕ) (is : List Interval) (rows : List Row) → length (applyIntervals rs is rows) ≡ length rows
 unfolding applyIntervals
@@ -35,9 +35,9 @@ length-applied [] is rows = refl
 length-applied (r ∷ rs) [] rows = refl
 length-applied (r ∷ rs) (i ∷ is) rows = length-applied rs is _ ∙ adjust-length (applyRowBounds i) r rows
 
-storage-rows : (s : Store) (n at : ℕ) → map rowOf (entries (storageEntry s) 6 at n) ≡ entries (word s) 6 at n
-unfolding storageEntry rowOf
-storage-rows s n at = entries-map rowOf (storageEntry s) (word s) 6 at n (λ k lt. refl)
+virtual-storage-rows : (s : Store) (n at : ℕ) → map rowOf (entries (virtualStorageEntry s) 6 at n) ≡ entries (word s) 6 at n
+unfolding virtualStorageEntry rowOf
+virtual-storage-rows s n at = entries-map rowOf (virtualStorageEntry s) (word s) 6 at n (λ k lt. refl)
 
 module _ (s : Store) (work : List Float) where
   abbrev reset : List Row
@@ -46,15 +46,15 @@ module _ (s : Store) (work : List Float) where
   abbrev nodesDone : List Row
   nodesDone = nodeRowsApplied s work 2059 (nodeRowCount s) reset
 
-  abbrev groupsDone : List Row
-  groupsDone = applyIntervals (entries (word s) 1 19467 (aggregateCount s)) (heldFrom work 256 (aggregateCount s)) nodesDone
+  abbrev aggregatesDone : List Row
+  aggregatesDone = applyIntervals (entries (word s) 1 19467 (aggregateCount s)) (heldFrom work 256 (aggregateCount s)) nodesDone
 
-  abbrev storesDone : List Row
-  storesDone = applyIntervals (entries (word s) 6 19531 (storageCount s)) (heldFrom work 320 (storageCount s)) groupsDone
+  abbrev virtualStoragesDone : List Row
+  virtualStoragesDone = applyIntervals (entries (word s) 6 19531 (virtualStorageCount s)) (heldFrom work 320 (virtualStorageCount s)) aggregatesDone
 
-  rows-are : (i : Intervals) → HeldIn s work i → steppedRows s i ≡ storesDone
+  rows-are : (i : Intervals) → HeldIn s work i → steppedRows s i ≡ virtualStoragesDone
   unfolding stepRows programmeIn shapeOf
-  rows-are i h = rw (← (h .nodes-are), ← (h .aggregates-are), ← (h .storages-are), storage-rows s (storageCount s) 19531)
+  rows-are i h = rw (← (h .nodes-are), ← (h .aggregates-are), ← (h .virtual-storages-are), virtual-storage-rows s (virtualStorageCount s) 19531)
 
   abbrev pub ResetDone : List Float → List Float → Type 0
   ResetDone lower upper =
@@ -74,19 +74,19 @@ module _ (s : Store) (work : List Float) where
   module _ (fit : VaryingFit (s .columns) (s .rowStarts) (s .shape)) (long : 4096 ≤ length (s .elements)) (lower₁ upper₁ lower₂ upper₂ elements lower₃ upper₃ lower₄ upper₄ : List Float) (g v : ℕ) where
     stepped : ResetDone lower₁ upper₁ → NodesDone lower₁ upper₁ lower₂ upper₂ elements
         → g ≡ aggregateCount s → TableDone 1 19467 256 g lower₂ upper₂ lower₃ upper₃
-        → v ≡ storageCount s → TableDone 6 19531 320 v lower₃ upper₃ lower₄ upper₄
+        → v ≡ virtualStorageCount s → TableDone 6 19531 320 v lower₃ upper₃ lower₄ upper₄
         → (i : Intervals) → HeldIn s work i → StepWritten s i lower₄ upper₄ elements
     stepped a b eg c ev d i held =
         let rows : List Row = entries (rowEntry s) 1 0 (varyingCount s) in
         let w₁ = entered s fit long (sentinels (sentinelOf (sentinelCode s))) lower₁ upper₁ (a rows (entries-length (rowEntry s) 1 0 (varyingCount s))) in
         let w₂ : VaryingWritten s nodesDone lower₂ upper₂ elements = b s reset w₁ in
         let n₂ : length nodesDone ≡ varyingCount s = rows-many s nodesDone w₂ in
-        let w₃ : BoundsWritten groupsDone (s .rowLower) (s .rowUpper) lower₃ upper₃ = rw eg at (c nodesDone (s .rowLower) (s .rowUpper) n₂ (w₂ .bounds)) in
-        let n₃ : length groupsDone ≡ varyingCount s = length-applied (entries (word s) 1 19467 (aggregateCount s)) (heldFrom work 256 (aggregateCount s)) nodesDone ∙ n₂ in
-        let w₄ : BoundsWritten storesDone (s .rowLower) (s .rowUpper) lower₄ upper₄ = rw ev at (d groupsDone (s .rowLower) (s .rowUpper) n₃ (w₃)) in
-        let same : flatMap factorsIn storesDone ≡ flatMap factorsIn nodesDone =
-        factors-applied (entries (word s) 6 19531 (storageCount s)) (heldFrom work 320 (storageCount s)) groupsDone
-        ∙ factors-applied (entries (word s) 1 19467 (aggregateCount s)) (heldFrom work 256 (aggregateCount s)) nodesDone in
+        let w₃ : BoundsWritten aggregatesDone (s .rowLower) (s .rowUpper) lower₃ upper₃ = rw eg at (c nodesDone (s .rowLower) (s .rowUpper) n₂ (w₂ .bounds)) in
+        let n₃ : length aggregatesDone ≡ varyingCount s = length-applied (entries (word s) 1 19467 (aggregateCount s)) (heldFrom work 256 (aggregateCount s)) nodesDone ∙ n₂ in
+        let w₄ : BoundsWritten virtualStoragesDone (s .rowLower) (s .rowUpper) lower₄ upper₄ = rw ev at (d aggregatesDone (s .rowLower) (s .rowUpper) n₃ (w₃)) in
+        let same : flatMap valuesIn virtualStoragesDone ≡ flatMap valuesIn nodesDone =
+        values-applied (entries (word s) 6 19531 (virtualStorageCount s)) (heldFrom work 320 (virtualStorageCount s)) aggregatesDone
+        ∙ values-applied (entries (word s) 1 19467 (aggregateCount s)) (heldFrom work 256 (aggregateCount s)) nodesDone in
         let e = rows-are i held in
         record {
           lowers = rw e (w₄ .lowers);

@@ -9,10 +9,10 @@ use lib.Ieee.{Float}
 use Rattle.pywr.specs.Programme.{Row}
 use Rattle.pywr.specs.StepIntervals.{Intervals}
 use Rattle.pywr.specs.Step.{stepRows}
-use Rattle.pywr.specs.Store.{Store, nodeCount, aggregateCount, storageCount, shapeOf, programmeIn}
+use Rattle.pywr.specs.Store.{Store, nodeCount, aggregateCount, virtualStorageCount, shapeOf, programmeIn}
 use Rattle.pywr.specs.Misshapen.{wellShaped}
-use Rattle.pywr.specs.Written.{lowerOf, upperOf, factorsIn}
-use Rattle.step_work.specs.Held.{Held}
+use Rattle.pywr.specs.Written.{lowerOf, upperOf, valuesIn}
+use Rattle.step_work.specs.WorkRun.{IntervalsHeld}
 
 -- a store of these six runs
 abbrev pub storeOf : List Float → List Float → List Float → List ℕ → List ℕ → List ℕ → Store
@@ -47,7 +47,7 @@ steppedRows s i = stepRows (programmeIn s .sentinel) (shapeOf s) i (programmeIn 
 pub record StepWritten (s : Store) (i : Intervals) (lower upper elements : List Float) : Type 0 where
   pub lowers : lower ≡ sets (s .rowLower) 0 (map lowerOf (steppedRows s i))
   pub uppers : upper ≡ sets (s .rowUpper) 0 (map upperOf (steppedRows s i))
-  pub factors : elements ≡ sets (s .elements) 0 (flatMap factorsIn (steppedRows s i))
+  pub factors : elements ≡ sets (s .elements) 0 (flatMap valuesIn (steppedRows s i))
 
 -- s has these six runs
 pub record HasRuns (s : Store) (rowLower rowUpper elements : List Float) (columns rowStarts shape : List ℕ) : Type 0 where
@@ -59,4 +59,4 @@ pub record HasRuns (s : Store) (rowLower rowUpper elements : List Float) (column
   pub shape-is : s .shape ≡ shape
 
 abbrev pub HeldIn : Store → List Float → Intervals → Type 0
-HeldIn s work i = Held (nodeCount s) (aggregateCount s) (storageCount s) work i
+HeldIn s work i = IntervalsHeld (nodeCount s) (aggregateCount s) (virtualStorageCount s) work i

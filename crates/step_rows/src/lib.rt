@@ -5,8 +5,8 @@ use step_row_bounds::apply_intervals;
 use step_row_bounds::reset_row_bounds;
 use store_shape::AGGREGATE_COUNT;
 use store_shape::AGGREGATES_AT;
-use store_shape::STORAGE_COUNT;
-use store_shape::STORAGES_AT;
+use store_shape::VIRTUAL_STORAGE_COUNT;
+use store_shape::VIRTUAL_STORAGES_AT;
 use store_shape::wide;
 ghost use Rattle.pywr.specs.StepIntervals.{Intervals};
 ghost use Rattle.pywr.specs.Store.{Store};
@@ -53,14 +53,14 @@ pub fn update_constraint_bounds(
         work,
         GROUPS_HELD_AT,
     );
-    let storages = wide(shape[STORAGE_COUNT]);
+    let virtual_storages = wide(shape[VIRTUAL_STORAGE_COUNT]);
     apply_intervals(
         row_lower,
         row_upper,
         shape,
-        STORAGES_AT,
+        VIRTUAL_STORAGES_AT,
         6,
-        storages,
+        virtual_storages,
         work,
         STORES_HELD_AT,
     );

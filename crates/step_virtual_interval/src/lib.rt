@@ -6,8 +6,8 @@ use pywr::Sentinel;
 ghost use mathlib.Core.Path.{_≡_};
 ghost use Prim.Native.Nat.{_+_, _≤_};
 ghost use lib.ListN.{length};
-ghost use Rattle.step_file.specs.Decoded.{storageStepAt};
-ghost use Rattle.step_virtual_interval.specs.VirtualInterval.{storageAt};
+ghost use Rattle.step_file.specs.Decoded.{virtualStorageStepAt};
+ghost use Rattle.step_virtual_interval.specs.VirtualInterval.{virtualIntervalAt};
 
 fn wide_u16(x: u8) -> u16
     ensures { λ r. ⌜ r ≡ x ⌝ }
@@ -18,7 +18,7 @@ fn wide_u16(x: u8) -> u16
 // The available and missing volume of the virtual storage whose record stands at `at`.
 fn bounds_at(file: &[u8], at: usize) -> NodeBounds
     requires { ⌜ at + 26 ≤ length (now file) ⌝ }
-    ensures { λ r. ⌜ r ≡ storageStepAt (now (file .entry)) at ⌝ }
+    ensures { λ r. ⌜ r ≡ virtualStorageStepAt (now (file .entry)) at ⌝ }
 {
     let min = f64_at(file, at + 2);
     let max = f64_at(file, at + 10);
@@ -27,7 +27,7 @@ fn bounds_at(file: &[u8], at: usize) -> NodeBounds
 }
 
 // A virtual storage's interval on the step's date; both sentinels outside its period.
-pub fn storage_interval(
+pub fn virtual_storage_interval(
     file: &[u8],
     shape: &[u16],
     place: usize,
@@ -36,7 +36,7 @@ pub fn storage_interval(
     sentinel: Sentinel,
 ) -> Interval
     requires { ⌜ (4 ≤ length (now file)) × (at + 26 ≤ length (now file)) × (place + 6 ≤ length (now shape)) ⌝ }
-    ensures { λ r. ⌜ r ≡ storageAt sentinel days (now (shape .entry)) (now (file .entry)) place at ⌝ }
+    ensures { λ r. ⌜ r ≡ virtualIntervalAt sentinel days (now (shape .entry)) (now (file .entry)) place at ⌝ }
 {
     let month = wide_u16(file[2]);
     let day = wide_u16(file[3]);

@@ -1,1 +1,1 @@
-pub mod StorageIntervals
+pub mod VirtualStorageIntervals

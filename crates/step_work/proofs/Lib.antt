@@ -1,3 +1,3 @@
-pub mod HeldLaws
+pub mod WorkRunLaws
 pub mod CrossedLaws
 pub mod WrittenLaws

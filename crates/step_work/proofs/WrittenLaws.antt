@@ -13,7 +13,7 @@ use Rattle.pywr.specs.declared.Answer.the-variants.{Accepted, Refused}
 use Rattle.pywr.specs.declared.Interval.{Interval}
 use Rattle.pywr.specs.Numbers.{zero64}
 use Rattle.pywr.specs.StepIntervals.{isCrossed}
-use Rattle.step_work.specs.Held.{heldAt}
+use Rattle.step_work.specs.WorkRun.{heldAt}
 use Rattle.step_work.specs.Written.{Written, crossedAnswer, Looked}
 use Rattle.step_work.proofs.CrossedLaws.{none-crossed, first-crossed}
 

@@ -9,7 +9,7 @@ use Rattle.pywr.specs.declared.Answer.the-variants.{Accepted, Refused}
 use Rattle.pywr.specs.declared.Interval.{Interval}
 use Rattle.pywr.specs.StepIntervals.{firstCrossed}
 use Rattle.pywr.specs.Store.{entries}
-use Rattle.step_work.specs.Held.{heldAt}
+use Rattle.step_work.specs.WorkRun.{heldAt}
 
 -- the intervals f 0, f 1, .. are held from `base` on, and what was held before `base` still is
 pub record Written (f : ℕ → Interval) (base count : ℕ) (old new : List Float) : Type 0 where

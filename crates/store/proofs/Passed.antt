@@ -8,8 +8,8 @@ use lib.Dec.{leb, eqb, leb→le}
 use lib.Ieee.Fits.{and-l, and-r}
 use borrow.Author.Tests.{not-false}
 use Rattle.laws.proofs.Tests.{of-true, to-true}
-use Rattle.pywr.specs.Store.{Store, storeHasRoom, sentinelCode, nodeCount, edgeCount, edgeColumnCount, setCount, rowCount, elementsKept, nodeRowCount, aggregateCount, storageCount, nodesAt, edgesAt, nodeRowsAt, aggregatesAt, storagesAt, startOf}
-use Rattle.pywr.specs.Misshapen.{countsFit, startsRise, rowColumnsRise, nodeFits, edgeFits, nodeRowFits, aggregateFits, storageFits, allEntries, wellShaped}
+use Rattle.pywr.specs.Store.{Store, storeHasRoom, sentinelCode, nodeCount, edgeCount, edgeColumnCount, setCount, rowCount, elementsKept, nodeRowCount, aggregateCount, virtualStorageCount, nodesAt, edgesAt, nodeRowsAt, aggregatesAt, virtualStoragesAt, startOf}
+use Rattle.pywr.specs.Misshapen.{countsFit, startsRise, rowColumnsRise, nodeFits, edgeFits, nodeRowFits, aggregateFits, virtualStorageFits, allEntries, wellShaped}
 use Rattle.pywr.proofs.Represents.{Roomy}
 use Rattle.pywr.proofs.DemandThree.{roomy-parts}
 use Rattle.store_shape.proofs.Entries.{ofShape}
@@ -32,7 +32,7 @@ pub record Counted (s : Store) : Type 0 where
   pub kept : elementsKept s ≤ 4096
   pub node-rows : nodeRowCount s ≤ 4352
   pub aggregates : aggregateCount s ≤ 64
-  pub storages : storageCount s ≤ 32
+  pub virtualStorages : virtualStorageCount s ≤ 32
 
 pub counted : (s : Store) → countsFit s ≡ true → Counted s
 unfolding countsFit
@@ -45,7 +45,7 @@ counted s q =
     let f : Bool = leb (elementsKept s) 4096 in
     let g : Bool = leb (nodeRowCount s) 4352 in
     let h : Bool = leb (aggregateCount s) 64 in
-    let i : Bool = leb (storageCount s) 32 in
+    let i : Bool = leb (virtualStorageCount s) 32 in
     let h9 = of-true (a && b && c && d && e && f && g && h && i) q in
     let h8 = and-l (a && b && c && d && e && f && g && h) i h9 in
     let h7 = and-l (a && b && c && d && e && f && g) h h8 in
@@ -63,7 +63,7 @@ counted s q =
       kept = leb→le (elementsKept s) 4096 (and-r (a && b && c && d && e) f h6);
       node-rows = leb→le (nodeRowCount s) 4352 (and-r (a && b && c && d && e && f) g h7);
       aggregates = leb→le (aggregateCount s) 64 (and-r (a && b && c && d && e && f && g) h h8);
-      storages = leb→le (storageCount s) 32 (and-r (a && b && c && d && e && f && g && h) i h9);
+      virtualStorages = leb→le (virtualStorageCount s) 32 (and-r (a && b && c && d && e && f && g && h) i h9);
     }
 
 -- ---- the tests of `well_shaped` that the later ones build on
@@ -100,7 +100,7 @@ pub record Shaped (s : Store) : Type 0 where
   pub edges : allEntries (edgeFits s) 3 edgesAt (edgeCount s) ≡ true
   pub node-rows : allEntries (nodeRowFits s) 4 nodeRowsAt (nodeRowCount s) ≡ true
   pub aggregates : allEntries (aggregateFits s) 1 aggregatesAt (aggregateCount s) ≡ true
-  pub storages : allEntries (storageFits s) 6 storagesAt (storageCount s) ≡ true
+  pub virtualStorages : allEntries (virtualStorageFits s) 6 virtualStoragesAt (virtualStorageCount s) ≡ true
 
 pub shaped : (s : Store) → wellShaped s ≡ true → Shaped s
 unfolding wellShaped
@@ -113,7 +113,7 @@ shaped s q =
     let f : Bool = allEntries (edgeFits s) 3 edgesAt (edgeCount s) in
     let g : Bool = allEntries (nodeRowFits s) 4 nodeRowsAt (nodeRowCount s) in
     let h : Bool = allEntries (aggregateFits s) 1 aggregatesAt (aggregateCount s) in
-    let i : Bool = allEntries (storageFits s) 6 storagesAt (storageCount s) in
+    let i : Bool = allEntries (virtualStorageFits s) 6 virtualStoragesAt (virtualStorageCount s) in
     let h9 = of-true (a && b && c && d && e && f && g && h && i) q in
     let h8 = and-l (a && b && c && d && e && f && g && h) i h9 in
     let h7 = and-l (a && b && c && d && e && f && g) h h8 in
@@ -131,5 +131,5 @@ shaped s q =
       edges = to-true f (and-r (a && b && c && d && e) f h6);
       node-rows = to-true g (and-r (a && b && c && d && e && f) g h7);
       aggregates = to-true h (and-r (a && b && c && d && e && f && g) h h8);
-      storages = to-true i (and-r (a && b && c && d && e && f && g && h) i h9);
+      virtualStorages = to-true i (and-r (a && b && c && d && e && f && g && h) i h9);
     }

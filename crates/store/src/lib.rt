@@ -10,7 +10,7 @@ use store_shape::counts_fit;
 use store_shape::edges_fit;
 use store_shape::nodes_fit;
 use store_shape::row_count;
-use store_shape::storages_fit;
+use store_shape::virtual_storages_fit;
 ghost use mathlib.Core.Path.{_≡_};
 ghost use Prim.Native.Nat.{_≤_};
 ghost use lib.ListN.{length};
@@ -59,7 +59,7 @@ pub fn well_shaped(columns: &[u16], row_starts: &[u32], shape: &[u16]) -> bool
         & edges_fit(shape)
         & node_rows_fit(columns, row_starts, shape)
         & aggregates_fit(shape)
-        & storages_fit(shape)
+        & virtual_storages_fit(shape)
 }
 
 // The answer to reading a row: where its columns stand, or 16, 17 or 18.

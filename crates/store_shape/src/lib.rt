@@ -3,8 +3,8 @@ use pywr::Sentinel;
 ghost use mathlib.Core.Path.{_≡_};
 ghost use Prim.Native.Nat.{_+_, _≤_, _<_};
 ghost use lib.ListN.{length, getD};
-ghost use Rattle.pywr.specs.Store.{Store, sentinelOf, nodeCount, edgeCount, aggregateCount, storageCount, nodesAt, edgesAt, aggregatesAt, storagesAt};
-ghost use Rattle.pywr.specs.Misshapen.{countsFit, nodeFits, edgeFits, aggregateFits, storageFits, allEntries};
+ghost use Rattle.pywr.specs.Store.{Store, sentinelOf, nodeCount, edgeCount, aggregateCount, virtualStorageCount, nodesAt, edgesAt, aggregatesAt, virtualStoragesAt};
+ghost use Rattle.pywr.specs.Misshapen.{countsFit, nodeFits, edgeFits, aggregateFits, virtualStorageFits, allEntries};
 
 // The words of the shape run: the sentinel's code, the counts, and where each table starts.
 pub const SENTINEL_CODE: usize = 0;
@@ -27,7 +27,7 @@ pub const NODE_ROW_COUNT: usize = 8;
 
 pub const AGGREGATE_COUNT: usize = 9;
 
-pub const STORAGE_COUNT: usize = 10;
+pub const VIRTUAL_STORAGE_COUNT: usize = 10;
 
 pub const NODES_AT: usize = 11;
 
@@ -37,7 +37,7 @@ pub const NODE_ROWS_AT: usize = 2059;
 
 pub const AGGREGATES_AT: usize = 19467;
 
-pub const STORAGES_AT: usize = 19531;
+pub const VIRTUAL_STORAGES_AT: usize = 19531;
 
 pub fn wide(x: u16) -> usize
     ensures { λ r. ⌜ (r ≡ x) × (r < 65536) ⌝ }
@@ -78,7 +78,7 @@ pub fn counts_fit(shape: &[u16]) -> bool
         & (shape[ELEMENTS_KEPT] <= 4096)
         & (shape[NODE_ROW_COUNT] <= 4352)
         & (shape[AGGREGATE_COUNT] <= 64)
-        & (shape[STORAGE_COUNT] <= 32)
+        & (shape[VIRTUAL_STORAGE_COUNT] <= 32)
 }
 
 // "a kind, flag .. out of range". Each table is looked at whole, with no way out of the loop, so that the compiler can vectorise it.
@@ -136,16 +136,16 @@ pub fn aggregates_fit(shape: &[u16]) -> bool
 }
 
 // A virtual storage: a varying row, and whether it has a period.
-pub fn storages_fit(shape: &[u16]) -> bool
+pub fn virtual_storages_fit(shape: &[u16]) -> bool
     requires { ⌜ (19723 ≤ length (now shape)) × (getD (now shape) 10 0 ≤ 32) ⌝ }
-    ensures { λ r. ⌜ ((s : Store) → s .shape ≡ now (shape .entry) → r ≡ allEntries (storageFits s) 6 storagesAt (storageCount s)) ⌝ }
+    ensures { λ r. ⌜ ((s : Store) → s .shape ≡ now (shape .entry) → r ≡ allEntries (virtualStorageFits s) 6 virtualStoragesAt (virtualStorageCount s)) ⌝ }
 {
     let varying = shape[VARYING_COUNT];
-    let storages = wide(shape[STORAGE_COUNT]);
+    let virtual_storages = wide(shape[VIRTUAL_STORAGE_COUNT]);
     let mut good = true;
-    let mut at: usize = STORAGES_AT;
+    let mut at: usize = VIRTUAL_STORAGES_AT;
     let mut i: usize = 0;
-    while i < storages {
+    while i < virtual_storages {
         good = good & ((shape[at] < varying) & (shape[at + 1] <= 1));
         at += 6;
         i += 1;

@@ -14,7 +14,7 @@ use Rattle.pywr.specs.declared.Sentinel.the-variants.{Infinity}
 use Rattle.pywr.specs.Numbers.{double, zero64, one64, million, millionth, high, lesser, greater}
 use Rattle.pywr.specs.Network.{link, Node, Aggregate, Network}
 use Rattle.pywr.specs.ColEdgeMap.{columns, mappedEdges}
-use Rattle.pywr.specs.ExclusiveSets.{setsListing}
+use Rattle.pywr.specs.ExclusiveSets.{setsWithNode}
 use Rattle.pywr.specs.Rows.{Element, ColumnMap, columnMap, massRow, aggregateRow, virtualStorageRow, upperRow, lowerRow, exclusivityRow}
 use Rattle.pywr.specs.VariableRows.{Joined, addVariableRows}
 use Rattle.pywr.specs.Programme.{Column, Row, Programme}
@@ -30,13 +30,13 @@ use Rattle.pywr.proofs.ShapeLaws.{joins-all}
 use Rattle.pywr.proofs.ReadLaws.{NodeOk, AggregateOk, Good}
 use Rattle.theorem_numbers.specs.ProgrammeNumbers.{askedRows}
 use Rattle.theorem_numbers.proofs.ReadBounds.{AllSmall}
-use Rattle.theorem_numbers.proofs.ElementBounds.{Plain, AllPlain, node-plain, mass-plain, upper-plain, lower-plain, aggregate-plain, storage-plain, exclusivity-plain}
+use Rattle.theorem_numbers.proofs.ElementBounds.{Plain, AllPlain, node-plain, mass-plain, upper-plain, lower-plain, aggregate-plain, virtual-storage-plain, exclusivity-plain}
 
 -- bounds that are numbers, and elements of which P holds
 pub record RowOk (P : Float → Type 0) (r : Row) : Type 0 where
   pub lower : IsBound (r .lower)
   pub upper : IsBound (r .upper)
-  pub elements : Every (λ (e : Element). P (e .factor)) (r .elements)
+  pub elements : Every (λ (e : Element). P (e .value)) (r .elements)
 
 pub record ColumnOk (c : Column) : Type 0 where
   pub lower : IsBound (c .lower)
@@ -114,11 +114,11 @@ module _ (s : Sentinel) (f : ColumnMap) (few : length (f .mappedEdges) ≤ 512) 
   asks-ok : (n : ℕ) (xs : List Node) → Every AskOk (requestsFrom f n xs)
   unfolding requestsFrom
   asks-ok n [] = tt
-  asks-ok n (x ∷ xs) = every-append AskOk (cond (x .constant) [] (requestsBySets f n (setsListing n 0 (f .sets)))) (requestsFrom f (suc n) xs) .1 (go (x .constant), asks-ok (suc n) xs)
+  asks-ok n (x ∷ xs) = every-append AskOk (cond (x .constant) [] (requestsBySets f n (setsWithNode n 0 (f .sets)))) (requestsFrom f (suc n) xs) .1 (go (x .constant), asks-ok (suc n) xs)
     where
-      go : (b : Bool) → Every AskOk (cond b [] (requestsBySets f n (setsListing n 0 (f .sets))))
+      go : (b : Bool) → Every AskOk (cond b [] (requestsBySets f n (setsWithNode n 0 (f .sets))))
       go true = tt
-      go false = asks-by n (setsListing n 0 (f .sets))
+      go false = asks-by n (setsWithNode n 0 (f .sets))
 
   fresh-ok : (rows : List (List Element)) → Every AllPlain rows → Every (RowOk Plain) (map (freshRow s) rows)
   unfolding freshRow
@@ -165,13 +165,13 @@ module _ (s : Sentinel) (f : ColumnMap) (few : length (f .mappedEdges) ≤ 512) 
   unfolding constantRowsFrom
   constants-ok n [] ok = tt
   constants-ok n (x ∷ xs) ok =
-      every-append (RowOk Plain) (cond (x .constant) (constantRows s f n x (setsListing n 0 (f .sets))) []) (constantRowsFrom s f (suc n) xs) .1 (
+      every-append (RowOk Plain) (cond (x .constant) (constantRows s f n x (setsWithNode n 0 (f .sets))) []) (constantRowsFrom s f (suc n) xs) .1 (
         go (x .constant) (ok x (List·Memᴰ·head refl) .least) (ok x (List·Memᴰ·head refl) .most),
         constants-ok (suc n) xs (λ y m. ok y (List·Memᴰ·tail m)),
       )
     where
-      go : (b : Bool) → (T b → IsBound (x .min)) → (T b → IsBound (x .max)) → Every (RowOk Plain) (cond b (constantRows s f n x (setsListing n 0 (f .sets))) [])
-      go true l u = constant-ok n x (l tt) (u tt) (setsListing n 0 (f .sets))
+      go : (b : Bool) → (T b → IsBound (x .min)) → (T b → IsBound (x .max)) → Every (RowOk Plain) (cond b (constantRows s f n x (setsWithNode n 0 (f .sets))) [])
+      go true l u = constant-ok n x (l tt) (u tt) (setsWithNode n 0 (f .sets))
       go false l u = tt
 
   exclusivities-ok : (nodes : ℕ) (ags : List Aggregate) → AllMem (AggregateOk nodes) ags → Every (RowOk Plain) (exclusivityRows f ags)
@@ -197,23 +197,23 @@ module _ (s : Sentinel) (f : ColumnMap) (few : length (f .mappedEdges) ≤ 512) 
     pub aggregates-asked : AllMem AllPlain (map (aggregateRow f) (net .aggregates))
     aggregates-asked = all-map AllPlain (aggregateRow f) (net .aggregates) (λ g m. aggregate-plain f few (length (net .nodes)) g (good .aggregates g m))
 
-    pub storages-asked : AllMem AllPlain (map (virtualStorageRow f) (net .virtualStorages))
-    storages-asked = all-map AllPlain (virtualStorageRow f) (net .virtualStorages) (λ v m. storage-plain f few v (small v m) (good .storages v m .few))
+    pub virtual-storages-asked : AllMem AllPlain (map (virtualStorageRow f) (net .virtualStorages))
+    virtual-storages-asked = all-map AllPlain (virtualStorageRow f) (net .virtualStorages) (λ v m. virtual-storage-plain f few v (small v m) (good .virtualStorages v m .few))
 
     assembled : ProgrammeOk Plain (assemble s net f .programme)
     unfolding assemble
     assembled =
         let forNodes : Joined = addVariableRows (map requestedRow requests) (record { rows = []; places = [] }) in
         let forAggregates : Joined = addVariableRows (map (aggregateRow f) (net .aggregates)) (record { rows = forNodes .rows; places = [] }) in
-        let forStorages : Joined = addVariableRows (map (virtualStorageRow f) (net .virtualStorages)) (record { rows = forAggregates .rows; places = [] }) in
+        let forVirtualStorages : Joined = addVariableRows (map (virtualStorageRow f) (net .virtualStorages)) (record { rows = forAggregates .rows; places = [] }) in
         let a : AllMem AllPlain (forNodes .rows) = joins-all AllPlain (map requestedRow requests) (record { rows = []; places = [] }) nodes-asked (all-none AllPlain) in
         let b : AllMem AllPlain (forAggregates .rows) = joins-all AllPlain (map (aggregateRow f) (net .aggregates)) (record { rows = forNodes .rows; places = [] }) aggregates-asked a in
-        let c : AllMem AllPlain (forStorages .rows) = joins-all AllPlain (map (virtualStorageRow f) (net .virtualStorages)) (record { rows = forAggregates .rows; places = [] }) storages-asked b in
+        let c : AllMem AllPlain (forVirtualStorages .rows) = joins-all AllPlain (map (virtualStorageRow f) (net .virtualStorages)) (record { rows = forAggregates .rows; places = [] }) virtual-storages-asked b in
         let mass : List Row = massRowsFrom f 0 (net .nodes) in
         let constant : List Row = constantRowsFrom s f 0 (net .nodes) in
         record {
           columns = columns-ok s f;
-          varying = fresh-ok (forStorages .rows) (mem-every AllPlain (forStorages .rows) c);
+          varying = fresh-ok (forVirtualStorages .rows) (mem-every AllPlain (forVirtualStorages .rows) c);
           fixed =
               every-append (RowOk Plain) (mass ++ constant) (exclusivityRows f (net .aggregates)) .1 (
                 every-append (RowOk Plain) mass constant .1 (masses-ok 0 (net .nodes), constants-ok 0 (net .nodes) (good .nodes)),
@@ -242,4 +242,4 @@ asked-plain net good small =
     let groups : List (List Element) = map (aggregateRow f) (net .aggregates) in
     let h = mapped-few net good in
     all-append AllPlain (nodes ++ groups) (map (virtualStorageRow f) (net .virtualStorages))
-    (all-append AllPlain nodes groups (nodes-asked Infinity f h net good small) (aggregates-asked Infinity f h net good small)) (storages-asked Infinity f h net good small)
+    (all-append AllPlain nodes groups (nodes-asked Infinity f h net good small) (aggregates-asked Infinity f h net good small)) (virtual-storages-asked Infinity f h net good small)

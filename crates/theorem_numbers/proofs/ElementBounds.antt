@@ -35,10 +35,10 @@ pub record Plain (x : Float) : Type 0 where
   pub plain : T (notMinusZero binary64 x)
 
 abbrev pub AllAdded : ℕ → List Element → Type 0
-AllAdded n row = Every (λ (e : Element). Added n (e .factor)) row
+AllAdded n row = Every (λ (e : Element). Added n (e .value)) row
 
 abbrev pub AllPlain : List Element → Type 0
-AllPlain row = Every (λ (e : Element). Plain (e .factor)) row
+AllPlain row = Every (λ (e : Element). Plain (e .value)) row
 
 -- ---- one number added
 
@@ -51,7 +51,7 @@ more-added a b x h u = record { within = wider a b x h (u .within); plain = u .p
 
 more-all : (a b : ℕ) (row : List Element) → a ≤ b → AllAdded a row → AllAdded b row
 more-all a b [] h us = tt
-more-all a b (e ∷ es) h us = (more-added a b (e .factor) h (us .0), more-all a b es h (us .1))
+more-all a b (e ∷ es) h us = (more-added a b (e .value) h (us .0), more-all a b es h (us .1))
 
 add-added : (n : ℕ) (x y : Float) → n + 1 ≤ mostTerms → Added n x → Within 1 y → Added (n + 1) (add binary64 x y)
 add-added n x y room u v =
@@ -71,8 +71,8 @@ module _ (c n : ℕ) (x : Float) (room : n + 1 ≤ mostTerms) (small : Within 1 
     where
       go : (o : Ordering) → AllAdded (n + 1) (addElement c x es) → AllAdded (n + 1) (insert o c x e es (addElement c x es))
       go Ordering·lt ih = (new-added, more-all n (n + 1) (e ∷ es) (omega arith) us)
-      go Ordering·eq ih = (add-added n (e .factor) x room (us .0) small, more-all n (n + 1) es (omega arith) (us .1))
-      go Ordering·gt ih = (more-added n (n + 1) (e .factor) (omega arith) (us .0), ih)
+      go Ordering·eq ih = (add-added n (e .value) x room (us .0) small, more-all n (n + 1) es (omega arith) (us .1))
+      go Ordering·gt ih = (more-added n (n + 1) (e .value) (omega arith) (us .0), ih)
 
 add-on : (cs : List ℕ) (x : Float) (n : ℕ) (row : List Element) → n + length cs ≤ mostTerms → Within 1 x → AllAdded n row → AllAdded (n + length cs) (addOn cs x row)
 unfolding addOn
@@ -88,7 +88,7 @@ plain-of n x u = record { bound = (u .within .fit, finite-number x (u .within .i
 
 all-plain : (n : ℕ) (row : List Element) → AllAdded n row → AllPlain row
 all-plain n [] us = tt
-all-plain n (e ∷ es) us = (plain-of n (e .factor) (us .0), all-plain n es (us .1))
+all-plain n (e ∷ es) us = (plain-of n (e .value) (us .0), all-plain n es (us .1))
 
 add-any : (n : ℕ) (x y : Float) → Added n x → IsBound y → Plain (add binary64 x y)
 unfolding add fits mag
@@ -109,8 +109,8 @@ add-last c n x b (e ∷ es) us = go (compare c (e .column)) (add-last c n x b es
   where
     go : (o : Ordering) → AllPlain (addElement c x es) → AllPlain (insert o c x e es (addElement c x es))
     go Ordering·lt ih = (add-any 0 zero64 x zero-added b, all-plain n (e ∷ es) us)
-    go Ordering·eq ih = (add-any n (e .factor) x (us .0) b, all-plain n es (us .1))
-    go Ordering·gt ih = (plain-of n (e .factor) (us .0), ih)
+    go Ordering·eq ih = (add-any n (e .value) x (us .0) b, all-plain n es (us .1))
+    go Ordering·gt ih = (plain-of n (e .value) (us .0), ih)
 
 -- ---- the makers of rows, over at most 512 edges
 
@@ -200,9 +200,9 @@ module _ (f : ColumnMap) (few : length (f .mappedEdges) ≤ 512) where
       (add-parts ps (n + 1024) (addNode f (p .node) (neg (p .factor)) row) (λ q m. small q (List·Memᴰ·tail m)) (omega arith)
       (add-node (p .node) (neg (p .factor)) n row (omega arith) (neg-within 1 (p .factor) (small p (List·Memᴰ·head refl))) us))
 
-  pub storage-plain : (v : VirtualStorage) → SmallFactors v → length (v .parts) ≤ 64 → AllPlain (virtualStorageRow f v)
+  pub virtual-storage-plain : (v : VirtualStorage) → SmallFactors v → length (v .parts) ≤ 64 → AllPlain (virtualStorageRow f v)
   unfolding virtualStorageRow
-  storage-plain v small h = all-plain (0 + length (v .parts) * 1024) (addParts f (v .parts) []) (add-parts (v .parts) 0 [] small (omega arith) tt)
+  virtual-storage-plain v small h = all-plain (0 + length (v .parts) * 1024) (addParts f (v .parts) []) (add-parts (v .parts) 0 [] small (omega arith) tt)
 
   add-active : (ss : List (List ℕ)) (n : ℕ) (row : List Element) → n + length ss ≤ mostTerms → AllAdded n row → AllAdded (n + length ss) (addActive f ss row)
   unfolding addActive

@@ -59,16 +59,16 @@ column-without c ok =
     and-i (isNumber (c .lower) && isNumber (c .upper)) (isNumber (c .cost))
     (and-i (isNumber (c .lower)) (isNumber (c .upper)) (is-number (c .lower) (ok .lower)) (is-number (c .upper) (ok .upper))) (is-number (c .cost) (ok .cost))
 
-element-without : (e : Element) → IsBound (e .factor) → T (elementWithoutNaN e)
+element-without : (e : Element) → IsBound (e .value) → T (elementWithoutNaN e)
 unfolding elementWithoutNaN
-element-without e b = is-number (e .factor) b
+element-without e b = is-number (e .value) b
 
 row-without : (r : Row) → RowOk IsBound r → T (rowWithoutNaN r)
 unfolding rowWithoutNaN
 row-without r ok =
     and-i (isNumber (r .lower) && isNumber (r .upper)) (allFrom (λ (i : ℕ) (e : Element). elementWithoutNaN e) 0 (r .elements))
     (and-i (isNumber (r .lower)) (isNumber (r .upper)) (is-number (r .lower) (ok .lower)) (is-number (r .upper) (ok .upper)))
-    (all-pass (λ (e : Element). IsBound (e .factor)) elementWithoutNaN element-without (r .elements) 0 (ok .elements))
+    (all-pass (λ (e : Element). IsBound (e .value)) elementWithoutNaN element-without (r .elements) 0 (ok .elements))
 
 nan-pass : (p : Programme) → ProgrammeOk IsBound p → T (withoutNaN p)
 unfolding withoutNaN
@@ -82,7 +82,7 @@ nan-pass p ok =
 
 row-without-minus-zero : (r : Row) → RowOk Plain r → T (rowWithoutMinusZero r)
 unfolding rowWithoutMinusZero
-row-without-minus-zero r ok = all-pass (λ (e : Element). Plain (e .factor)) (λ (e : Element). not (isMinusZero (e .factor))) (λ e u. plain-bits (e .factor) (u .bound .0) (u .plain)) (r .elements) 0 (ok .elements)
+row-without-minus-zero r ok = all-pass (λ (e : Element). Plain (e .value)) (λ (e : Element). not (isMinusZero (e .value))) (λ e u. plain-bits (e .value) (u .bound .0) (u .plain)) (r .elements) 0 (ok .elements)
 
 minus-zero-pass : (p : Programme) → ProgrammeOk Plain p → T (withoutMinusZero p)
 unfolding withoutMinusZero
@@ -96,7 +96,7 @@ every-weaker P Q h [] us = tt
 every-weaker P Q h (x ∷ xs) us = (h x (us .0), every-weaker P Q h xs (us .1))
 
 row-weaker : (r : Row) → RowOk Plain r → RowOk IsBound r
-row-weaker r ok = record { lower = ok .lower; upper = ok .upper; elements = every-weaker (λ (e : Element). Plain (e .factor)) (λ (e : Element). IsBound (e .factor)) (λ e u. u .bound) (r .elements) (ok .elements) }
+row-weaker r ok = record { lower = ok .lower; upper = ok .upper; elements = every-weaker (λ (e : Element). Plain (e .value)) (λ (e : Element). IsBound (e .value)) (λ e u. u .bound) (r .elements) (ok .elements) }
 
 weaker : (p : Programme) → ProgrammeOk Plain p → ProgrammeOk IsBound p
 weaker p ok = record { columns = ok .columns; varying = every-weaker (RowOk Plain) (RowOk IsBound) row-weaker (p .varying) (ok .varying); fixed = every-weaker (RowOk Plain) (RowOk IsBound) row-weaker (p .fixed) (ok .fixed) }
@@ -195,10 +195,10 @@ same-row [] (y ∷ ys) us vs h = absurd h
 same-row (x ∷ xs) [] us vs h = absurd h
 same-row (x ∷ xs) (y ∷ ys) us vs h =
     let c : Bool = eqb (x .column) (y .column) in
-    let q : Bool = eq (x .factor) (y .factor) in
+    let q : Bool = eq (x .value) (y .value) in
     let front : T (c && q) = and-l (c && q) (sameRow xs ys) h in
     ap₂ (λ (e : Element) (es : List Element). e ∷ es)
-    (ap₂ element (eqb→eq (x .column) (y .column) (and-l c q front)) (same-double (x .factor) (y .factor) (us .0) (vs .0) (and-r c q front)))
+    (ap₂ element (eqb→eq (x .column) (y .column) (and-l c q front)) (same-double (x .value) (y .value) (us .0) (vs .0) (and-r c q front)))
     (same-row xs ys (us .1) (vs .1) (and-r (c && q) (sameRow xs ys) h))
 
 pub equal-bits : EqualBits

@@ -34,9 +34,9 @@ read-parts file place nodes (suc count) soFar at r e h =
     let p : Part = record { node = a; factor = ofPattern b } in
     read-parts file place nodes count (soFar ++ (p ∷ [])) (at + 10) r e (all-snoc SmallPart soFar p h (small-within b (checked-value 3 place isSmall _ b b-is)))))
 
-read-storage : (net : Network) (file : List ℕ) (at : ℕ) (r : Read VirtualStorage) → readVirtualStorage net file at ≡ value r → SmallFactors (r .item)
+read-virtual-storage : (net : Network) (file : List ℕ) (at : ℕ) (r : Read VirtualStorage) → readVirtualStorage net file at ≡ value r → SmallFactors (r .item)
 unfolding readVirtualStorage
-read-storage net file at r e =
+read-virtual-storage net file at r e =
     bind-then _ _ r e (λ a a-is e. bind-then _ _ r e (λ b b-is e. bind-then _ _ r e (λ c c-is e. bind-then _ _ r e (λ d d-is e. bind-then _ _ r e (λ g g-is e. bind-then _ _ r e (λ count count-is e. bind-then _ _ r e (λ m m-is e.
     subst (λ (q : Read VirtualStorage). SmallFactors (q .item)) (same-value _ r e) (read-parts file at (length (net .nodes)) count [] (at + 8) m m-is (all-none SmallPart)))))))))
 
@@ -50,7 +50,7 @@ body ED net file at r e g = let a = bind-value _ _ r e in subst (λ (q : Read Ne
 body AG net file at r e g = let a = bind-value _ _ r e in subst (λ (q : Read Network). AllSmall (q .item)) (same-value _ r (a .2)) g
 body VS net file at r e g =
     let a = bind-value _ _ r e in
-    subst (λ (q : Read Network). AllSmall (q .item)) (same-value _ r (a .2)) (all-snoc SmallFactors (net .virtualStorages) (a .0 .item) g (read-storage net file at (a .0) (a .1)))
+    subst (λ (q : Read Network). AllSmall (q .item)) (same-value _ r (a .2)) (all-snoc SmallFactors (net .virtualStorages) (a .0 .item) g (read-virtual-storage net file at (a .0) (a .1)))
 
 one-record : (file : List ℕ) (r q : Reading) → readRecord file r ≡ value q → AllSmall (r .network) → AllSmall (q .network)
 unfolding readRecord
@@ -97,8 +97,8 @@ read-node-steps file (n ∷ ns) soFar at r e h =
     let a = bind-value _ _ r e in
     read-node-steps file ns (soFar ++ (a .0 ∷ [])) (at + 34) r (a .2) (all-snoc SmallCost soFar (a .0) h (read-node-step file n at (a .0) (a .1)))
 
-pub costs-small : (shapes : List NodeShape) (aggregates storages : ℕ) (file : List ℕ) (f : StepFile) → readStep shapes aggregates storages file ≡ value f → AllMem SmallCost (f .nodes)
+pub costs-small : (shapes : List NodeShape) (aggregates virtualStorages : ℕ) (file : List ℕ) (f : StepFile) → readStep shapes aggregates virtualStorages file ≡ value f → AllMem SmallCost (f .nodes)
 unfolding readStep
-costs-small shapes aggregates storages file f e =
+costs-small shapes aggregates virtualStorages file f e =
     bind-then _ _ f e (λ a a-is e. bind-then _ _ f e (λ b b-is e. bind-then _ _ f e (λ c c-is e. bind-then _ _ f e (λ d d-is e.
     subst (λ (g : StepFile). AllMem SmallCost (g .nodes)) (need-value _ 12 (d .next) _ f e) (read-node-steps file shapes [] (a .next) b b-is (all-none SmallCost))))))

@@ -20,7 +20,7 @@ use Rattle.pywr.specs.Interval.{tighten, sentinels}
 use Rattle.pywr.specs.StepFile.{NodeStep, StepFile}
 use Rattle.pywr.specs.StepIntervals.{intervals, Intervals}
 use Rattle.pywr.specs.Costs.{outgoingCost, incomingCost, edgeCost, kindAt, costAt, addCosts, stepCosts}
-use Rattle.pywr.specs.Step.{adjust, bounded, applyRowBounds, setFactor, withFactor, applyInterval, applyNodeRows, applyIntervals, rowOf, stepRows, periods, withCosts, stepped}
+use Rattle.pywr.specs.Step.{adjust, bounded, applyRowBounds, setCoefficient, withCoefficient, applyInterval, applyNodeRows, applyIntervals, rowOf, stepRows, periods, withCosts, stepped}
 use Rattle.pywr.proofs.BoundLaws.{IsBound, IsInterval}
 use Rattle.pywr.proofs.VaryingLaws.{sentinels-interval}
 use Rattle.pywr.proofs.MassLaws.{Every}
@@ -50,18 +50,18 @@ apply-ok i ii r ok =
     let held : Interval = record { lower = r .lower; upper = r .upper } in
     bounded-ok (tighten held i) (tighten-interval held i (record { lower = ok .lower; upper = ok .upper }) ii) r ok
 
-set-factor : (c : ℕ) (x : Float) → IsBound x → (es : List Element) → Every (λ (e : Element). IsBound (e .factor)) es → Every (λ (e : Element). IsBound (e .factor)) (setFactor c x es)
-unfolding setFactor
-set-factor c x b [] us = tt
-set-factor c x b (e ∷ es) us = go (eqb (e .column) c) (set-factor c x b es (us .1))
+set-coefficient : (c : ℕ) (x : Float) → IsBound x → (es : List Element) → Every (λ (e : Element). IsBound (e .value)) es → Every (λ (e : Element). IsBound (e .value)) (setCoefficient c x es)
+unfolding setCoefficient
+set-coefficient c x b [] us = tt
+set-coefficient c x b (e ∷ es) us = go (eqb (e .column) c) (set-coefficient c x b es (us .1))
   where
-    go : (t : Bool) → Every (λ (e : Element). IsBound (e .factor)) (setFactor c x es) → Every (λ (e : Element). IsBound (e .factor)) (cond t (element c x ∷ es) (e ∷ setFactor c x es))
+    go : (t : Bool) → Every (λ (e : Element). IsBound (e .value)) (setCoefficient c x es) → Every (λ (e : Element). IsBound (e .value)) (cond t (element c x ∷ es) (e ∷ setCoefficient c x es))
     go true ih = (b, us .1)
     go false ih = (us .0, ih)
 
-factor-ok : (c : ℕ) (x : Float) → IsBound x → (r : Row) → Ok r → Ok (withFactor c x r)
-unfolding withFactor
-factor-ok c x b r ok = record { lower = ok .lower; upper = ok .upper; elements = set-factor c x b (r .elements) (ok .elements) }
+factor-ok : (c : ℕ) (x : Float) → IsBound x → (r : Row) → Ok r → Ok (withCoefficient c x r)
+unfolding withCoefficient
+factor-ok c x b r ok = record { lower = ok .lower; upper = ok .upper; elements = set-coefficient c x b (r .elements) (ok .elements) }
 
 interval-ok : (t : RowType) (c : ℕ) (i : Interval) → IsInterval i → (r : Row) → Ok r → Ok (applyInterval t c i r)
 unfolding applyInterval
@@ -100,7 +100,7 @@ rows-ok s shape a v i ii rows us =
     let reset : List Row = map (bounded (sentinels s)) rows in
     let nodes : List Row = applyNodeRows s (shape .edgeColumns) (i .nodes) (shape .nodeRows) reset in
     let groups : List Row = applyIntervals (shape .aggregates) (i .aggregates) nodes in
-    intervals-ok (map rowOf (shape .virtualStorages)) (i .virtualStorages) (ii .storages-are) groups
+    intervals-ok (map rowOf (shape .virtualStorages)) (i .virtualStorages) (ii .virtual-storages-are) groups
     (intervals-ok (shape .aggregates) (i .aggregates) (ii .aggregates-are) nodes (node-rows-ok s (shape .edgeColumns) (i .nodes) (ii .nodes) (shape .nodeRows) reset (reset-ok s rows us)))
 
 -- ---- costs

@@ -15,7 +15,7 @@ use lib.Ieee.Fits.{add-fits, and-l, and-r, div-fits, neg-fits}
 use lib.Ieee.Scale.{finite, overflow}
 use Rattle.laws.proofs.Tests.{tests}
 use Rattle.doubles.specs.Units.{sign, mag, signed, Num, rank, notMinusZero}
-use Rattle.doubles.specs.Rounding.{snap, Held, addSign, addMag}
+use Rattle.doubles.specs.Rounding.{snap, Representable, addSign, addMag}
 use Rattle.doubles.specs.Costs.{two}
 use Rattle.doubles.proofs.Integers.{ints, neg-plus, neg-less}
 use Rattle.doubles.proofs.Units.{neg-mag, neg-finite, neg-rank, finite-number}
@@ -47,7 +47,7 @@ terms-under : mostTerms * largestTerm < overflow binary64
 unfolding largestTerm
 terms-under = lit< tt
 
-terms-held : (n : ℕ) → n ≤ mostTerms → Held binary64 (n * largestTerm)
+terms-held : (n : ℕ) → n ≤ mostTerms → Representable binary64 (n * largestTerm)
 unfolding largestTerm
 terms-held n h = record {
   q = n;
@@ -153,7 +153,7 @@ zero-sum true a false b e h = go (ltb a b) (ltb b a) (λ t. omega tests) e
     go false false k e = tt
 
 -- one unit or more is not rounded to 0
-one-held : Held binary64 1
+one-held : Representable binary64 1
 one-held = record { q = 1; j = 0; few = lit< tt; is = refl; under = lit< tt }
 
 snap-kept : (w : ℕ) → snap binary64 w (2 ^ low binary64) ≡ 0 → w ≡ 0

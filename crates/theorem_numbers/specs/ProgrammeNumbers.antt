@@ -36,7 +36,7 @@ unfoldable pub columnWithoutNaN : Column → Bool
 columnWithoutNaN c = isNumber (c .lower) && isNumber (c .upper) && isNumber (c .cost)
 
 unfoldable pub elementWithoutNaN : Element → Bool
-elementWithoutNaN e = isNumber (e .factor)
+elementWithoutNaN e = isNumber (e .value)
 
 unfoldable pub rowWithoutNaN : Row → Bool
 rowWithoutNaN r = isNumber (r .lower) && isNumber (r .upper) && allFrom (λ (i : ℕ) (e : Element). elementWithoutNaN e) 0 (r .elements)
@@ -60,7 +60,7 @@ NoNaN =
 -- ---- no element −0.0
 
 unfoldable pub rowWithoutMinusZero : Row → Bool
-rowWithoutMinusZero r = allFrom (λ (i : ℕ) (e : Element). not (isMinusZero (e .factor))) 0 (r .elements)
+rowWithoutMinusZero r = allFrom (λ (i : ℕ) (e : Element). not (isMinusZero (e .value))) 0 (r .elements)
 
 -- no element is −0.0
 unfoldable pub withoutMinusZero : Programme → Bool

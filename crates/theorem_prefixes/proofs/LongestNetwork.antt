@@ -20,7 +20,7 @@ use Rattle.pywr.specs.Programme.{Built}
 use Rattle.pywr.specs.Build.{build}
 use Rattle.theorem_prefixes.specs.Prefix.{longestNetwork, networkPrefix, NetworkPrefixLeast}
 use Rattle.theorem_prefixes.proofs.Left.{then-value, then-refused, need-true, need-false, times, nothing-more, times-left, left-next, left-room, first-left, second-left, times-length}
-use Rattle.theorem_prefixes.proofs.LongestRecords.{nodeBytes, linkNode, node-read, edgeBytes, goodEdge, each-true, edge-read, aggregateBytes, storageBytes, aggregate-read, storage-read}
+use Rattle.theorem_prefixes.proofs.LongestRecords.{nodeBytes, linkNode, node-read, edgeBytes, goodEdge, each-true, edge-read, aggregateBytes, virtualStorageBytes, aggregate-read, virtual-storage-read}
 
 -- ---- how far a file is read: its nodes and edges so far, and how many aggregates and virtual storages
 
@@ -36,7 +36,7 @@ record Reached (file : List ℕ) (nodes : List Node) (edges : List Edge) (a v at
   nodes-are : net .nodes ≡ nodes
   edges-are : net .edges ≡ edges
   aggregate-count : length (net .aggregates) ≡ a
-  storage-count : length (net .virtualStorages) ≡ v
+  virtual-storage-count : length (net .virtualStorages) ≡ v
   enough : length file ≤ left + (length nodes + length edges + a + v)
 
 later : (file : List ℕ) (nodes : List Node) (edges : List Edge) (a v at top top′ : ℕ) → top ≤ top′ → Reached file nodes edges a v at top → Reached file nodes edges a v at top′
@@ -50,7 +50,7 @@ later file nodes edges a v at top top′ h s =
       nodes-are = s .nodes-are;
       edges-are = s .edges-are;
       aggregate-count = s .aggregate-count;
-      storage-count = s .storage-count;
+      virtual-storage-count = s .virtual-storage-count;
       enough = s .enough;
     }
 
@@ -102,9 +102,9 @@ aggregate-next : (file : List ℕ) (at : ℕ) (rest : List ℕ) → drop at file
 unfolding times
 aggregate-next file at rest e = left-next file at aggregateBytes rest e
 
-storage-next : (file : List ℕ) (at : ℕ) (rest : List ℕ) → drop at file ≡ storageBytes ++ rest → drop (at + 648) file ≡ rest
+virtual-storage-next : (file : List ℕ) (at : ℕ) (rest : List ℕ) → drop at file ≡ virtualStorageBytes ++ rest → drop (at + 648) file ≡ rest
 unfolding times
-storage-next file at rest e = left-next file at storageBytes rest e
+virtual-storage-next file at rest e = left-next file at virtualStorageBytes rest e
 
 module _ (file : List ℕ) (long : 864 < length file) where
   -- ---- nodes
@@ -125,7 +125,7 @@ module _ (file : List ℕ) (long : 864 < length file) where
         nodes-are = ap (λ (l : List Node). l ++ (linkNode ∷ [])) (s .nodes-are);
         edges-are = s .edges-are;
         aggregate-count = s .aggregate-count;
-        storage-count = s .storage-count;
+        virtual-storage-count = s .virtual-storage-count;
         enough = omega (arith, s .enough, k .1, length-append nodes (linkNode ∷ []));
       }
 
@@ -162,7 +162,7 @@ module _ (file : List ℕ) (long : 864 < length file) where
           nodes-are = s .nodes-are;
           edges-are = ap (λ (l : List Edge). l ++ (x ∷ [])) (s .edges-are);
           aggregate-count = s .aggregate-count;
-          storage-count = s .storage-count;
+          virtual-storage-count = s .virtual-storage-count;
           enough = omega (arith, s .enough, k .1, length-append edges (x ∷ []));
         }
 
@@ -206,7 +206,7 @@ module _ (file : List ℕ) (long : 864 < length file) where
             nodes-are = s .nodes-are;
             edges-are = s .edges-are;
             aggregate-count = (let l = length-append (s .net .aggregates) (item .0 .item ∷ []) in omega arith);
-            storage-count = s .storage-count;
+            virtual-storage-count = s .virtual-storage-count;
             enough = omega (arith, s .enough, k .1);
           })
 
@@ -222,12 +222,12 @@ module _ (file : List ℕ) (long : 864 < length file) where
           subst (λ (k : ℕ). AggregatesTo rest k (at + 540 * suc count)) (let q : suc a + count ≡ a + suc count = omega arith in q)
           (subst (AggregatesTo rest (suc a + count)) (let q : at + 540 + 540 * count ≡ at + 540 * suc count = omega arith in q) ih)
 
-      storage-more : (v at : ℕ) (rest : List ℕ) → v < 32 → Reached file nodes edges 64 v at 3 → drop at file ≡ storageBytes ++ rest → Reached file nodes edges 64 (suc v) (at + 648) 3
+      virtual-storage-more : (v at : ℕ) (rest : List ℕ) → v < 32 → Reached file nodes edges 64 v at 3 → drop at file ≡ virtualStorageBytes ++ rest → Reached file nodes edges 64 (suc v) (at + 648) 3
       unfolding readBody hasRoom withVirtualStorage markAt
-      storage-more v at rest few s e =
+      virtual-storage-more v at rest few s e =
           let same : length (s .net .nodes) ≡ length nodes = ap length (s .nodes-are) in
-          let item = storage-read (s .net) file at rest e (omega arith) in
-          let many = s .storage-count in
+          let item = virtual-storage-read (s .net) file at rest e (omega arith) in
+          let many = s .virtual-storage-count in
           let k = more file nodes edges 64 v at 3 s (omega arith) VS (withVirtualStorage (s .net) (item .0)) (omega arith) (mark-inside file at 86 83 _ e) (mark-read file at 86 83 _ e) (lt-ltb (length (s .net .virtualStorages)) 32 (omega arith)) (then-value _ _ _ (item .0) (item .1) refl) in
           subst (λ (p : ℕ). Reached file nodes edges 64 (suc v) p 3) (item .2)
           (record {
@@ -239,21 +239,21 @@ module _ (file : List ℕ) (long : 864 < length file) where
             nodes-are = s .nodes-are;
             edges-are = s .edges-are;
             aggregate-count = s .aggregate-count;
-            storage-count = (let l = length-append (s .net .virtualStorages) (item .0 .item ∷ []) in omega arith);
+            virtual-storage-count = (let l = length-append (s .net .virtualStorages) (item .0 .item ∷ []) in omega arith);
             enough = omega (arith, s .enough, k .1);
           })
 
-      abbrev StoragesTo : List ℕ → ℕ → ℕ → Type 0
-      StoragesTo rest v at = Reached file nodes edges 64 v at 3 × (drop at file ≡ rest)
+      abbrev VirtualStoragesTo : List ℕ → ℕ → ℕ → Type 0
+      VirtualStoragesTo rest v at = Reached file nodes edges 64 v at 3 × (drop at file ≡ rest)
 
-      storages-more : (count v at : ℕ) (rest : List ℕ) → v + count ≤ 32 → Reached file nodes edges 64 v at 3 → drop at file ≡ times count storageBytes ++ rest → StoragesTo rest (v + count) (at + 648 * count)
-      storages-more zero v at rest few s e = subst (λ (k : ℕ). StoragesTo rest k (at + 0)) (let q : v ≡ v + 0 = omega arith in q) (subst (StoragesTo rest v) (let q : at ≡ at + 0 = omega arith in q) (s, nothing-more storageBytes rest (drop at file) e))
-      storages-more (suc count) v at rest few s e =
-          let d = times-left count storageBytes rest (drop at file) e in
-          let one = storage-more v at (times count storageBytes ++ rest) (omega arith) s d in
-          let ih = storages-more count (suc v) (at + 648) rest (omega arith) one (storage-next file at (times count storageBytes ++ rest) d) in
-          subst (λ (k : ℕ). StoragesTo rest k (at + 648 * suc count)) (let q : suc v + count ≡ v + suc count = omega arith in q)
-          (subst (StoragesTo rest (suc v + count)) (let q : at + 648 + 648 * count ≡ at + 648 * suc count = omega arith in q) ih)
+      virtual-storages-more : (count v at : ℕ) (rest : List ℕ) → v + count ≤ 32 → Reached file nodes edges 64 v at 3 → drop at file ≡ times count virtualStorageBytes ++ rest → VirtualStoragesTo rest (v + count) (at + 648 * count)
+      virtual-storages-more zero v at rest few s e = subst (λ (k : ℕ). VirtualStoragesTo rest k (at + 0)) (let q : v ≡ v + 0 = omega arith in q) (subst (VirtualStoragesTo rest v) (let q : at ≡ at + 0 = omega arith in q) (s, nothing-more virtualStorageBytes rest (drop at file) e))
+      virtual-storages-more (suc count) v at rest few s e =
+          let d = times-left count virtualStorageBytes rest (drop at file) e in
+          let one = virtual-storage-more v at (times count virtualStorageBytes ++ rest) (omega arith) s d in
+          let ih = virtual-storages-more count (suc v) (at + 648) rest (omega arith) one (virtual-storage-next file at (times count virtualStorageBytes ++ rest) d) in
+          subst (λ (k : ℕ). VirtualStoragesTo rest k (at + 648 * suc count)) (let q : suc v + count ≡ v + suc count = omega arith in q)
+          (subst (VirtualStoragesTo rest (suc v + count)) (let q : at + 648 + 648 * count ≡ at + 648 * suc count = omega arith in q) ih)
 
 -- ---- the whole file, with any bytes behind the last record
 
@@ -274,7 +274,7 @@ unfolding manyEdges edgesFrom allGood goodEdge kindOf joins
 all-good = refl
 
 unfoldable longest : List ℕ → List ℕ
-longest tail = times 256 nodeBytes ++ (edgesBytes manyEdges ++ (times 64 aggregateBytes ++ (times 32 storageBytes ++ tail)))
+longest tail = times 256 nodeBytes ++ (edgesBytes manyEdges ++ (times 64 aggregateBytes ++ (times 32 virtualStorageBytes ++ tail)))
 
 record ReadToEnd (file tail : List ℕ) : Type 0 where
   nodes : List Node
@@ -285,19 +285,19 @@ record ReadToEnd (file tail : List ℕ) : Type 0 where
   tail-left : drop longestNetwork file ≡ tail
 
 from-edges : (file : List ℕ) → 864 < length file → (nodes : List Node) → length nodes ≡ 256 → allGood nodes [] manyEdges ≡ true → (tail : List ℕ) → Reached file nodes [] 0 0 5120 0
-    → drop 5120 file ≡ edgesBytes manyEdges ++ (times 64 aggregateBytes ++ (times 32 storageBytes ++ tail)) → ReadToEnd file tail
+    → drop 5120 file ≡ edgesBytes manyEdges ++ (times 64 aggregateBytes ++ (times 32 virtualStorageBytes ++ tail)) → ReadToEnd file tail
 from-edges file long nodes count good tail s e =
-    let groups : List ℕ = times 64 aggregateBytes ++ (times 32 storageBytes ++ tail) in
+    let groups : List ℕ = times 64 aggregateBytes ++ (times 32 virtualStorageBytes ++ tail) in
     let m = subst (λ (k : ℕ). EdgesTo file long nodes count groups (0 + k) (5120 + 6 * k)) many-edges
     (edges-more file long nodes count manyEdges [] 5120 groups good (omega (arith, many-edges)) (later file nodes [] 0 0 5120 0 1 (omega arith) s) e) in
-    let a = aggregates-more file long nodes count (m .edges) (m .many) 64 0 8192 (times 32 storageBytes ++ tail) (omega arith) (later file nodes (m .edges) 0 0 8192 1 2 (omega arith) (m .reached)) (m .rest-left) in
-    let v = storages-more file long nodes count (m .edges) (m .many) 32 0 42752 tail (omega arith) (later file nodes (m .edges) 64 0 42752 2 3 (omega arith) (a .0)) (a .1) in
+    let a = aggregates-more file long nodes count (m .edges) (m .many) 64 0 8192 (times 32 virtualStorageBytes ++ tail) (omega arith) (later file nodes (m .edges) 0 0 8192 1 2 (omega arith) (m .reached)) (m .rest-left) in
+    let v = virtual-storages-more file long nodes count (m .edges) (m .many) 32 0 42752 tail (omega arith) (later file nodes (m .edges) 64 0 42752 2 3 (omega arith) (a .0)) (a .1) in
     record { nodes = nodes; edges = m .edges; node-count = count; edge-count = m .many; reached = v .0; tail-left = v .1 }
 
 read-to-end : (file tail : List ℕ) → file ≡ longest tail → ReadToEnd file tail
 unfolding longest
 read-to-end file tail e =
-    let rest : List ℕ = edgesBytes manyEdges ++ (times 64 aggregateBytes ++ (times 32 storageBytes ++ tail)) in
+    let rest : List ℕ = edgesBytes manyEdges ++ (times 64 aggregateBytes ++ (times 32 virtualStorageBytes ++ tail)) in
     let l : length (times 256 nodeBytes) ≡ 5120 = times-length 256 nodeBytes in
     let long : 864 < length file = omega (arith, ap length e, length-append (times 256 nodeBytes) rest) in
     let start : Reached file [] [] 0 0 0 0 =
@@ -310,7 +310,7 @@ read-to-end file tail e =
       nodes-are = refl;
       edges-are = refl;
       aggregate-count = refl;
-      storage-count = refl;
+      virtual-storage-count = refl;
       enough = omega arith;
     } in
     let n = nodes-more file long 256 0 0 rest (omega arith) start e in
@@ -350,7 +350,7 @@ module _ (file tail : List ℕ) (e : file ≡ longest tail) where
       let k = left-is (s .left) (omega (arith, s .enough)) in
       s .so-far
       ∙ ap (λ (n : ℕ). readRecords n file (record { network = s .net; at = longestNetwork; stage = s .stage })) (k .1)
-      ∙ last (k .0) (record { network = s .net; at = longestNetwork; stage = s .stage }) refl (s .early) (s .storage-count)
+      ∙ last (k .0) (record { network = s .net; at = longestNetwork; stage = s .stage }) refl (s .early) (s .virtual-storage-count)
 
 full-answer : (file : List ℕ) → file ≡ longest (86 ∷ 83 ∷ []) → readRecords (length file) file begin ≡ refused 6 longestNetwork
 unfolding hasRoom markAt

@@ -78,8 +78,8 @@ aggregateBytes = 65 ∷ 71 ∷ 0 ∷ 16 ∷ 0 ∷ 0 ∷ 0 ∷ 0 ∷ 0 ∷ 0 ∷ 
 abbrev pub partBytes : List ℕ
 partBytes = replicate 10 0
 
-abbrev pub storageBytes : List ℕ
-storageBytes = 86 ∷ 83 ∷ 0 ∷ 0 ∷ 0 ∷ 0 ∷ 0 ∷ 64 ∷ times 64 partBytes
+abbrev pub virtualStorageBytes : List ℕ
+virtualStorageBytes = 86 ∷ 83 ∷ 0 ∷ 0 ∷ 0 ∷ 0 ∷ 0 ∷ 64 ∷ times 64 partBytes
 
 module _ (file : List ℕ) (place nodes : ℕ) (some-nodes : 0 < nodes) where
   members-read : (count : ℕ) (soFar : List ℕ) (at : ℕ) (rest : List ℕ) → drop at file ≡ times count memberBytes ++ rest
@@ -138,11 +138,11 @@ aggregate-read net file at rest e h =
       (let k = m .2 in omega arith),
     )
 
-pub storage-read : (net : Network) (file : List ℕ) (at : ℕ) (rest : List ℕ) → drop at file ≡ storageBytes ++ rest → 0 < length (net .nodes)
+pub virtual-storage-read : (net : Network) (file : List ℕ) (at : ℕ) (rest : List ℕ) → drop at file ≡ virtualStorageBytes ++ rest → 0 < length (net .nodes)
     → (r : Read VirtualStorage) × (readVirtualStorage net file at ≡ value r) × (r .next ≡ at + 648)
 unfolding readVirtualStorage between leastDate mostDate
-storage-read net file at rest e h =
-    let l = storageBytes ++ rest in
+virtual-storage-read net file at rest e h =
+    let l = virtualStorageBytes ++ rest in
     let head : List ℕ = 86 ∷ 83 ∷ 0 ∷ 0 ∷ 0 ∷ 0 ∷ 0 ∷ 64 ∷ [] in
     let m = parts-read file at (length (net .nodes)) h 64 [] (at + 8) rest (left-next file at head (times 64 partBytes ++ rest) e) in (
       record { item = record { period = record { always = true; startMonth = 0; startDay = 0; endMonth = 0; endDay = 0 }; parts = m .0 .item }; next = m .0 .next },

@@ -18,10 +18,10 @@ use Rattle.pywr.specs.Bytes.{within, markIs}
 use Rattle.pywr.specs.Numbers.{zero64, isFlow, isSmall, isDays}
 use Rattle.pywr.specs.NetworkFile.{Read}
 use Rattle.pywr.specs.Programme.{NodeShape}
-use Rattle.pywr.specs.StepFile.{NodeStep, StepFile, expectMark, daysIn, readDate, isStorage, boundFits, volumeFits, readNodeStep, readNodeSteps, readAggregateStep, readAggregateSteps, readStorageStep, readStorageSteps, readStep}
+use Rattle.pywr.specs.StepFile.{NodeStep, StepFile, expectMark, daysIn, readDate, isStorage, boundFits, volumeFits, readNodeStep, readNodeSteps, readAggregateStep, readAggregateSteps, readVirtualStorageStep, readVirtualStorageSteps, readStep}
 use Rattle.pywr.specs.StepIntervals.{Intervals, firstCrossed, unless, ordered}
-use Rattle.pywr.specs.Store.{Store, storeHasRoom, word, nodeEntry, storageEntry, shapeOf, columnsOfRow}
-use Rattle.pywr.specs.Misshapen.{countsFit, startsRise, columnsRise, rowColumnsRise, nodeFits, edgeFits, nodeRowFits, aggregateFits, storageFits, allEntries, wellShaped}
+use Rattle.pywr.specs.Store.{Store, storeHasRoom, word, nodeEntry, virtualStorageEntry, shapeOf, columnsOfRow}
+use Rattle.pywr.specs.Misshapen.{countsFit, startsRise, columnsRise, rowColumnsRise, nodeFits, edgeFits, nodeRowFits, aggregateFits, virtualStorageFits, allEntries, wellShaped}
 use Rattle.pywr.specs.Calls.{stepRoom, stepRead, stepAnswer}
 use Rattle.pywr.specs.Compute.{computing}
 use Rattle.store_shape.proofs.EntryLaws.{entries-length}
@@ -68,8 +68,8 @@ nodeBytes = 78 ∷ 66 ∷ replicate 32 0
 abbrev aggregateBytes : List ℕ
 aggregateBytes = 71 ∷ 66 ∷ replicate 16 0
 
-abbrev storageBytes : List ℕ
-storageBytes = 86 ∷ 66 ∷ replicate 24 0
+abbrev virtualStorageBytes : List ℕ
+virtualStorageBytes = 86 ∷ 66 ∷ replicate 24 0
 
 both-true : (a b : Bool) → a ≡ true → b ≡ true → (a && b) ≡ true
 both-true true b e f = f
@@ -117,10 +117,10 @@ module _ (file : List ℕ) where
             (then-value _ _ _ 0 (checked-true 13 at isFlow 0 (bits64-left file at l e at 12 10 (omega arith)) flow-zero) refl)),
       )
 
-  storage-read : (at : ℕ) (rest : List ℕ) → drop at file ≡ storageBytes ++ rest → (r : NodeBounds) × (readStorageStep file at ≡ value r)
-  unfolding readStorageStep
-  storage-read at rest e =
-      let l = storageBytes ++ rest in (
+  virtual-storage-read : (at : ℕ) (rest : List ℕ) → drop at file ≡ virtualStorageBytes ++ rest → (r : NodeBounds) × (readVirtualStorageStep file at ≡ value r)
+  unfolding readVirtualStorageStep
+  virtual-storage-read at rest e =
+      let l = virtualStorageBytes ++ rest in (
         _,
         then-value _ _ _ at (mark-read at 86 66 _ e)
             (then-value _ _ _ 0 (checked-true 13 at isSmall 0 (bits64-left file at l e at 12 2 (omega arith)) small-zero)
@@ -150,29 +150,29 @@ module _ (file : List ℕ) where
       let ih = aggregates-read count (soFar ++ (one .0 ∷ [])) (at + 18) rest (left-next file at aggregateBytes (times count aggregateBytes ++ rest) d) in
       (ih .0, then-value _ _ _ (one .0) (one .1) (ih .1), ih .2, (let k = ih .3 in omega arith))
 
-  storages-read : (count : ℕ) (soFar : List NodeBounds) (at : ℕ) (rest : List ℕ) → drop at file ≡ times count storageBytes ++ rest
-      → (r : Read (List NodeBounds)) × (readStorageSteps file count soFar at ≡ value r) × (drop (r .next) file ≡ rest) × (r .next ≡ at + 26 * count)
-  unfolding readStorageSteps
-  storages-read zero soFar at rest e = (record { item = soFar; next = at }, refl, nothing-more storageBytes rest (drop at file) e, omega arith)
-  storages-read (suc count) soFar at rest e =
-      let d = times-left count storageBytes rest (drop at file) e in
-      let one = storage-read at (times count storageBytes ++ rest) d in
-      let ih = storages-read count (soFar ++ (one .0 ∷ [])) (at + 26) rest (left-next file at storageBytes (times count storageBytes ++ rest) d) in
+  virtual-storages-read : (count : ℕ) (soFar : List NodeBounds) (at : ℕ) (rest : List ℕ) → drop at file ≡ times count virtualStorageBytes ++ rest
+      → (r : Read (List NodeBounds)) × (readVirtualStorageSteps file count soFar at ≡ value r) × (drop (r .next) file ≡ rest) × (r .next ≡ at + 26 * count)
+  unfolding readVirtualStorageSteps
+  virtual-storages-read zero soFar at rest e = (record { item = soFar; next = at }, refl, nothing-more virtualStorageBytes rest (drop at file) e, omega arith)
+  virtual-storages-read (suc count) soFar at rest e =
+      let d = times-left count virtualStorageBytes rest (drop at file) e in
+      let one = virtual-storage-read at (times count virtualStorageBytes ++ rest) d in
+      let ih = virtual-storages-read count (soFar ++ (one .0 ∷ [])) (at + 26) rest (left-next file at virtualStorageBytes (times count virtualStorageBytes ++ rest) d) in
       (ih .0, then-value _ _ _ (one .0) (one .1) (ih .1), ih .2, (let k = ih .3 in omega arith))
 
 -- ---- the whole file, with any bytes behind the last record
 
 unfoldable longest : List ℕ → List ℕ
-longest tail = dateBytes ++ (times 256 nodeBytes ++ (times 64 aggregateBytes ++ (times 32 storageBytes ++ tail)))
+longest tail = dateBytes ++ (times 256 nodeBytes ++ (times 64 aggregateBytes ++ (times 32 virtualStorageBytes ++ tail)))
 
 longest-length : (tail : List ℕ) → length (longest tail) ≡ longestStep + length tail
 unfolding longest
 longest-length tail =
     let n : length (times 256 nodeBytes) ≡ 8704 = times-length 256 nodeBytes in
     let a : length (times 64 aggregateBytes) ≡ 1152 = times-length 64 aggregateBytes in
-    let v : length (times 32 storageBytes) ≡ 832 = times-length 32 storageBytes in
-    let groups : List ℕ = times 64 aggregateBytes ++ (times 32 storageBytes ++ tail) in
-    omega (arith, length-append (times 256 nodeBytes) groups, length-append (times 64 aggregateBytes) (times 32 storageBytes ++ tail), length-append (times 32 storageBytes) tail)
+    let v : length (times 32 virtualStorageBytes) ≡ 832 = times-length 32 virtualStorageBytes in
+    let groups : List ℕ = times 64 aggregateBytes ++ (times 32 virtualStorageBytes ++ tail) in
+    omega (arith, length-append (times 256 nodeBytes) groups, length-append (times 64 aggregateBytes) (times 32 virtualStorageBytes ++ tail), length-append (times 32 virtualStorageBytes) tail)
 
 longest-append : (t u : List ℕ) → longest (t ++ u) ≡ longest t ++ u
 unfolding longest
@@ -191,29 +191,29 @@ stepOf date nodes groups stores =
 
 -- the four parts of a file, read one behind the other; then the bytes left over
 parts-read : (shapes : List NodeShape) (a v : ℕ) (file : List ℕ) (date : Read StepFile) (nodes : Read (List NodeStep)) (groups : Read (List Interval)) (stores : Read (List NodeBounds))
-    → readDate file ≡ value date → readNodeSteps file shapes [] (date .next) ≡ value nodes → readAggregateSteps file a [] (nodes .next) ≡ value groups → readStorageSteps file v [] (groups .next) ≡ value stores
+    → readDate file ≡ value date → readNodeSteps file shapes [] (date .next) ≡ value nodes → readAggregateSteps file a [] (nodes .next) ≡ value groups → readVirtualStorageSteps file v [] (groups .next) ≡ value stores
     → stores .next ≡ longestStep → readStep shapes a v file ≡ need (leb (length file) longestStep) 12 longestStep (stepOf date nodes groups stores)
 unfolding readStep stepOf
-parts-read shapes a v file date nodes groups stores date-is nodes-are groups-are stores-are end =
+parts-read shapes a v file date nodes groups stores date-is nodes-are aggregates-are virtual-storages-are end =
     then-value _ _ _ date date-is
     (then-value _ _ _ nodes nodes-are
-    (then-value _ _ _ groups groups-are
-    (then-value _ _ _ stores stores-are (ap (λ (p : ℕ). need (leb (length file) p) 12 p (stepOf date nodes groups stores)) end))))
+    (then-value _ _ _ groups aggregates-are
+    (then-value _ _ _ stores virtual-storages-are (ap (λ (p : ℕ). need (leb (length file) p) 12 p (stepOf date nodes groups stores)) end))))
 
 read-to-end : (shapes : List NodeShape) (a v : ℕ) → length shapes ≡ 256 → a ≡ 64 → v ≡ 32 → (file tail : List ℕ) → file ≡ longest tail
     → (f : StepFile) × (readStep shapes a v file ≡ need (leb (length file) longestStep) 12 longestStep f)
 unfolding longest
 read-to-end shapes a v n-is a-is v-is file tail e =
-    let stores : List ℕ = times v storageBytes ++ tail in
+    let stores : List ℕ = times v virtualStorageBytes ++ tail in
     let groups : List ℕ = times a aggregateBytes ++ stores in
     let e′ : file ≡ dateBytes ++ (times (length shapes) nodeBytes ++ groups) = rw (n-is, a-is, v-is) e in
     let date = date-read file (times (length shapes) nodeBytes ++ groups) e′ in
     let start : drop (date .0 .next) file ≡ times (length shapes) nodeBytes ++ groups = rw (date .2) (left-next file 0 dateBytes (times (length shapes) nodeBytes ++ groups) e′) in
     let nodes = nodes-read file shapes [] (date .0 .next) groups start in
     let aggregates = aggregates-read file a [] (nodes .0 .next) stores (nodes .2) in
-    let storages = storages-read file v [] (aggregates .0 .next) tail (aggregates .2) in (
-      stepOf (date .0) (nodes .0) (aggregates .0) (storages .0),
-      parts-read shapes a v file (date .0) (nodes .0) (aggregates .0) (storages .0) (date .1) (nodes .1) (aggregates .1) (storages .1) (omega (arith, date .2, nodes .3, aggregates .3, storages .3)),
+    let virtualStorages = virtual-storages-read file v [] (aggregates .0 .next) tail (aggregates .2) in (
+      stepOf (date .0) (nodes .0) (aggregates .0) (virtualStorages .0),
+      parts-read shapes a v file (date .0) (nodes .0) (aggregates .0) (virtualStorages .0) (date .1) (nodes .1) (aggregates .1) (virtualStorages .1) (omega (arith, date .2, nodes .3, aggregates .3, virtualStorages .3)),
     )
 
 -- ---- a store for so many nodes, aggregates and virtual storages: one row with no element, and all else zero
@@ -290,14 +290,14 @@ aggregate-fits : (at : ℕ) → 11 ≤ at → aggregateFits wide at ≡ true
 unfolding aggregateFits
 aggregate-fits at h = rw (word-zero at h)
 
-storage-fits : (at : ℕ) → 11 ≤ at → storageFits wide at ≡ true
-unfolding storageFits
-storage-fits at h = rw (word-zero at h, word-zero (at + 1) (omega arith))
+virtual-storage-fits : (at : ℕ) → 11 ≤ at → virtualStorageFits wide at ≡ true
+unfolding virtualStorageFits
+virtual-storage-fits at h = rw (word-zero at h, word-zero (at + 1) (omega arith))
 
 wide-shaped : wellShaped wide ≡ true
 unfolding wellShaped countsFit
 wide-shaped =
-    rw (starts-pass, rows-pass, entries-pass (nodeFits wide) node-fits 2 11 256 (omega arith), none-pass (edgeFits wide) 3 523, none-pass (nodeRowFits wide) 4 2059, entries-pass (aggregateFits wide) aggregate-fits 1 19467 64 (omega arith), entries-pass (storageFits wide) storage-fits 6 19531 32 (omega arith))
+    rw (starts-pass, rows-pass, entries-pass (nodeFits wide) node-fits 2 11 256 (omega arith), none-pass (edgeFits wide) 3 523, none-pass (nodeRowFits wide) 4 2059, entries-pass (aggregateFits wide) aggregate-fits 1 19467 64 (omega arith), entries-pass (virtualStorageFits wide) virtual-storage-fits 6 19531 32 (omega arith))
 
 long-enough : {A : Type 0} (n : ℕ) (l : List A) → length l ≡ n → leb n (length l) ≡ true
 long-enough n l e = le-leb n (length l) (omega (arith, e))
@@ -311,7 +311,7 @@ wide-room =
 wide-read : (file tail : List ℕ) → file ≡ longest tail → (f : StepFile) × (stepRead wide file (doubles 704) ≡ need (leb (length file) longestStep) 12 longestStep f)
 unfolding stepRead shapeOf
 wide-read file tail e =
-    let r = read-to-end (shapeOf wide .nodes) (length (shapeOf wide .aggregates)) (length (shapeOf wide .virtualStorages)) (entries-length (nodeEntry wide) 2 11 256) (entries-length (word wide) 1 19467 64) (entries-length (storageEntry wide) 6 19531 32) file tail e in
+    let r = read-to-end (shapeOf wide .nodes) (length (shapeOf wide .aggregates)) (length (shapeOf wide .virtualStorages)) (entries-length (nodeEntry wide) 2 11 256) (entries-length (word wide) 1 19467 64) (entries-length (virtualStorageEntry wide) 6 19531 32) file tail e in
     (r .0, then-value _ _ _ wide (need-true (stepRoom wide (doubles 704)) 16 0 wide wide-room) (then-value _ _ _ (shapeOf wide) (need-true (wellShaped wide) 17 0 (shapeOf wide) wide-shaped) (r .1)))
 
 -- ---- 14 and 15 are not 12
@@ -320,12 +320,12 @@ not-twelve : (i : Intervals) (f : StepFile) (p : ℕ) → (ordered i >>= λ _. v
 unfolding ordered unless _>>=_
 not-twelve i f p e = nodes (firstCrossed 0 (i .nodes)) e
   where
-    storages : (o : Option ℕ) → (unless 15 o i >>= λ _. value f) ≡ refused 12 p → ⊥
-    storages none q = let z : _≡_ {A = ℕ} 0 1 = cc in omega arith
-    storages (some k) q = let z : _≡_ {A = ℕ} 15 12 = cc in omega arith
+    virtualStorages : (o : Option ℕ) → (unless 15 o i >>= λ _. value f) ≡ refused 12 p → ⊥
+    virtualStorages none q = let z : _≡_ {A = ℕ} 0 1 = cc in omega arith
+    virtualStorages (some k) q = let z : _≡_ {A = ℕ} 15 12 = cc in omega arith
 
     nodes : (o : Option ℕ) → ((unless 14 o i >>= λ a. unless 15 (firstCrossed 0 (a .virtualStorages)) a) >>= λ _. value f) ≡ refused 12 p → ⊥
-    nodes none q = storages (firstCrossed 0 (i .virtualStorages)) q
+    nodes none q = virtualStorages (firstCrossed 0 (i .virtualStorages)) q
     nodes (some k) q = let z : _≡_ {A = ℕ} 14 12 = cc in omega arith
 
 left-over : (file : List ℕ) → file ≡ longest (0 ∷ []) → stepAnswer wide file (doubles 704) ≡ refused 12 longestStep

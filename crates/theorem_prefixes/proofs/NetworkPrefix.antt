@@ -16,7 +16,7 @@ use Rattle.pywr.specs.Build.{build}
 use Rattle.pywr.specs.Calls.{buildAnswer, buildStore, isAccepted}
 use Rattle.pywr.proofs.RunLaws.{bind-then, bind-value, need-value}
 use Rattle.pywr.proofs.ReadLaws.{same-value, need-test, checked-value}
-use Rattle.theorem_prefixes.specs.Prefix.{longestAggregate, longestStorage, longestNetwork, networkPrefix, BuildByPrefix, BuildAnswerByPrefix, BuildStoreByPrefix, AfterBuildByPrefix, AcceptedNetworkLength}
+use Rattle.theorem_prefixes.specs.Prefix.{longestAggregate, longestVirtualStorage, longestNetwork, networkPrefix, BuildByPrefix, BuildAnswerByPrefix, BuildStoreByPrefix, AfterBuildByPrefix, AcceptedNetworkLength}
 use Rattle.theorem_prefixes.proofs.SameBytes.{bind-both, ends, Same, by-prefix, within-same, mark-same, u8-same, u16-same, u32-same, bits64-same}
 
 -- ---- where a record ends
@@ -67,9 +67,9 @@ module _ (file : List ℕ) where
       let l = ends _ r e in
       omega arith)))))
 
-  storage-end : (net : Network) (at : ℕ) (r : Read VirtualStorage) → readVirtualStorage net file at ≡ value r → r .next ≤ at + longestStorage
+  virtual-storage-end : (net : Network) (at : ℕ) (r : Read VirtualStorage) → readVirtualStorage net file at ≡ value r → r .next ≤ at + longestVirtualStorage
   unfolding readVirtualStorage
-  storage-end net at r e =
+  virtual-storage-end net at r e =
       bind-then _ _ r e (λ a _ e. bind-then _ _ r e (λ b _ e. bind-then _ _ r e (λ c _ e. bind-then _ _ r e (λ d _ e. bind-then _ _ r e (λ g _ e. bind-then _ _ r e (λ count count-is e. bind-then _ _ r e (λ m m-is e.
       let few = at-most at 1 64 _ count count-is in
       let k = parts-end at (length (net .nodes)) count [] (at + 8) m m-is in
@@ -85,8 +85,8 @@ record Bounded (net : Network) (at : ℕ) : Type 0 where
   nodes : length (net .nodes) ≤ 256
   edges : length (net .edges) ≤ 512
   aggregates : length (net .aggregates) ≤ 64
-  storages : length (net .virtualStorages) ≤ 32
-  reach : at ≤ 20 * length (net .nodes) + 6 * length (net .edges) + longestAggregate * length (net .aggregates) + longestStorage * length (net .virtualStorages)
+  virtualStorages : length (net .virtualStorages) ≤ 32
+  reach : at ≤ 20 * length (net .nodes) + 6 * length (net .edges) + longestAggregate * length (net .aggregates) + longestVirtualStorage * length (net .virtualStorages)
 
 record OneMore (net : Network) (r : Read Network) : Type 0 where
   bounded : Bounded (r .item) (r .next)
@@ -100,28 +100,28 @@ body-end ND net file at r room b e =
     let h = ltb→lt (length (net .nodes)) 256 room in
     let k = node-end file at (a .0) (a .1) in
     subst (OneMore net) (same-value _ r (a .2))
-    (record { bounded = record { nodes = omega arith; edges = b .edges; aggregates = b .aggregates; storages = b .storages; reach = omega arith }; count = omega arith })
+    (record { bounded = record { nodes = omega arith; edges = b .edges; aggregates = b .aggregates; virtualStorages = b .virtualStorages; reach = omega arith }; count = omega arith })
 body-end ED net file at r room b e =
     let a = bind-value _ _ r e in
     let l = length-append (net .edges) (a .0 .item ∷ []) in
     let h = ltb→lt (length (net .edges)) 512 room in
     let k = edge-end file net at (a .0) (a .1) in
     subst (OneMore net) (same-value _ r (a .2))
-    (record { bounded = record { nodes = b .nodes; edges = omega arith; aggregates = b .aggregates; storages = b .storages; reach = omega arith }; count = omega arith })
+    (record { bounded = record { nodes = b .nodes; edges = omega arith; aggregates = b .aggregates; virtualStorages = b .virtualStorages; reach = omega arith }; count = omega arith })
 body-end AG net file at r room b e =
     let a = bind-value _ _ r e in
     let l = length-append (net .aggregates) (a .0 .item ∷ []) in
     let h = ltb→lt (length (net .aggregates)) 64 room in
     let k = aggregate-end file net at (a .0) (a .1) in
     subst (OneMore net) (same-value _ r (a .2))
-    (record { bounded = record { nodes = b .nodes; edges = b .edges; aggregates = omega arith; storages = b .storages; reach = omega arith }; count = omega arith })
+    (record { bounded = record { nodes = b .nodes; edges = b .edges; aggregates = omega arith; virtualStorages = b .virtualStorages; reach = omega arith }; count = omega arith })
 body-end VS net file at r room b e =
     let a = bind-value _ _ r e in
     let l = length-append (net .virtualStorages) (a .0 .item ∷ []) in
     let h = ltb→lt (length (net .virtualStorages)) 32 room in
-    let k = storage-end file net at (a .0) (a .1) in
+    let k = virtual-storage-end file net at (a .0) (a .1) in
     subst (OneMore net) (same-value _ r (a .2))
-    (record { bounded = record { nodes = b .nodes; edges = b .edges; aggregates = b .aggregates; storages = omega arith; reach = omega arith }; count = omega arith })
+    (record { bounded = record { nodes = b .nodes; edges = b .edges; aggregates = b .aggregates; virtualStorages = omega arith; reach = omega arith }; count = omega arith })
 
 -- the mark that passed 6
 room-of : (net : Network) (place : ℕ) (mark known : Mark) → need (hasRoom net mark) 6 place mark ≡ value known → T (hasRoom net known)
@@ -184,9 +184,9 @@ module _ (f g : List ℕ) (h : Same networkPrefix f g) where
       bind-both (rw (u32-same h at 1 (at + 8) (omega arith))) (λ most _.
       bind-both (sets-same at (length (net .nodes)) sets [] (at + 12) (omega arith)) (λ read _. refl)))))
 
-  storage-same : (net : Network) (at : ℕ) → at + longestStorage ≤ networkPrefix → readVirtualStorage net f at ≡ readVirtualStorage net g at
+  virtual-storage-same : (net : Network) (at : ℕ) → at + longestVirtualStorage ≤ networkPrefix → readVirtualStorage net f at ≡ readVirtualStorage net g at
   unfolding readVirtualStorage
-  storage-same net at le =
+  virtual-storage-same net at le =
       bind-both (rw (u8-same h at 1 (at + 2) (omega arith))) (λ period _.
       bind-both (rw (u8-same h at 1 (at + 3) (omega arith))) (λ startMonth _.
       bind-both (rw (u8-same h at 1 (at + 4) (omega arith))) (λ startDay _.
@@ -201,7 +201,7 @@ module _ (f g : List ℕ) (h : Same networkPrefix f g) where
   body-same ND net at room b = let k = ltb→lt (length (net .nodes)) 256 room in bind-both (node-same at (omega arith)) (λ r _. refl)
   body-same ED net at room b = let k = ltb→lt (length (net .edges)) 512 room in bind-both (edge-same net at (omega arith)) (λ r _. refl)
   body-same AG net at room b = let k = ltb→lt (length (net .aggregates)) 64 room in bind-both (aggregate-same net at (omega arith)) (λ r _. refl)
-  body-same VS net at room b = let k = ltb→lt (length (net .virtualStorages)) 32 room in bind-both (storage-same net at (omega arith)) (λ r _. refl)
+  body-same VS net at room b = let k = ltb→lt (length (net .virtualStorages)) 32 room in bind-both (virtual-storage-same net at (omega arith)) (λ r _. refl)
 
   found-same : (at : ℕ) → at + 2 ≤ networkPrefix → need (within f at 2) 1 at (markAt f at) ≡ need (within g at 2) 1 at (markAt g at)
   unfolding markAt
@@ -231,7 +231,7 @@ module _ (f g : List ℕ) (h : Same networkPrefix f g) where
 -- ---- the whole file
 
 start-bounded : Bounded emptyNetwork 0
-start-bounded = record { nodes = omega arith; edges = omega arith; aggregates = omega arith; storages = omega arith; reach = omega arith }
+start-bounded = record { nodes = omega arith; edges = omega arith; aggregates = omega arith; virtualStorages = omega arith; reach = omega arith }
 
 parse-same : (f g : List ℕ) → Same networkPrefix f g → parseNetwork f ≡ parseNetwork g
 unfolding parseNetwork

@@ -15,8 +15,8 @@ use Rattle.pywr.specs.Result.{value, Result, refused, need}
 use Rattle.pywr.specs.Bytes.{bits64}
 use Rattle.pywr.specs.NetworkFile.{Read}
 use Rattle.pywr.specs.Programme.{NodeShape, Shape}
-use Rattle.pywr.specs.StepFile.{NodeStep, StepFile, expectMark, readDate, readNodeStep, readNodeSteps, readAggregateStep, readAggregateSteps, readStorageStep, readStorageSteps, readStep}
-use Rattle.pywr.specs.Store.{Store, word, nodeEntry, storageEntry, nodeCount, aggregateCount, storageCount, nodesAt, aggregatesAt, storagesAt, shapeOf}
+use Rattle.pywr.specs.StepFile.{NodeStep, StepFile, expectMark, readDate, readNodeStep, readNodeSteps, readAggregateStep, readAggregateSteps, readVirtualStorageStep, readVirtualStorageSteps, readStep}
+use Rattle.pywr.specs.Store.{Store, word, nodeEntry, virtualStorageEntry, nodeCount, aggregateCount, virtualStorageCount, nodesAt, aggregatesAt, virtualStoragesAt, shapeOf}
 use Rattle.pywr.specs.Misshapen.{wellShaped}
 use Rattle.pywr.specs.Calls.{stepRead, stepAnswer, stepStore, isAccepted}
 use Rattle.pywr.proofs.RunLaws.{bind-then, need-value}
@@ -53,10 +53,10 @@ module _ (file : List ℕ) where
   aggregates-end zero soFar at r e = let k = ends _ r e in omega arith
   aggregates-end (suc count) soFar at r e = bind-then _ _ r e (λ x _ e. let k = aggregates-end count (soFar ++ (x ∷ [])) (at + 18) r e in omega arith)
 
-  storages-end : (count : ℕ) (soFar : List NodeBounds) (at : ℕ) (r : Read (List NodeBounds)) → readStorageSteps file count soFar at ≡ value r → r .next ≡ at + 26 * count
-  unfolding readStorageSteps
-  storages-end zero soFar at r e = let k = ends _ r e in omega arith
-  storages-end (suc count) soFar at r e = bind-then _ _ r e (λ x _ e. let k = storages-end count (soFar ++ (x ∷ [])) (at + 26) r e in omega arith)
+  virtual-storages-end : (count : ℕ) (soFar : List NodeBounds) (at : ℕ) (r : Read (List NodeBounds)) → readVirtualStorageSteps file count soFar at ≡ value r → r .next ≡ at + 26 * count
+  unfolding readVirtualStorageSteps
+  virtual-storages-end zero soFar at r e = let k = ends _ r e in omega arith
+  virtual-storages-end (suc count) soFar at r e = bind-then _ _ r e (λ x _ e. let k = virtual-storages-end count (soFar ++ (x ∷ [])) (at + 26) r e in omega arith)
 
 -- ---- two files with the same first bytes
 
@@ -99,30 +99,30 @@ module _ (n : ℕ) (f g : List ℕ) (h : Same n f g) where
   aggregates-same zero soFar at le = refl
   aggregates-same (suc count) soFar at le = bind-both (aggregate-same at (omega arith)) (λ s _. aggregates-same count (soFar ++ (s ∷ [])) (at + 18) (omega arith))
 
-  storage-same : (place : ℕ) → place + 26 ≤ n → readStorageStep f place ≡ readStorageStep g place
-  unfolding readStorageStep
-  storage-same place le =
+  virtual-storage-same : (place : ℕ) → place + 26 ≤ n → readVirtualStorageStep f place ≡ readVirtualStorageStep g place
+  unfolding readVirtualStorageStep
+  virtual-storage-same place le =
       bind-both (expect-same place 86 66 (omega arith)) (λ at at-is.
       let p = mark-place f place 86 66 at at-is in
       rw (bits-same at 2 (omega arith), bits-same at 10 (omega arith), bits-same at 18 (omega arith)))
 
-  storages-same : (count : ℕ) (soFar : List NodeBounds) (at : ℕ) → at + 26 * count ≤ n → readStorageSteps f count soFar at ≡ readStorageSteps g count soFar at
-  unfolding readStorageSteps
-  storages-same zero soFar at le = refl
-  storages-same (suc count) soFar at le = bind-both (storage-same at (omega arith)) (λ s _. storages-same count (soFar ++ (s ∷ [])) (at + 26) (omega arith))
+  virtual-storages-same : (count : ℕ) (soFar : List NodeBounds) (at : ℕ) → at + 26 * count ≤ n → readVirtualStorageSteps f count soFar at ≡ readVirtualStorageSteps g count soFar at
+  unfolding readVirtualStorageSteps
+  virtual-storages-same zero soFar at le = refl
+  virtual-storages-same (suc count) soFar at le = bind-both (virtual-storage-same at (omega arith)) (λ s _. virtual-storages-same count (soFar ++ (s ∷ [])) (at + 26) (omega arith))
 
   -- a byte behind the last record is left over in both
-  step-same : (shapes : List NodeShape) (aggregates storages : ℕ) → fileLength (length shapes) aggregates storages < n → readStep shapes aggregates storages f ≡ readStep shapes aggregates storages g
+  step-same : (shapes : List NodeShape) (aggregates virtualStorages : ℕ) → fileLength (length shapes) aggregates virtualStorages < n → readStep shapes aggregates virtualStorages f ≡ readStep shapes aggregates virtualStorages g
   unfolding readStep
-  step-same shapes aggregates storages lt =
+  step-same shapes aggregates virtualStorages lt =
       bind-both (date-same (omega arith)) (λ date date-is.
       let a = date-end f date date-is in
       bind-both (nodes-same shapes [] (date .next) (omega arith)) (λ nodes nodes-is.
       let b = nodes-end f shapes [] (date .next) nodes nodes-is in
-      bind-both (aggregates-same aggregates [] (nodes .next) (omega arith)) (λ groups groups-is.
-      let c = aggregates-end f aggregates [] (nodes .next) groups groups-is in
-      bind-both (storages-same storages [] (groups .next) (omega arith)) (λ stores stores-is.
-      let d = storages-end f storages [] (groups .next) stores stores-is in
+      bind-both (aggregates-same aggregates [] (nodes .next) (omega arith)) (λ groups aggregates-is.
+      let c = aggregates-end f aggregates [] (nodes .next) groups aggregates-is in
+      bind-both (virtual-storages-same virtualStorages [] (groups .next) (omega arith)) (λ stores virtual-storages-is.
+      let d = virtual-storages-end f virtualStorages [] (groups .next) stores virtual-storages-is in
       rw (lt-leb (length f) (stores .next) (omega (arith, h .long)), lt-leb (length g) (stores .next) (omega (arith, h .long′)))))))
 
 -- ---- the step, on any store
@@ -133,8 +133,8 @@ shape-fits s e =
     let c = shaped s e .counts in
     let n = entries-length (nodeEntry s) 2 nodesAt (nodeCount s) in
     let a = entries-length (word s) 1 aggregatesAt (aggregateCount s) in
-    let v = entries-length (storageEntry s) 6 storagesAt (storageCount s) in
-    omega (arith, n, a, v, c .nodes, c .aggregates, c .storages)
+    let v = entries-length (virtualStorageEntry s) 6 virtualStoragesAt (virtualStorageCount s) in
+    omega (arith, n, a, v, c .nodes, c .aggregates, c .virtualStorages)
 
 -- the shape that a step file is read over
 fits : (s : Store) (shape : Shape) → need (wellShaped s) 17 0 (shapeOf s) ≡ value shape → fileLength (length (shape .nodes)) (length (shape .aggregates)) (length (shape .virtualStorages)) ≤ longestStep

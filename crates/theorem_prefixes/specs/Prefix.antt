@@ -16,12 +16,12 @@ use Rattle.step_file.specs.Decoded.{fileLength}
 abbrev pub longestAggregate : ℕ
 longestAggregate = 12 + 16 * (1 + 16 * 2)
 
-abbrev pub longestStorage : ℕ
-longestStorage = 8 + 64 * 10
+abbrev pub longestVirtualStorage : ℕ
+longestVirtualStorage = 8 + 64 * 10
 
 -- 63,488 bytes: every record that fits, each at its longest
 abbrev pub longestNetwork : ℕ
-longestNetwork = 256 * 20 + 512 * 6 + 64 * longestAggregate + 32 * longestStorage
+longestNetwork = 256 * 20 + 512 * 6 + 64 * longestAggregate + 32 * longestVirtualStorage
 
 -- 63,490: a record more is told by its mark
 abbrev pub networkPrefix : ℕ

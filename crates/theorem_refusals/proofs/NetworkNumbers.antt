@@ -58,9 +58,9 @@ read-parts file place nodes (suc count) soFar at =
     bind-among _ _ (checked-among 4 place _ _ tt (u16-among file place 1 tt at)) (λ n.
     bind-among _ _ (checked-among 3 place _ _ tt (bits-among file place 1 tt (at + 2))) (λ x. read-parts file place nodes count (soFar ++ (record { node = n; factor = ofPattern x } ∷ [])) (at + 10)))
 
-read-storage : (net : Network) (file : List ℕ) (at : ℕ) → Among ofNetworkFile (readVirtualStorage net file at)
+read-virtual-storage : (net : Network) (file : List ℕ) (at : ℕ) → Among ofNetworkFile (readVirtualStorage net file at)
 unfolding readVirtualStorage
-read-storage net file at =
+read-virtual-storage net file at =
     bind-among _ _ (checked-among 3 at _ _ tt (u8-among file at 1 tt (at + 2))) (λ a.
     bind-among _ _ (checked-among 3 at _ _ tt (u8-among file at 1 tt (at + 3))) (λ b.
     bind-among _ _ (checked-among 3 at _ _ tt (u8-among file at 1 tt (at + 4))) (λ c.
@@ -74,7 +74,7 @@ unfolding readBody
 read-body ND net file at = bind-among _ _ (read-node file at) (λ r. passed)
 read-body ED net file at = bind-among _ _ (read-edge net file at) (λ r. passed)
 read-body AG net file at = bind-among _ _ (read-aggregate net file at) (λ r. passed)
-read-body VS net file at = bind-among _ _ (read-storage net file at) (λ r. passed)
+read-body VS net file at = bind-among _ _ (read-virtual-storage net file at) (λ r. passed)
 
 in-order : (place stage : ℕ) (o : Option Mark) → Among ofNetworkFile (inOrder place stage o)
 unfolding inOrder

@@ -7,7 +7,7 @@ use lib.Dec.{T}
 use Rattle.pywr.specs.declared.Interval.{Interval}
 use Rattle.pywr.specs.declared.NodeBounds.{NodeBounds}
 use Rattle.pywr.specs.Programme.{NodeShape}
-use Rattle.pywr.specs.StepFile.{NodeStep, expectMark, readDate, readNodeStep, readNodeSteps, readAggregateStep, readAggregateSteps, readStorageStep, readStorageSteps, readStep}
+use Rattle.pywr.specs.StepFile.{NodeStep, expectMark, readDate, readNodeStep, readNodeSteps, readAggregateStep, readAggregateSteps, readVirtualStorageStep, readVirtualStorageSteps, readStep}
 use Rattle.pywr.specs.StepIntervals.{Intervals, unless, ordered}
 use Rattle.theorem_refusals.specs.RefusalNumbers.{Among, passed, told, ofStepFile, ofIntervals}
 use Rattle.theorem_refusals.proofs.Among.{bind-among, need-among, checked-among, u8-among, bits-among}
@@ -30,30 +30,30 @@ unfolding readNodeSteps
 step-nodes file [] soFar at = passed
 step-nodes file (n ∷ ns) soFar at = bind-among _ _ (step-node file n at) (λ s. step-nodes file ns (soFar ++ (s ∷ [])) (at + 34))
 
-step-group : (file : List ℕ) (place : ℕ) → Among ofStepFile (readAggregateStep file place)
+step-aggregate : (file : List ℕ) (place : ℕ) → Among ofStepFile (readAggregateStep file place)
 unfolding readAggregateStep
-step-group file place =
+step-aggregate file place =
     bind-among _ _ (mark-among file place 71 66) (λ at.
     bind-among _ _ (checked-among 13 at _ _ tt (bits-among file at 12 tt (at + 2))) (λ a.
     bind-among _ _ (checked-among 13 at _ _ tt (bits-among file at 12 tt (at + 10))) (λ b. passed)))
 
-step-groups : (file : List ℕ) (count : ℕ) (soFar : List Interval) (at : ℕ) → Among ofStepFile (readAggregateSteps file count soFar at)
+step-aggregates : (file : List ℕ) (count : ℕ) (soFar : List Interval) (at : ℕ) → Among ofStepFile (readAggregateSteps file count soFar at)
 unfolding readAggregateSteps
-step-groups file zero soFar at = passed
-step-groups file (suc count) soFar at = bind-among _ _ (step-group file at) (λ s. step-groups file count (soFar ++ (s ∷ [])) (at + 18))
+step-aggregates file zero soFar at = passed
+step-aggregates file (suc count) soFar at = bind-among _ _ (step-aggregate file at) (λ s. step-aggregates file count (soFar ++ (s ∷ [])) (at + 18))
 
-step-store : (file : List ℕ) (place : ℕ) → Among ofStepFile (readStorageStep file place)
-unfolding readStorageStep
+step-store : (file : List ℕ) (place : ℕ) → Among ofStepFile (readVirtualStorageStep file place)
+unfolding readVirtualStorageStep
 step-store file place =
     bind-among _ _ (mark-among file place 86 66) (λ at.
     bind-among _ _ (checked-among 13 at _ _ tt (bits-among file at 12 tt (at + 2))) (λ a.
     bind-among _ _ (checked-among 13 at _ _ tt (bits-among file at 12 tt (at + 10))) (λ b.
     bind-among _ _ (checked-among 13 at _ _ tt (bits-among file at 12 tt (at + 18))) (λ c. passed))))
 
-step-stores : (file : List ℕ) (count : ℕ) (soFar : List NodeBounds) (at : ℕ) → Among ofStepFile (readStorageSteps file count soFar at)
-unfolding readStorageSteps
-step-stores file zero soFar at = passed
-step-stores file (suc count) soFar at = bind-among _ _ (step-store file at) (λ s. step-stores file count (soFar ++ (s ∷ [])) (at + 26))
+step-virtual-storages : (file : List ℕ) (count : ℕ) (soFar : List NodeBounds) (at : ℕ) → Among ofStepFile (readVirtualStorageSteps file count soFar at)
+unfolding readVirtualStorageSteps
+step-virtual-storages file zero soFar at = passed
+step-virtual-storages file (suc count) soFar at = bind-among _ _ (step-store file at) (λ s. step-virtual-storages file count (soFar ++ (s ∷ [])) (at + 26))
 
 date-among : (file : List ℕ) → Among ofStepFile (readDate file)
 unfolding readDate
@@ -63,13 +63,13 @@ date-among file =
     bind-among _ _ (checked-among 13 at _ _ tt (u8-among file at 12 tt (at + 3))) (λ b.
     bind-among _ _ (checked-among 13 at _ _ tt (bits-among file at 12 tt (at + 4))) (λ c. passed))))
 
-pub step-file-numbers : (shapes : List NodeShape) (aggregates storages : ℕ) (file : List ℕ) → Among ofStepFile (readStep shapes aggregates storages file)
+pub step-file-numbers : (shapes : List NodeShape) (aggregates virtualStorages : ℕ) (file : List ℕ) → Among ofStepFile (readStep shapes aggregates virtualStorages file)
 unfolding readStep
-step-file-numbers shapes aggregates storages file =
+step-file-numbers shapes aggregates virtualStorages file =
     bind-among _ _ (date-among file) (λ d.
     bind-among _ _ (step-nodes file shapes [] (d .next)) (λ n.
-    bind-among _ _ (step-groups file aggregates [] (n .next)) (λ g.
-    bind-among _ _ (step-stores file storages [] (g .next)) (λ v. need-among _ 12 (v .next) _ tt))))
+    bind-among _ _ (step-aggregates file aggregates [] (n .next)) (λ g.
+    bind-among _ _ (step-virtual-storages file virtualStorages [] (g .next)) (λ v. need-among _ 12 (v .next) _ tt))))
 
 crossed-among : {numbers : ℕ → Bool} {A : Type 0} (number : ℕ) (o : Option ℕ) (x : A) → T (numbers number) → Among numbers (unless number o x)
 unfolding unless

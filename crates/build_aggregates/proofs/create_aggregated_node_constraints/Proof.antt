@@ -8,7 +8,7 @@ use Rattle.pywr.specs.Rows.{Element}
 use Rattle.pywr.specs.VaryingRows.{freshRow}
 use Rattle.fields.specs.Records.{recordsEnd}
 use Rattle.network_laws.specs.NetworkAt.{aggregateStart}
-use Rattle.build_append.specs.LpBuilder.{Held}
+use Rattle.build_append.specs.LpBuilder.{RowsHeld}
 use Rattle.build_node_row.specs.Tables.{networkOf}
 use Rattle.build_join.proofs.JoinedLaws.{Asked, asked-none, asked-more, asked-full, asked-all, place-fits}
 use Rattle.build_aggregates.specs.AggregateRows.{aggregateRows, aggregateTable}
@@ -19,7 +19,7 @@ use Rattle.build_aggregates.proofs.create_aggregated_node_constraints.T
 
 abbrev Inv-loop : tie.InvT-loop
 Inv-loop s c first-in next-in first-out next-out edge-to-col sentinel words₀ numbers₀ columns₀ at₀ filled₀ i₀ words numbers columns at filled i =
-    ((rows : List (List Element)) → Held (map (freshRow sentinel) rows) words₀ numbers₀ filled₀
+    ((rows : List (List Element)) → RowsHeld (map (freshRow sentinel) rows) words₀ numbers₀ filled₀
     → Asked sentinel (aggregateRows (networkOf s c)) 24588 1 aggregateTable rows words₀ i words numbers filled)
     × (at ≡ aggregateStart s (c .nodes) (c .edges) i)
     × (i ≤ c .aggregates)

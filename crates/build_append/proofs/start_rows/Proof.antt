@@ -1,7 +1,7 @@
 -- `build_append::start_rows` meets its contract. Assumes nothing.
 use native.Mathlib.Omega.{arith}
 use lib.Seq.{drop-set-lt}
-use Rattle.build_append.proofs.HeldLaws.{held-none}
+use Rattle.build_append.proofs.RowsHeldLaws.{held-none}
 use borrow.Author.Needs.{needs}
 use Rattle.build_append.proofs.start_rows.Statement.{statement}
 use Rattle.build_append.proofs.start_rows.Tie as tie

@@ -2,7 +2,7 @@
 use mathlib.Core.Path.{sym, _∙_}
 use native.Mathlib.Omega.{arith}
 use borrow.Author.Tests.{not-true, not-false}
-use Rattle.build_constants.proofs.ConstantRows.{varying-none, no-listing, some-listing}
+use Rattle.build_constants.proofs.ConstantRows.{varying-none, no-membership, some-membership}
 use borrow.Author.Needs.{needs}
 use Rattle.build_constants.proofs.add_constant_rows.Statement.{statement}
 use Rattle.build_constants.proofs.add_constant_rows.Tie as tie
@@ -31,7 +31,7 @@ returns-2 c =
     let c11 = c10 .before in
     let c12 = c11 .before in
     let c16 = c12 .before .before .before .before in
-    no-listing _ _ _ _ (c16 .pre .3) _ _ (c10 .wide16 .ensures .0) (omega (arith, c16 .pre .1, c16 .pre .0 .sections .few-nodes)) _ _ (sym (c12 .is-constant .ensures) ∙ not-false (c12 .is-constant .result) (c11 .if1 .left)) _ _ _ _ _ _ (c8 .if2 .taken) (c4 .add-node-row .ensures)
+    no-membership _ _ _ _ (c16 .pre .3) _ _ (c10 .wide16 .ensures .0) (omega (arith, c16 .pre .1, c16 .pre .0 .sections .few-nodes)) _ _ (sym (c12 .is-constant .ensures) ∙ not-false (c12 .is-constant .result) (c11 .if1 .left)) _ _ _ _ _ _ (c8 .if2 .taken) (c4 .add-node-row .ensures)
 
 add-exclusive-rows-requires : tie.Need-add-exclusive-rows-requires
 add-exclusive-rows-requires c κs =
@@ -45,7 +45,7 @@ returns-3 c =
     let c11 = c10 .before in
     let c12 = c11 .before in
     let c16 = c12 .before .before .before .before in
-    some-listing _ _ _ _ (c16 .pre .3) _ _ (c10 .wide16 .ensures .0) (omega (arith, c16 .pre .1, c16 .pre .0 .sections .few-nodes)) _ _ (sym (c12 .is-constant .ensures) ∙ not-false (c12 .is-constant .result) (c11 .if1 .left)) _ _ _ _ _ _ (c8 .if2 .left) (c4 .add-exclusive-rows .ensures)
+    some-membership _ _ _ _ (c16 .pre .3) _ _ (c10 .wide16 .ensures .0) (omega (arith, c16 .pre .1, c16 .pre .0 .sections .few-nodes)) _ _ (sym (c12 .is-constant .ensures) ∙ not-false (c12 .is-constant .result) (c11 .if1 .left)) _ _ _ _ _ _ (c8 .if2 .left) (c4 .add-exclusive-rows .ensures)
 
 pub add-constant-rows-spec : {M : Type 1} → statement M
 add-constant-rows-spec =

@@ -1,25 +1,25 @@
--- `build_constants::add_exclusive_rows` meets its contract: `Listings.antt` has the turn of the loop. Assumes nothing.
+-- `build_constants::add_exclusive_rows` meets its contract: `Memberships.antt` has the turn of the loop. Assumes nothing.
 use mathlib.Core.Path.{_≡_, refl, _∙_}
 use Prim.Native.Nat.{_+_, _*_, _≤_}
 use native.Mathlib.Omega.{arith}
 use lib.ListN.{length}
-use Rattle.pywr.specs.ExclusiveSets.{setsListing}
+use Rattle.pywr.specs.ExclusiveSets.{setsWithNode}
 use Rattle.pywr.specs.Rows.{columnMap}
 use Rattle.network_node.specs.Node.{nodeAt}
 use Rattle.build_node_row.specs.Tables.{networkOf}
 use Rattle.build_append.proofs.AddingRows.{adding-holding}
-use Rattle.build_constants.proofs.Listings.{above, Walking, walk-first, walked, listing-under, listing-falls, walk-over, walk-next}
+use Rattle.build_constants.proofs.Memberships.{above, Walking, walk-first, walked, membership-under, membership-falls, walk-over, walk-next}
 use borrow.Author.Needs.{needs}
 use Rattle.build_constants.proofs.add_exclusive_rows.Statement.{statement}
 use Rattle.build_constants.proofs.add_exclusive_rows.Tie as tie
 
 abbrev Inv-loop : tie.InvT-loop
-Inv-loop s c first-in next-in first-out next-out edge-to-col edge-columns first-listing next-listing node sentinel words₀ numbers₀ columns₀ k filled₀ link₀ words numbers columns filled link =
-    Walking sentinel (columnMap (networkOf s c)) (node .0) (nodeAt s (20 * node .0)) next-listing (setsListing (node .0) 0 (columnMap (networkOf s c) .sets)) words₀ numbers₀ filled₀ words numbers filled link
+Inv-loop s c first-in next-in first-out next-out edge-to-col edge-columns first-membership next-membership node sentinel words₀ numbers₀ columns₀ k filled₀ link₀ words numbers columns filled link =
+    Walking sentinel (columnMap (networkOf s c)) (node .0) (nodeAt s (20 * node .0)) next-membership (setsWithNode (node .0) 0 (columnMap (networkOf s c) .sets)) words₀ numbers₀ filled₀ words numbers filled link
     × (length words ≡ length words₀) × (length numbers ≡ length numbers₀)
 
 abbrev μ-loop : tie.MeasureT-loop
-μ-loop s c first-in next-in first-out next-out edge-to-col edge-columns first-listing next-listing node sentinel words₀ numbers₀ columns₀ k filled₀ link₀ words numbers columns filled link = above link
+μ-loop s c first-in next-in first-out next-out edge-to-col edge-columns first-membership next-membership node sentinel words₀ numbers₀ columns₀ k filled₀ link₀ words numbers columns filled link = above link
 
 element-copy-out-wide16 : tie.Need-element-copy-out-wide16 Inv-loop μ-loop
 element-copy-out-wide16 c =
@@ -31,14 +31,14 @@ loop-holds c =
     let c6 = c2 .before .before .before .before in
     (walk-first _ _ _ _ _ _ _ _ _ _ _ _ (c6 .pre .3) (c2 .wide16 .ensures .0) (omega (arith, c6 .pre .1, c6 .pre .0 .sections .few-nodes)) (c .wide162 .ensures .0), refl, refl)
 
-sub-listing : tie.Need-sub-listing Inv-loop μ-loop
-sub-listing c =
+sub-membership : tie.Need-sub-membership Inv-loop μ-loop
+sub-membership c =
     omega (arith, c .loop-test .taken)
 
 add-bounded-rows-requires : tie.Need-add-bounded-rows-requires Inv-loop μ-loop
 add-bounded-rows-requires c κs =
     let w = c .before .before .before .before .loop .inv in
-    let u = listing-under _ _ _ _ _ _ _ _ _ _ _ _ _ (w .0) (c .before .before .before .loop-test .taken) in (
+    let u = membership-under _ _ _ _ _ _ _ _ _ _ _ _ _ (w .0) (c .before .before .before .loop-test .taken) in (
       c .before .before .before .before .before .before .before .before .before .before .before .pre .0,
       c .before .before .before .before .before .before .before .before .before .before .before .pre .1,
       c .before .before .before .before .before .before .before .before .before .before .before .pre .2,
@@ -67,19 +67,19 @@ mul-wide16-2 : tie.Need-mul-wide16-2 Inv-loop μ-loop
 mul-wide16-2 c =
     let c11 = c .before .before .before .before .before .before .before .before .before .before .before in
     let c12 = c11 .before in
-    omega (arith, listing-under _ _ _ _ _ _ _ _ _ _ _ _ _ (c12 .loop .inv .0) (c11 .loop-test .taken))
+    omega (arith, membership-under _ _ _ _ _ _ _ _ _ _ _ _ _ (c12 .loop .inv .0) (c11 .loop-test .taken))
 
 element-copy-out-wide16-2 : tie.Need-element-copy-out-wide16-2 Inv-loop μ-loop
 element-copy-out-wide16-2 c =
     let c11 = c .before .before .before .before .before .before .before .before .before .before .before in
     let c12 = c11 .before in
-    listing-under _ _ _ _ _ _ _ _ _ _ _ _ _ (c12 .loop .inv .0) (c11 .loop-test .taken)
+    membership-under _ _ _ _ _ _ _ _ _ _ _ _ _ (c12 .loop .inv .0) (c11 .loop-test .taken)
 
 loop-less : tie.Need-loop-less Inv-loop μ-loop
 loop-less c =
     let c13 = c .before .before .before .before .before .before .before .before .before .before .before .before .before in
     let c14 = c13 .before in
-    listing-falls _ _ _ _ _ _ _ _ _ _ _ _ _ (c14 .loop .inv .0) (c13 .loop-test .taken) _ (c .wide163 .ensures .0)
+    membership-falls _ _ _ _ _ _ _ _ _ _ _ _ _ (c14 .loop .inv .0) (c13 .loop-test .taken) _ (c .wide163 .ensures .0)
 
 loop-again : tie.Need-loop-again Inv-loop μ-loop
 loop-again c = (
@@ -111,7 +111,7 @@ add-exclusive-rows-spec =
     element-copy-out-wide16
     (λ c κs. search needs)
     loop-holds
-    sub-listing
+    sub-membership
     add-bounded-rows-requires
     (λ c. search needs)
     same-length

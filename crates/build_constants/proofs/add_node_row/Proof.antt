@@ -5,7 +5,7 @@ use native.Mathlib.Omega.{arith}
 use lib.Ieee.{ofBits}
 use Rattle.pywr.specs.Numbers.{one64}
 use Rattle.pywr.specs.Misshapen.{columnsRise}
-use Rattle.build_append.proofs.HeldLaws.{held-few}
+use Rattle.build_append.proofs.RowsHeldLaws.{held-few}
 use Rattle.build_append.proofs.LentRow.{lent-room, lent-long, lent-row}
 use Rattle.build_set_rows.proofs.Coefficients.{node-stands}
 use Rattle.build_constants.proofs.ConstantRows.{node-row}

@@ -7,23 +7,23 @@ use lib.ListN.{length, drop}
 use Rattle.pywr.specs.Rows.{columnMap}
 use Rattle.pywr.specs.FixedRows.{constantRowsFrom}
 use Rattle.pywr.specs.Programme.{Row}
-use Rattle.build_append.specs.LpBuilder.{Held}
+use Rattle.build_append.specs.LpBuilder.{RowsHeld}
 use Rattle.build_node_row.specs.Tables.{networkOf}
 use Rattle.build_append.proofs.AddingRows.{Adding, adding-first, adding-holding}
-use Rattle.build_append.proofs.NodeRows.{node-more, node-over, nodes-done}
+use Rattle.build_append.proofs.NodeFixedRows.{node-more, node-over, nodes-done}
 use Rattle.build_constants.proofs.ConstantRows.{by-node}
 use borrow.Author.Needs.{needs}
 use Rattle.build_constants.proofs.create_constant_constraints.Statement.{statement}
 use Rattle.build_constants.proofs.create_constant_constraints.Tie as tie
 
 abbrev Inv-loop : tie.InvT-loop
-Inv-loop s c first-in next-in first-out next-out edge-to-col edge-columns first-listing next-listing sentinel words₀ numbers₀ columns₀ nodes filled₀ i₀ words numbers columns filled i =
-    (i ≤ nodes) × ((rows : List Row) → Held rows words₀ numbers₀ filled₀
+Inv-loop s c first-in next-in first-out next-out edge-to-col edge-columns first-membership next-membership sentinel words₀ numbers₀ columns₀ nodes filled₀ i₀ words numbers columns filled i =
+    (i ≤ nodes) × ((rows : List Row) → RowsHeld rows words₀ numbers₀ filled₀
     → Adding (rows ++ constantRowsFrom sentinel (columnMap (networkOf s c)) 0 (networkOf s c .nodes)) (constantRowsFrom sentinel (columnMap (networkOf s c)) i (drop i (networkOf s c .nodes))) words₀ words numbers filled)
     × (length words ≡ length words₀) × (length numbers ≡ length numbers₀)
 
 abbrev μ-loop : tie.MeasureT-loop
-μ-loop s c first-in next-in first-out next-out edge-to-col edge-columns first-listing next-listing sentinel words₀ numbers₀ columns₀ nodes filled₀ i₀ words numbers columns filled i = nodes - i
+μ-loop s c first-in next-in first-out next-out edge-to-col edge-columns first-membership next-membership sentinel words₀ numbers₀ columns₀ nodes filled₀ i₀ words numbers columns filled i = nodes - i
 
 loop-holds : tie.Need-loop-holds Inv-loop μ-loop
 loop-holds c =

@@ -1,20 +1,20 @@
--- `build_exclusive_request::request_exclusive_rows` meets its contract: `Listings.antt` has the turn of the loop. Assumes nothing.
+-- `build_exclusive_request::request_exclusive_rows` meets its contract: `Memberships.antt` has the turn of the loop. Assumes nothing.
 use mathlib.Core.Path.{_≡_, refl, _∙_}
 use native.Mathlib.Omega.{arith}
 use lib.ListN.{length}
 use Rattle.pywr.specs.Rows.{columnMap}
 use Rattle.build_node_row.specs.Tables.{networkOf}
-use Rattle.build_exclusive_request.proofs.Listings.{above, Walking, walked, listing-under, listing-falls, room, walk-full, walk-next, walk-first}
+use Rattle.build_exclusive_request.proofs.Memberships.{above, Walking, walked, membership-under, membership-falls, room, walk-full, walk-next, walk-first}
 use borrow.Author.Needs.{needs}
 use Rattle.build_exclusive_request.proofs.request_exclusive_rows.Statement.{statement}
 use Rattle.build_exclusive_request.proofs.request_exclusive_rows.Tie as tie
 
 abbrev Inv-loop : tie.InvT-loop
-Inv-loop s c first-in next-in first-out next-out edge-to-col edge-columns first-listing next-listing node sentinel words₀ numbers₀ columns₀ k held₀ link₀ words numbers columns held link =
-    Walking (columnMap (networkOf s c)) (node .0) next-listing sentinel words numbers held link × (length words ≡ length words₀) × (length numbers ≡ length numbers₀)
+Inv-loop s c first-in next-in first-out next-out edge-to-col edge-columns first-membership next-membership node sentinel words₀ numbers₀ columns₀ k held₀ link₀ words numbers columns held link =
+    Walking (columnMap (networkOf s c)) (node .0) next-membership sentinel words numbers held link × (length words ≡ length words₀) × (length numbers ≡ length numbers₀)
 
 abbrev μ-loop : tie.MeasureT-loop
-μ-loop s c first-in next-in first-out next-out edge-to-col edge-columns first-listing next-listing node sentinel words₀ numbers₀ columns₀ k held₀ link₀ words numbers columns held link = above link
+μ-loop s c first-in next-in first-out next-out edge-to-col edge-columns first-membership next-membership node sentinel words₀ numbers₀ columns₀ k held₀ link₀ words numbers columns held link = above link
 
 element-copy-out-link : tie.Need-element-copy-out-link Inv-loop μ-loop
 element-copy-out-link c =
@@ -30,7 +30,7 @@ request-bounded-rows-requires c κs =
     let p = c .before .before .before .before .before .before .before .before .before .before .pre in
     let w = c .before .before .before .before .loop .inv .0 in
     let ne = c .before .before .before .loop-test .taken in
-    let under = listing-under _ _ _ _ _ _ _ _ w ne in
+    let under = membership-under _ _ _ _ _ _ _ _ w ne in
     (p .0, p .1, p .2, omega arith, omega (arith, p .4, c .before .before .before .before .loop .inv .1), omega (arith, p .5, c .before .before .before .before .loop .inv .2), record { asks = w .asks; held = w .rows }, room _ _ _ _ _ _ _ _ w ne (p .7))
 
 same-length : tie.Need-same-length Inv-loop μ-loop
@@ -53,7 +53,7 @@ element-copy-out-link-2 : tie.Need-element-copy-out-link-2 Inv-loop μ-loop
 element-copy-out-link-2 c =
     let c12 = c .before .before .before .before .before .before .before .before .before .before .before .before in
     let c13 = c12 .before in
-    let under = listing-under _ _ _ _ _ _ _ _ (c13 .loop .inv .0) (c12 .loop-test .taken) in
+    let under = membership-under _ _ _ _ _ _ _ _ (c13 .loop .inv .0) (c12 .loop-test .taken) in
     omega (arith, c .wide162 .ensures .0)
 
 loop-less : tie.Need-loop-less Inv-loop μ-loop
@@ -61,7 +61,7 @@ loop-less c =
     let c1 = c .before in
     let c13 = c1 .before .before .before .before .before .before .before .before .before .before .before .before in
     let c14 = c13 .before in
-    listing-falls _ _ _ _ _ _ _ _ (c14 .loop .inv .0) (c13 .loop-test .taken) _ (c1 .wide162 .ensures .0)
+    membership-falls _ _ _ _ _ _ _ _ (c14 .loop .inv .0) (c13 .loop-test .taken) _ (c1 .wide162 .ensures .0)
 
 loop-again : tie.Need-loop-again Inv-loop μ-loop
 loop-again c =

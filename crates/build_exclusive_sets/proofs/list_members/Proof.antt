@@ -1,9 +1,9 @@
--- `build_exclusive_sets::list_members` meets its contract: the listings in the sets numbered from k are linked. Assumes nothing.
+-- `build_exclusive_sets::list_members` meets its contract: the memberships in the sets numbered from k are linked. Assumes nothing.
 use Prim.Native.Nat.{ℕ, _+_, _*_, _-_, _≤_}
 use mathlib.Core.Path.{_≡_, subst}
 use native.Mathlib.Omega.{arith}
 use lib.ListN.{getD, getD-replicate, length-replicate}
-use Rattle.build_exclusive_sets.specs.Sets.{Listings}
+use Rattle.build_exclusive_sets.specs.Sets.{Memberships}
 use Rattle.laws.specs.Linked.{Linked}
 use Rattle.build_exclusive_sets.proofs.ListMembers.{fromSet, sets-none, sets-more}
 use borrow.Author.Needs.{needs}
@@ -11,7 +11,7 @@ use Rattle.build_exclusive_sets.proofs.list_members.Statement.{statemen
 use Rattle.build_exclusive_sets.proofs.list_members.Tie as tie
 
 abbrev Inv-loop : tie.InvT-loop
-Inv-loop s set-at sets first₀ next₀ k₀ first next k = (k ≤ sets) × Listings (16 * k) first next (fromSet s set-at sets k)
+Inv-loop s set-at sets first₀ next₀ k₀ first next k = (k ≤ sets) × Memberships (16 * k) first next (fromSet s set-at sets k)
 
 abbrev μ-loop : tie.MeasureT-loop
 μ-loop s set-at sets first₀ next₀ k₀ first next k = k
@@ -34,8 +34,8 @@ loop-again c =
       omega arith,
       sets-more (p .s .now) (p .set-at .now) (p .sets) (omega arith) _ _ (l .k - 1) (c .before .before .before .wide16 .result) (omega arith) (c .before .before .before .wide16 .ensures .0)
           (c .list-set .ensures (fromSet (p .s .now) (p .set-at .now) (p .sets) (l .k - 1 + 1))
-          (subst (λ (low : ℕ). Listings low (l .first) (l .next) (fromSet (p .s .now) (p .set-at .now) (p .sets) (l .k - 1 + 1))) e
-          (subst (λ (k : ℕ). Listings (16 * l .k) (l .first) (l .next) (fromSet (p .s .now) (p .set-at .now) (p .sets) k)) q (l .inv .1)))),
+          (subst (λ (low : ℕ). Memberships low (l .first) (l .next) (fromSet (p .s .now) (p .set-at .now) (p .sets) (l .k - 1 + 1))) e
+          (subst (λ (k : ℕ). Memberships (16 * l .k) (l .first) (l .next) (fromSet (p .s .now) (p .set-at .now) (p .sets) k)) q (l .inv .1)))),
     )
 
 returns : tie.Need-returns Inv-loop μ-loop

@@ -1,10 +1,10 @@
--- `build_exclusive_sets::list_set` meets its contract: the members from i on stand in front of the listings so far. Assumes nothing.
+-- `build_exclusive_sets::list_set` meets its contract: the members from i on stand in front of the memberships so far. Assumes nothing.
 use Prim.Native.Nat.{ℕ, _+_, _*_, _-_, _≤_, _<_}
 use mathlib.Core.Path.{_≡_, _∙_, subst}
 use mathlib.Core.List.{List}
 use native.Mathlib.Omega.{arith}
 use Rattle.pywr.specs.Bytes.{byte}
-use Rattle.build_exclusive_sets.specs.Sets.{Listings}
+use Rattle.build_exclusive_sets.specs.Sets.{Memberships}
 use Rattle.build_exclusive_sets.proofs.ListMembers.{withMembers, members-none, members-more, members-all}
 use borrow.Author.Needs.{needs}
 use Rattle.build_exclusive_sets.proofs.list_set.Statement.{statement}
@@ -12,7 +12,7 @@ use Rattle.build_exclusive_sets.proofs.list_set.Tie as tie
 
 abbrev Inv-loop : tie.InvT-loop
 Inv-loop s k at first₀ next₀ i₀ first next i =
-    (i ≤ byte s at) × ((of : ℕ → List ℕ) → Listings (16 * k + 16) first₀ next₀ of → Listings (16 * k + i) first next (withMembers s k at of i))
+    (i ≤ byte s at) × ((of : ℕ → List ℕ) → Memberships (16 * k + 16) first₀ next₀ of → Memberships (16 * k + i) first next (withMembers s k at of i))
 
 abbrev μ-loop : tie.MeasureT-loop
 μ-loop s k at first₀ next₀ i₀ first next i = i
@@ -48,7 +48,7 @@ loop-again c =
     let e : l .i ≡ l .i - 1 + 1 = omega arith in (
       omega arith,
       λ of h. rw (c .narrow16 .ensures) (members-more (p .s .now) (p .k) (p .at) of (l .first) (l .next) (l .i - 1) (c2 .wide16 .result) (omega arith) (c2 .wide16 .ensures .0 ∙ c3 .member .ensures) (small (c2)) (omega (arith, c8 .pre .1 .most))
-          (subst (λ (i : ℕ). Listings (16 * p .k + i) (l .first) (l .next) (withMembers (p .s .now) (p .k) (p .at) of i)) e (l .inv .1 of h))),
+          (subst (λ (i : ℕ). Memberships (16 * p .k + i) (l .first) (l .next) (withMembers (p .s .now) (p .k) (p .at) of i)) e (l .inv .1 of h))),
     )
 
 returns : tie.Need-returns Inv-loop μ-loop

@@ -2,7 +2,7 @@
 use mathlib.Core.Path.{refl, sym, ap, _∙_}
 use Prim.Native.Nat.{_+_}
 use Rattle.pywr.specs.Numbers.{double}
-use Rattle.build_append.proofs.HeldLaws.{held-few}
+use Rattle.build_append.proofs.RowsHeldLaws.{held-few}
 use Rattle.build_append.proofs.LentRow.{lent-room, lent-long}
 use Rattle.build_exclusivity.proofs.ExclusivityRows.{no-exclusivity-row, exclusivity-row-added}
 use borrow.Author.Needs.{needs}

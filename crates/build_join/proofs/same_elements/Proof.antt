@@ -7,7 +7,7 @@ use lib.Ieee.{ne}
 use borrow.Author.Tests.{not-true, not-false}
 use Rattle.pywr.specs.VariableRows.{sameRow}
 use Rattle.build_row.specs.RowBuilder.{gathered}
-use Rattle.build_join.proofs.PositionLaws.{sameFrom, columns-differ, factors-differ, same-next, same-end}
+use Rattle.build_join.proofs.PositionLaws.{sameFrom, columns-differ, values-differ, same-next, same-end}
 use borrow.Author.Needs.{needs}
 use Rattle.build_join.proofs.same_elements.Statement.{statement}
 use Rattle.build_join.proofs.same_elements.Tie as tie
@@ -40,7 +40,7 @@ returns-2 c =
     let c12 = c8 .before .before .before .before in
     let start = c12 in
     let l = c8 .loop in
-    sym (l .inv .1 ∙ factors-differ _ _ _ _ _ _ _ (start .pre) (c7 .loop-test .taken) (sym (c5 .wide-column .ensures .0) ∙ c3 .if1 .left) (not-true _ (c .if2 .taken)))
+    sym (l .inv .1 ∙ values-differ _ _ _ _ _ _ _ (start .pre) (c7 .loop-test .taken) (sym (c5 .wide-column .ensures .0) ∙ c3 .if1 .left) (not-true _ (c .if2 .taken)))
 
 loop-again : tie.Need-loop-again Inv-loop μ-loop
 unfolding ne

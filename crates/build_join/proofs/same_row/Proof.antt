@@ -1,6 +1,6 @@
 -- `build_join::same_row` meets its contract: the two words read are the starts of row k and of the next. Assumes nothing.
 use native.Mathlib.Omega.{arith}
-use Rattle.build_append.proofs.HeldLaws.{held-few}
+use Rattle.build_append.proofs.RowsHeldLaws.{held-few}
 use Rattle.build_join.proofs.PositionLaws.{starts-rise, row-fits, length-differs, length-same}
 use borrow.Author.Needs.{needs}
 use Rattle.build_join.proofs.same_row.Statement.{statement}

@@ -4,7 +4,7 @@ use Prim.Native.Nat.{_+_, _*_}
 use native.Mathlib.Omega.{arith}
 use Rattle.pywr.specs.Numbers.{zero64}
 use lib.Ieee.{ofBits}
-use Rattle.build_append.proofs.HeldLaws.{held-few}
+use Rattle.build_append.proofs.RowsHeldLaws.{held-few}
 use Rattle.build_node_row.proofs.NodeColumns.{in-listed, out-listed}
 use Rattle.build_append.proofs.LentRow.{lent-room, lent-long}
 use Rattle.build_mass.proofs.MassRows.{no-mass-row, mass-row, row-dropped, row-added}

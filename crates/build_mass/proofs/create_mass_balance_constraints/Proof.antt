@@ -7,10 +7,10 @@ use lib.ListN.{length, drop}
 use Rattle.pywr.specs.Rows.{columnMap}
 use Rattle.pywr.specs.FixedRows.{massRowsFrom}
 use Rattle.pywr.specs.Programme.{Row}
-use Rattle.build_append.specs.LpBuilder.{Held}
+use Rattle.build_append.specs.LpBuilder.{RowsHeld}
 use Rattle.build_node_row.specs.Tables.{networkOf}
 use Rattle.build_append.proofs.AddingRows.{Adding, adding-first, adding-holding}
-use Rattle.build_append.proofs.NodeRows.{node-more, node-over, nodes-done}
+use Rattle.build_append.proofs.NodeFixedRows.{node-more, node-over, nodes-done}
 use Rattle.build_mass.proofs.MassRows.{by-node}
 use borrow.Author.Needs.{needs}
 use Rattle.build_mass.proofs.create_mass_balance_constraints.Statement.{statement}
@@ -18,7 +18,7 @@ use Rattle.build_mass.proofs.create_mass_balance_constraints.Tie as tie
 
 abbrev Inv-loop : tie.InvT-loop
 Inv-loop s c first-in next-in first-out next-out edge-to-col words₀ numbers₀ columns₀ nodes filled₀ i₀ words numbers columns filled i =
-    (i ≤ nodes) × ((rows : List Row) → Held rows words₀ numbers₀ filled₀
+    (i ≤ nodes) × ((rows : List Row) → RowsHeld rows words₀ numbers₀ filled₀
     → Adding (rows ++ massRowsFrom (columnMap (networkOf s c)) 0 (networkOf s c .nodes)) (massRowsFrom (columnMap (networkOf s c)) i (drop i (networkOf s c .nodes))) words₀ words numbers filled)
     × (length words ≡ length words₀) × (length numbers ≡ length numbers₀)
 

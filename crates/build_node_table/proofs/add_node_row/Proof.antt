@@ -1,6 +1,6 @@
 -- `build_node_table::add_node_row` meets its contract. Assumes nothing.
 use native.Mathlib.Omega.{arith}
-use Rattle.build_node_table.specs.NodeRows.{joined}
+use Rattle.build_node_table.specs.NodeTable.{joined}
 use Rattle.build_node_table.proofs.Table.{place-fits, row-full, row-placed}
 use borrow.Author.Needs.{needs}
 use Rattle.build_node_table.proofs.add_node_row.Statement.{statement}

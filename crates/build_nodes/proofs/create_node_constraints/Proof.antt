@@ -5,18 +5,18 @@ use native.Mathlib.Omega.{arith}
 use lib.ListN.{length}
 use Rattle.pywr.specs.Rows.{columnMap}
 use Rattle.build_node_row.specs.Tables.{networkOf}
-use Rattle.build_node_table.specs.NodeRows.{NodeRowsHeld, requestsBefore}
+use Rattle.build_node_table.specs.NodeTable.{NodeRowsHeld, requestsBefore}
 use Rattle.build_nodes.proofs.NodeOrder.{node-under, order-first, order-full, order-done}
 use borrow.Author.Needs.{needs}
 use Rattle.build_nodes.proofs.create_node_constraints.Statement.{statement}
 use Rattle.build_nodes.proofs.create_node_constraints.Tie as tie
 
 abbrev Inv-loop : tie.InvT-loop
-Inv-loop s c first-in next-in first-out next-out edge-to-col edge-columns first-listing next-listing sentinel words₀ numbers₀ columns₀ nodes rows₀ i₀ words numbers columns rows i =
+Inv-loop s c first-in next-in first-out next-out edge-to-col edge-columns first-membership next-membership sentinel words₀ numbers₀ columns₀ nodes rows₀ i₀ words numbers columns rows i =
     NodeRowsHeld sentinel (requestsBefore (columnMap (networkOf s c)) i) words numbers rows × (length words ≡ length words₀) × (length numbers ≡ length numbers₀)
 
 abbrev μ-loop : tie.MeasureT-loop
-μ-loop s c first-in next-in first-out next-out edge-to-col edge-columns first-listing next-listing sentinel words₀ numbers₀ columns₀ nodes rows₀ i₀ words numbers columns rows i = nodes - i
+μ-loop s c first-in next-in first-out next-out edge-to-col edge-columns first-membership next-membership sentinel words₀ numbers₀ columns₀ nodes rows₀ i₀ words numbers columns rows i = nodes - i
 
 loop-holds : tie.Need-loop-holds Inv-loop μ-loop
 loop-holds c =

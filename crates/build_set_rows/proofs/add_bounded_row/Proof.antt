@@ -4,7 +4,7 @@ use Prim.Native.Nat.{_+_}
 use native.Mathlib.Omega.{arith}
 use lib.Ieee.{ofBits}
 use Rattle.pywr.specs.Numbers.{zero64}
-use Rattle.build_append.proofs.HeldLaws.{held-few}
+use Rattle.build_append.proofs.RowsHeldLaws.{held-few}
 use Rattle.build_append.proofs.LentRow.{lent-room, lent-long, lent-row}
 use borrow.Author.Needs.{needs}
 use Rattle.build_set_rows.proofs.add_bounded_row.Statement.{statement}

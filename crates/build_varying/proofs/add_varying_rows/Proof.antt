@@ -3,7 +3,7 @@ use mathlib.Core.Path.{_≡_, refl, sym, _∙_, ap}
 use native.Mathlib.Omega.{arith}
 use Rattle.network_laws.proofs.Index.{aggregate-count, virtual-storage-count}
 use Rattle.build_node_row.specs.Tables.{networkOf}
-use Rattle.build_varying.proofs.Varying.{rows₁, rows₂, nodes-full, aggregates-full, storages-full, full-only, nodes-holding, aggregates-holding, all-laid, asks-few}
+use Rattle.build_varying.proofs.Varying.{rows₁, rows₂, nodes-full, aggregates-full, virtual-storages-full, full-only, nodes-holding, aggregates-holding, all-laid, asks-few}
 use borrow.Author.Needs.{needs}
 use Rattle.build_varying.proofs.add_varying_rows.Statement.{statement}
 use Rattle.build_varying.proofs.add_varying_rows.Tie as tie
@@ -84,7 +84,7 @@ returns-3 c =
     let c36 = c29 .before .before .before .before .before .before .before in
     let h = c29 .create-node-constraints .ensures .done _ (c23 .n .given .1) in
     let g = c17 .create-aggregated-node-constraints .ensures (rows₁ (c36 .args .sentinel) (networkOf (c36 .args .s .now) (c36 .args .c))) (h .held) in
-    full-only _ _ _ _ (storages-full (c36 .args .sentinel) (networkOf (c36 .args .s .now) (c36 .args .c)) (c6 .create-virtual-storage-constraints .ensures (rows₂ (c36 .args .sentinel) (networkOf (c36 .args .s .now) (c36 .args .c))) (g .held _ (c11 .a .given .1)) .full (c .enum-told3 .given .1)))
+    full-only _ _ _ _ (virtual-storages-full (c36 .args .sentinel) (networkOf (c36 .args .s .now) (c36 .args .c)) (c6 .create-virtual-storage-constraints .ensures (rows₂ (c36 .args .sentinel) (networkOf (c36 .args .s .now) (c36 .args .c))) (g .held _ (c11 .a .given .1)) .full (c .enum-told3 .given .1)))
 
 same-length-7 : tie.Need-same-length-7
 same-length-7 c =

@@ -6,22 +6,22 @@ use mathlib.Core.List.{List, map}
 use lib.ListN.{length}
 use Rattle.pywr.specs.Rows.{Element}
 use Rattle.pywr.specs.VaryingRows.{freshRow}
-use Rattle.pywr.proofs.StoreLaws.{storage-wide}
+use Rattle.pywr.proofs.StoreLaws.{virtual-storage-wide}
 use Rattle.fields.specs.Records.{recordsEnd}
 use Rattle.network_virtual_storage.specs.VirtualStorage.{virtualStorageEnd}
-use Rattle.build_append.specs.LpBuilder.{Held}
+use Rattle.build_append.specs.LpBuilder.{RowsHeld}
 use Rattle.build_node_row.specs.Tables.{networkOf}
 use Rattle.build_join.proofs.JoinedLaws.{Asked, asked-none, asked-more, asked-full, asked-all, place-fits}
-use Rattle.build_virtual_storages.specs.StorageRows.{storageRows, storageTable}
-use Rattle.build_virtual_storages.proofs.StorageLaws.{asked-count, asked-under, asked-row, table-none, table-more, entry-same, storage-check, fields-within, storage-next}
+use Rattle.build_virtual_storages.specs.VirtualStorageRows.{virtualStorageRows, virtualStorageTable}
+use Rattle.build_virtual_storages.proofs.VirtualStorageLaws.{asked-count, asked-under, asked-row, table-none, table-more, entry-same, virtual-storage-check, fields-within, virtual-storage-next}
 use borrow.Author.Needs.{needs}
 use Rattle.build_virtual_storages.proofs.create_virtual_storage_constraints.Statement.{statement}
 use Rattle.build_virtual_storages.proofs.create_virtual_storage_constraints.Tie as tie
 
 abbrev Inv-loop : tie.InvT-loop
 Inv-loop s c first-in next-in first-out next-out edge-to-col sentinel words₀ numbers₀ columns₀ at₀ filled₀ i₀ words numbers columns at filled i =
-    ((rows : List (List Element)) → Held (map (freshRow sentinel) rows) words₀ numbers₀ filled₀
-    → Asked sentinel (storageRows (networkOf s c)) 24652 6 (storageTable (networkOf s c)) rows words₀ i words numbers filled)
+    ((rows : List (List Element)) → RowsHeld (map (freshRow sentinel) rows) words₀ numbers₀ filled₀
+    → Asked sentinel (virtualStorageRows (networkOf s c)) 24652 6 (virtualStorageTable (networkOf s c)) rows words₀ i words numbers filled)
     × (at ≡ recordsEnd (virtualStorageEnd s) i (c .«virtual_storages_at»))
     × (i ≤ c .«virtual_storages»)
     × (length words ≡ length words₀)
@@ -42,7 +42,7 @@ add-virtual-storage-row-requires c κs =
     let l = c .before .before .before .before .before .loop in
     let lt = c .before .before .before .if1 .taken in
     let a = l .inv .0 (t .pre .3 .rows) (t .pre .3 .held) in
-    (t .pre .0, storage-check _ (t .args .c) (t .pre .0 .sections) _ _ lt (l .inv .1), omega (arith, l .inv .3, t .pre .1), omega (arith, l .inv .4, t .pre .2), record { rows = _; held = a .held })
+    (t .pre .0, virtual-storage-check _ (t .args .c) (t .pre .0 .sections) _ _ lt (l .inv .1), omega (arith, l .inv .3, t .pre .1), omega (arith, l .inv .4, t .pre .2), record { rows = _; held = a .held })
 
 same-length : tie.Need-same-length Inv-loop μ-loop
 same-length c =
@@ -70,17 +70,17 @@ active-period-requires c κs =
     let t = c .before .before .before .before .before .before .before .before .before .before .before .before .before .before .before .before .before in
     let l = c .before .before .before .before .before .before .before .before .before .before .before .before .before .loop in
     let lt = c .before .before .before .before .before .before .before .before .before .before .before .if1 .taken in
-    fields-within _ _ _ (storage-check _ (t .args .c) (t .pre .0 .sections) _ _ lt (l .inv .1))
+    fields-within _ _ _ (virtual-storage-check _ (t .args .c) (t .pre .0 .sections) _ _ lt (l .inv .1))
 
-mul-put-storage : tie.Need-mul-put-storage Inv-loop μ-loop
-mul-put-storage c =
-    let few = c .before .before .before .before .before .before .before .before .before .before .before .before .before .before .before .before .before .before .before .pre .0 .sections .few-storages in
+mul-put-virtual-storage : tie.Need-mul-put-virtual-storage Inv-loop μ-loop
+mul-put-virtual-storage c =
+    let few = c .before .before .before .before .before .before .before .before .before .before .before .before .before .before .before .before .before .before .before .pre .0 .sections .few-virtual-storages in
     let lt = c .before .before .before .before .before .before .before .before .before .before .before .before .before .if1 .taken in
     search needs
 
-add-put-storage : tie.Need-add-put-storage Inv-loop μ-loop
-add-put-storage c =
-    let few = c .before .before .before .before .before .before .before .before .before .before .before .before .before .before .before .before .before .before .before .pre .0 .sections .few-storages in
+add-put-virtual-storage : tie.Need-add-put-virtual-storage Inv-loop μ-loop
+add-put-virtual-storage c =
+    let few = c .before .before .before .before .before .before .before .before .before .before .before .before .before .before .before .before .before .before .before .pre .0 .sections .few-virtual-storages in
     let lt = c .before .before .before .before .before .before .before .before .before .before .before .before .before .if1 .taken in
     search needs
 
@@ -97,24 +97,24 @@ row-word-requires c κs =
     let a = l .inv .0 (t .pre .3 .rows) (t .pre .3 .held) in
     place-fits _ _ _ _ _ _ _ (omega arith) _ _ _ _ _ _ _ _ (asked-under _ (t .args .c) (t .pre .0 .sections) _ _ lt (l .inv .1)) (asked-row _ (t .args .c) (t .pre .0 .sections) _ _ lt (l .inv .1)) a (c9 .add-virtual-storage-row .ensures _ (a .held)) _ _ (c3 .r .given .1)
 
-put-storage-requires : tie.Need-put-storage-requires Inv-loop μ-loop
-put-storage-requires c κs =
+put-virtual-storage-requires : tie.Need-put-virtual-storage-requires Inv-loop μ-loop
+put-virtual-storage-requires c κs =
     let t = c .before .before .before .before .before .before .before .before .before .before .before .before .before .before .before .before .before .before .before .before in
     let l = c .before .before .before .before .before .before .before .before .before .before .before .before .before .before .before .before .loop in
     let lt = c .before .before .before .before .before .before .before .before .before .before .before .before .before .before .if1 .taken in
     let call = c .before .before .before .before .before .before .before .before .before .before .add-virtual-storage-row in
-    omega (arith, call .kept .1 .1 .1 .1 .1 .1 .1 .1 .1 .0, l .inv .3, t .pre .1, t .pre .0 .sections .few-storages, lt)
+    omega (arith, call .kept .1 .1 .1 .1 .1 .1 .1 .1 .1 .0, l .inv .3, t .pre .1, t .pre .0 .sections .few-virtual-storages, lt)
 
 virtual-storage-end-requires : tie.Need-virtual-storage-end-requires Inv-loop μ-loop
 virtual-storage-end-requires c κs =
     let t = c .before .before .before .before .before .before .before .before .before .before .before .before .before .before .before .before .before .before .before .before .before .before .before in
     let l = c .before .before .before .before .before .before .before .before .before .before .before .before .before .before .before .before .before .before .before .loop in
     let lt = c .before .before .before .before .before .before .before .before .before .before .before .before .before .before .before .before .before .if1 .taken in
-    fields-within _ _ _ (storage-check _ (t .args .c) (t .pre .0 .sections) _ _ lt (l .inv .1))
+    fields-within _ _ _ (virtual-storage-check _ (t .args .c) (t .pre .0 .sections) _ _ lt (l .inv .1))
 
 add-i : tie.Need-add-i Inv-loop μ-loop
 add-i c =
-    let few = c .before .before .before .before .before .before .before .before .before .before .before .before .before .before .before .before .before .before .before .before .before .before .before .before .pre .0 .sections .few-storages in
+    let few = c .before .before .before .before .before .before .before .before .before .before .before .before .before .before .before .before .before .before .before .before .before .before .before .before .pre .0 .sections .few-virtual-storages in
     let lt = c .before .before .before .before .before .before .before .before .before .before .before .before .before .before .before .before .before .before .if1 .taken in
     search needs
 
@@ -138,13 +138,13 @@ loop-again c =
     let call = c14 .add-virtual-storage-row in (
       (λ rows held.
           let a = l .inv .0 rows held in
-          asked-more _ _ _ _ _ _ _ (omega arith) _ _ _ _ _ _ _ _ (asked-under _ (t .args .c) (t .pre .0 .sections) _ _ lt (l .inv .1)) (asked-row _ (t .args .c) (t .pre .0 .sections) _ _ lt (l .inv .1)) a (call .ensures _ (a .held)) _ _ (c8 .r .given .1) _ _ _ refl (storage-wide _)
-          (omega (arith, call .kept .1 .1 .1 .1 .1 .1 .1 .1 .1 .0, l .inv .3, t .pre .1, t .pre .0 .sections .few-storages, lt))
+          asked-more _ _ _ _ _ _ _ (omega arith) _ _ _ _ _ _ _ _ (asked-under _ (t .args .c) (t .pre .0 .sections) _ _ lt (l .inv .1)) (asked-row _ (t .args .c) (t .pre .0 .sections) _ _ lt (l .inv .1)) a (call .ensures _ (a .held)) _ _ (c8 .r .given .1) _ _ _ refl (virtual-storage-wide _)
+          (omega (arith, call .kept .1 .1 .1 .1 .1 .1 .1 .1 .1 .0, l .inv .3, t .pre .1, t .pre .0 .sections .few-virtual-storages, lt))
           (table-more _ (t .args .c) (t .pre .0 .sections) _ _ lt (l .inv .1) _)
-          (entry-same _ _ _ _ _ _ _ (c3 .put-storage .ensures) (c4 .row-word .ensures) (c6 .active-period .ensures))),
-      storage-next _ (t .args .c) (t .pre .0 .sections) _ _ lt (l .inv .1) _ (c .virtual-storage-end .ensures),
+          (entry-same _ _ _ _ _ _ _ (c3 .put-virtual-storage .ensures) (c4 .row-word .ensures) (c6 .active-period .ensures))),
+      virtual-storage-next _ (t .args .c) (t .pre .0 .sections) _ _ lt (l .inv .1) _ (c .virtual-storage-end .ensures),
       omega arith,
-      c3 .put-storage .kept .0 ∙ call .kept .1 .1 .1 .1 .1 .1 .1 .1 .1 .0 ∙ l .inv .3,
+      c3 .put-virtual-storage .kept .0 ∙ call .kept .1 .1 .1 .1 .1 .1 .1 .1 .1 .0 ∙ l .inv .3,
       call .kept .1 .1 .1 .1 .1 .1 .1 .1 .1 .1 .0 ∙ l .inv .4,
     )
 
@@ -176,10 +176,10 @@ create-virtual-storage-constraints-spec =
     returns
     (λ c. search needs)
     active-period-requires
-    mul-put-storage
-    add-put-storage
+    mul-put-virtual-storage
+    add-put-virtual-storage
     row-word-requires
-    put-storage-requires
+    put-virtual-storage-requires
     virtual-storage-end-requires
     add-i
     loop-less

@@ -4,7 +4,7 @@ use Prim.Native.Nat.{_+_, _-_, _<_}
 use native.Mathlib.Omega.{arith}
 use lib.ListN.{length}
 use Rattle.pywr.specs.Bytes.{byte}
-use Rattle.build_virtual_storages.proofs.StorageLaws.{AddingParts, parts-none, parts-more, parts-all, storage-within, fields-within, part-told}
+use Rattle.build_virtual_storages.proofs.VirtualStorageLaws.{AddingParts, parts-none, parts-more, parts-all, virtual-storage-within, fields-within, part-told}
 use borrow.Author.Needs.{needs}
 use Rattle.build_virtual_storages.proofs.virtual_storage_row.Statement.{statement}
 use Rattle.build_virtual_storages.proofs.virtual_storage_row.Tie as tie
@@ -26,14 +26,14 @@ loop-holds c =
 
 part-node-requires : tie.Need-part-node-requires Inv-loop μ-loop
 part-node-requires c κs =
-    (storage-within _ _ _ (c .before .before .before .before .before .pre .1), omega (arith, c .before .before .part-count .ensures .0, c .loop-test .taken))
+    (virtual-storage-within _ _ _ (c .before .before .before .before .before .pre .1), omega (arith, c .before .before .part-count .ensures .0, c .loop-test .taken))
 
 part-factor-requires : tie.Need-part-factor-requires Inv-loop μ-loop
 part-factor-requires c κs =
     let t = c .before .before .before .before .before .before in
     let l = c .before .before .loop in
     let lt : l .k < byte (t .args .s .now) (t .args .at + 7) = omega (arith, c .before .before .before .part-count .ensures .0, c .before .loop-test .taken) in
-    (storage-within _ _ _ (t .pre .1), lt, part-told _ _ _ (t .pre .1) _ lt .factor)
+    (virtual-storage-within _ _ _ (t .pre .1), lt, part-told _ _ _ (t .pre .1) _ lt .factor)
 
 add-node-requires : tie.Need-add-node-requires Inv-loop μ-loop
 add-node-requires c κs =

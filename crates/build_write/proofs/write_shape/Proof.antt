@@ -1,7 +1,7 @@
 -- `build_write::write_shape` meets its contract. Assumes nothing.
 use mathlib.Core.Path.{_∙_}
 use native.Mathlib.Omega.{arith}
-use Rattle.build_write.proofs.ShapeLaws.{node-rows-room, aggregates-room, storages-room, node-rows-held, aggregates-held, storages-held, written}
+use Rattle.build_write.proofs.ShapeLaws.{node-rows-room, aggregates-room, virtual-storages-room, node-rows-held, aggregates-held, virtual-storages-held, written}
 use borrow.Author.Needs.{needs}
 use Rattle.build_write.proofs.write_shape.Statement.{statement}
 use Rattle.build_write.proofs.write_shape.Tie as tie
@@ -30,7 +30,7 @@ copy-u16-requires-5 c κs =
 mul-copy-u16-4 : tie.Need-mul-copy-u16-4
 mul-copy-u16-4 c =
     let c27 = c .before .before .before .before .before .before .before .before .before .before .before .before .before .before .before .before .before .before .before .before .before .before .before .before .before .before .before in
-    record { fits = omega (arith, c27 .pre .0 .storages) }
+    record { fits = omega (arith, c27 .pre .0 .virtualStorages) }
 
 copy-u16-requires-6 : tie.Need-copy-u16-requires-6
 copy-u16-requires-6 c κs =
@@ -40,7 +40,7 @@ copy-u16-requires-6 c κs =
     let c18 = c13 .before .before .before .before .before in
     let c23 = c18 .before .before .before .before .before in
     let c27 = c23 .before .before .before .before in
-    (storages-room _ _ _ _ _ _ _ (c4 .copy-u165 .kept .0) (c8 .copy-u164 .kept .0) (c13 .copy-u163 .kept .0) (c18 .copy-u162 .kept .0) (c23 .copy-u16 .kept .0) (c27 .pre .0 .storages) (c27 .pre .2), storages-held _ _ (c27 .pre .0 .storages) (c27 .pre .1))
+    (virtual-storages-room _ _ _ _ _ _ _ (c4 .copy-u165 .kept .0) (c8 .copy-u164 .kept .0) (c13 .copy-u163 .kept .0) (c18 .copy-u162 .kept .0) (c23 .copy-u16 .kept .0) (c27 .pre .0 .virtualStorages) (c27 .pre .2), virtual-storages-held _ _ (c27 .pre .0 .virtualStorages) (c27 .pre .1))
 
 same-length : tie.Need-same-length
 same-length c =

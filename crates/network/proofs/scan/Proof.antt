@@ -2,16 +2,16 @@
 use native.Mathlib.Omega.{arith}
 use mathlib.Core.Path.{sym, _∙_}
 use Prim.Native.Nat.{_+_, _-_}
-use Rattle.network.proofs.ScanLoop.{ScanInvariant, first, fixed-at, node-more, edge-more, aggregate-more, storage-more, refusal, accepted, placed}
+use Rattle.network.proofs.ScanLoop.{ScanInvariant, first, fixed-at, node-more, edge-more, aggregate-more, virtual-storage-more, refusal, accepted, placed}
 use borrow.Author.Needs.{needs}
 use Rattle.network.proofs.scan.Statement.{statement}
 use Rattle.network.proofs.scan.Tie as tie
 
 abbrev Inv-loop : tie.InvT-loop
-Inv-loop s at₀ stage₀ n₀ e₀ a₀ v₀ storages-at₀ at stage n e a v storages-at = ScanInvariant s at stage n e a v storages-at
+Inv-loop s at₀ stage₀ n₀ e₀ a₀ v₀ storages-at₀ at stage n e a v virtual-storages-at = ScanInvariant s at stage n e a v virtual-storages-at
 
 abbrev μ-loop : tie.MeasureT-loop
-μ-loop s at₀ stage₀ n₀ e₀ a₀ v₀ storages-at₀ at stage n e a v storages-at = 864 - (n + e + a + v)
+μ-loop s at₀ stage₀ n₀ e₀ a₀ v₀ storages-at₀ at stage n e a v virtual-storages-at = 864 - (n + e + a + v)
 
 loop-holds : tie.Need-loop-holds Inv-loop μ-loop
 loop-holds c =
@@ -33,7 +33,7 @@ loop-less : tie.Need-loop-less Inv-loop μ-loop
 loop-less c =
     let h = rw (c .before .t2 .given .1) at (c .before .before .before .check-record .ensures .1) in
     let i = c .before .before .before .before .before .loop .inv in
-    omega (arith, h .1, i .few-nodes, i .few-edges, i .few-aggregates, i .few-storages)
+    omega (arith, h .1, i .few-nodes, i .few-edges, i .few-aggregates, i .few-virtual-storages)
 
 loop-again : tie.Need-loop-again Inv-loop μ-loop
 loop-again c =
@@ -48,7 +48,7 @@ loop-less-2 : tie.Need-loop-less-2 Inv-loop μ-loop
 loop-less-2 c =
     let h = rw (c .before .t3 .given .1) at (c .before .before .before .check-record .ensures .1) in
     let i = c .before .before .before .before .before .loop .inv in
-    omega (arith, h .1, i .few-nodes, i .few-edges, i .few-aggregates, i .few-storages)
+    omega (arith, h .1, i .few-nodes, i .few-edges, i .few-aggregates, i .few-virtual-storages)
 
 loop-again-2 : tie.Need-loop-again-2 Inv-loop μ-loop
 loop-again-2 c =
@@ -63,7 +63,7 @@ loop-less-3 : tie.Need-loop-less-3 Inv-loop μ-loop
 loop-less-3 c =
     let h = rw (c .before .t4 .given .1) at (c .before .before .before .check-record .ensures .1) in
     let i = c .before .before .before .before .before .loop .inv in
-    omega (arith, h .1, i .few-nodes, i .few-edges, i .few-aggregates, i .few-storages)
+    omega (arith, h .1, i .few-nodes, i .few-edges, i .few-aggregates, i .few-virtual-storages)
 
 loop-again-3 : tie.Need-loop-again-3 Inv-loop μ-loop
 loop-again-3 c =
@@ -78,12 +78,12 @@ loop-less-4 : tie.Need-loop-less-4 Inv-loop μ-loop
 loop-less-4 c =
     let h = rw (c .before .t5 .given .1) at (c .before .before .before .check-record .ensures .1) in
     let i = c .before .before .before .before .before .loop .inv in
-    omega (arith, h .1, i .few-nodes, i .few-edges, i .few-aggregates, i .few-storages)
+    omega (arith, h .1, i .few-nodes, i .few-edges, i .few-aggregates, i .few-virtual-storages)
 
 loop-again-4 : tie.Need-loop-again-4 Inv-loop μ-loop
 loop-again-4 c =
     let h = rw (c .before .t5 .given .1) at (c .before .before .before .check-record .ensures .1) in
-    storage-more _ _ _ _ _ _ _ _ (c .before .before .before .before .before .loop .inv) _ (c .before .before .before .before .loop-test .taken) (sym (c .before .before .before .check-record .ensures .0) ∙ c .before .t5 .given .1) h
+    virtual-storage-more _ _ _ _ _ _ _ _ (c .before .before .before .before .before .loop .inv) _ (c .before .before .before .before .loop-test .taken) (sym (c .before .before .before .check-record .ensures .0) ∙ c .before .t5 .given .1) h
 
 returns-2 : tie.Need-returns-2 Inv-loop μ-loop
 returns-2 c =

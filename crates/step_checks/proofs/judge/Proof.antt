@@ -24,7 +24,7 @@ read-step-requires c κs =
     let c7 = c1 .before .before .before .before .before .before in
     let s = ofRuns (c7 .args .columns .now) (c7 .args .row-starts .now) (c7 .args .shape .now) in
     let n = shaped s (sym (c1 .well-shaped .ensures s refl refl refl) ∙ not-false (c1 .well-shaped .result) (c .if1 .left)) .counts in
-    (c7 .pre .2, n .nodes, n .aggregates, n .storages)
+    (c7 .pre .2, n .nodes, n .aggregates, n .virtualStorages)
 
 enum-known-read : tie.Need-enum-known-read
 enum-known-read c = search needs
@@ -42,7 +42,7 @@ find-intervals-requires c κs =
     let s = ofRuns (c11 .args .columns .now) (c11 .args .row-starts .now) (c11 .args .shape .now) in
     let ok = sym (c5 .well-shaped .ensures s refl refl refl) ∙ not-false (c5 .well-shaped .result) (c4 .if1 .left) in
     let n = shaped s ok .counts in
-    (c11 .pre .2, c11 .pre .3, n .nodes, n .aggregates, n .storages, long s (c11 .args .file .now) (c11 .args .work .now) ok (sym (c1 .enum-told .given .1) ∙ c3 .read-step .ensures s refl))
+    (c11 .pre .2, c11 .pre .3, n .nodes, n .aggregates, n .virtualStorages, long s (c11 .args .file .now) (c11 .args .work .now) ok (sym (c1 .enum-told .given .1) ∙ c3 .read-step .ensures s refl))
 
 returns-2 : tie.Need-returns-2
 returns-2 c =

@@ -74,7 +74,7 @@ returns-4 c =
       c7 .enum-told2 .given .1,
       ← (c6 .check-aggregates .ensures),
       c4 .enum-told3 .given .1,
-      ← (c3 .check-storages .ensures),
+      ← (c3 .check-virtual-storages .ensures),
       c .before .volumes .given .1,
     )
 
@@ -99,7 +99,7 @@ returns-5 c =
       c7 .enum-told2 .given .1,
       ← (c6 .check-aggregates .ensures),
       c4 .enum-told3 .given .1,
-      ← (c3 .check-storages .ensures),
+      ← (c3 .check-virtual-storages .ensures),
       c .before .enum-told4 .given .1,
     ) (c .check-end .ensures)
 

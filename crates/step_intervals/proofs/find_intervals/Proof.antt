@@ -24,7 +24,7 @@ returns-2 c =
     let c19 = c15 .before .before .before .before in
     λ s e. all-found s (c19 .args .shape .now) (c19 .args .file .now) e (c15 .f64-at .result) (c15 .f64-at .ensures) (c14 .kept-sentinel .result)
     (c14 .kept-sentinel .ensures) _ _ _ (c12 .find-node-intervals .ensures) (c19 .pre .2) (c19 .pre .3) (c8 .enum-told .given .1) _ _ _ (c6 .find-aggregate-intervals .ensures)
-    (c2 .find-storage-intervals .ensures)
+    (c2 .find-virtual-storage-intervals .ensures)
 
 pub find-intervals-spec : {M : Type 1} → statement M
 find-intervals-spec =

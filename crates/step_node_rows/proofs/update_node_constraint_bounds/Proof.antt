@@ -2,7 +2,7 @@
 -- Assumes nothing.
 use Prim.Native.Nat.{_-_}
 use native.Mathlib.Omega.{arith}
-use Rattle.step_node_rows.proofs.NodeRows.{Applied, applied-none, applied-more, applied-all, long-still}
+use Rattle.step_node_rows.proofs.NodeRowLaws.{Applied, applied-none, applied-more, applied-all, long-still}
 use borrow.Author.Needs.{needs}
 use Rattle.step_node_rows.proofs.update_node_constraint_bounds.Statement.{statement}
 use Rattle.step_node_rows.proofs.update_node_constraint_bounds.Tie as tie

@@ -3,7 +3,7 @@ use Prim.Native.Nat.{_+_}
 use native.Mathlib.Omega.{arith}
 use lib.Ieee.{nan}
 use Rattle.pywr.specs.Numbers.{zero64}
-use Rattle.step_work.specs.Held.{heldAt}
+use Rattle.step_work.specs.WorkRun.{heldAt}
 use Rattle.laws.proofs.Runs.{getD-any}
 use borrow.Author.Needs.{needs}
 use Rattle.step_row_bounds.proofs.held_interval.Statement.{statement}

@@ -60,11 +60,11 @@ apply-intervals-requires-2 c κs =
     let c37 = c27 .before .before .before .before .before .before .before .before .before .before in
     let p = c37 .pre in
     let f = fits (c37) in (
-      rw (c2 .wide2 .ensures .0) (f .storages),
+      rw (c2 .wide2 .ensures .0) (f .virtualStorages),
       omega (arith, c8 .apply-intervals .kept .0, c19 .update-node-constraint-bounds .kept .0, c27 .reset-row-bounds .kept .0, p .row-lower-long),
       omega (arith, c8 .apply-intervals .kept .1 .0, c19 .update-node-constraint-bounds .kept .1 .0, c27 .reset-row-bounds .kept .1 .0, p .row-upper-long),
       p .work-long,
-      omega (arith, c2 .wide2 .ensures .0, f .storages-few),
+      omega (arith, c2 .wide2 .ensures .0, f .virtual-storages-few),
     )
 
 same-length : tie.Need-same-length

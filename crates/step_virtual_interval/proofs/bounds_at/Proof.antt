@@ -1,11 +1,11 @@
 -- `bounds_at` meets its contract. Assumes nothing.
-use Rattle.step_file.specs.Decoded.{storageStepAt}
+use Rattle.step_file.specs.Decoded.{virtualStorageStepAt}
 use borrow.Author.Needs.{needs}
 use Rattle.step_virtual_interval.proofs.bounds_at.Statement.{statement}
 use Rattle.step_virtual_interval.proofs.bounds_at.Tie as tie
 
 returns : tie.Need-returns
-unfolding storageStepAt
+unfolding virtualStorageStepAt
 returns c =
     rw (← (c .before .before .before .f64-at .ensures), ← (c .before .before .f64-at2 .ensures), ← (c .before .f64-at3 .ensures)) (c .virtual-bounds .ensures)
 

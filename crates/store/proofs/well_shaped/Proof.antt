@@ -71,9 +71,9 @@ aggregates-fit-requires : tie.Need-aggregates-fit-requires
 aggregates-fit-requires c κs =
     (c .before .before .before .before .before .before .before .before .before .before .before .before .pre .2, counts (c .before .before .before .before .before .before) .aggregates)
 
-storages-fit-requires : tie.Need-storages-fit-requires
-storages-fit-requires c κs =
-    (c .before .before .before .before .before .before .before .before .before .before .before .before .before .pre .2, counts (c .before .before .before .before .before .before .before) .storages)
+virtual-storages-fit-requires : tie.Need-virtual-storages-fit-requires
+virtual-storages-fit-requires c κs =
+    (c .before .before .before .before .before .before .before .before .before .before .before .before .before .pre .2, counts (c .before .before .before .before .before .before .before) .virtualStorages)
 
 returns-3 : tie.Need-returns-3
 unfolding wellShaped
@@ -89,7 +89,7 @@ returns-3 c =
     λ s ec er es.
     let at-starts = (c7) in
     let at-columns = (c5) in
-    rw (counts-and-sentinel (c8) s es, sym (at-starts .starts-rise .ensures s er es) ∙ not-false (at-starts .starts-rise .result) (c6 .if2 .left), at-columns .columns-rise .ensures s ec er es, c4 .nodes-fit .ensures s es, c3 .edges-fit .ensures s es, c2 .node-rows-fit .ensures s ec er es, c1 .aggregates-fit .ensures s es, c .storages-fit .ensures s es)
+    rw (counts-and-sentinel (c8) s es, sym (at-starts .starts-rise .ensures s er es) ∙ not-false (at-starts .starts-rise .result) (c6 .if2 .left), at-columns .columns-rise .ensures s ec er es, c4 .nodes-fit .ensures s es, c3 .edges-fit .ensures s es, c2 .node-rows-fit .ensures s ec er es, c1 .aggregates-fit .ensures s es, c .virtual-storages-fit .ensures s es)
 
 pub well-shaped-spec : {M : Type 1} → statement M
 well-shaped-spec =
@@ -105,5 +105,5 @@ well-shaped-spec =
     edges-fit-requires
     node-rows-fit-requires
     aggregates-fit-requires
-    storages-fit-requires
+    virtual-storages-fit-requires
     returns-3)

@@ -11,8 +11,8 @@ use Rattle.pywr.specs.Interval.{sentinels}
 use Rattle.pywr.specs.Programme.{Row}
 use Rattle.pywr.specs.Store.{Store, entries, nodeRowEntry, nodeCount, edgeColumnCount, sentinelOf, sentinelCode}
 use Rattle.pywr.specs.Step.{adjust, applyInterval, applyNodeRows}
-use Rattle.step_work.specs.Held.{heldAt, heldFrom}
-use Rattle.step_work.proofs.HeldLaws.{held-at}
+use Rattle.step_work.specs.WorkRun.{heldAt, heldFrom}
+use Rattle.step_work.proofs.WorkRunLaws.{held-at}
 use Rattle.step_node_rows.specs.NodeConstraintBounds.{over, VaryingWritten, RunsLong, nodeRowApplied, nodeRowsApplied}
 
 -- the node row at `at`, and the rest

@@ -1,11 +1,11 @@
--- `build_virtual_storages::put_storage` meets its contract. Assumes nothing.
+-- `build_virtual_storages::put_virtual_storage` meets its contract. Assumes nothing.
 use native.Mathlib.Omega.{arith}
 use lib.ListN.{length-set}
 use Rattle.network_virtual_storage.specs.PeriodOf.{periodOf}
-use Rattle.build_virtual_storages.proofs.StorageLaws.{entry-written}
+use Rattle.build_virtual_storages.proofs.VirtualStorageLaws.{entry-written}
 use borrow.Author.Needs.{needs}
-use Rattle.build_virtual_storages.proofs.put_storage.Statement.{statement}
-use Rattle.build_virtual_storages.proofs.put_storage.Tie as tie
+use Rattle.build_virtual_storages.proofs.put_virtual_storage.Statement.{statement}
+use Rattle.build_virtual_storages.proofs.put_virtual_storage.Tie as tie
 
 slice-write-words-2 : tie.Need-slice-write-words-2
 slice-write-words-2 c =
@@ -41,8 +41,8 @@ returns c =
     let a = c6 .args in
     entry-written (a .words .now) (a .at) _ _ _ _ _ _ (periodOf (a .period)) (c4 .period-word .ensures) (c3 .date-word .ensures) (c2 .date-word2 .ensures) (c1 .date-word3 .ensures) (c .date-word4 .ensures)
 
-pub put-storage-spec : {M : Type 1} → statement M
-put-storage-spec =
+pub put-virtual-storage-spec : {M : Type 1} → statement M
+put-virtual-storage-spec =
     tie.close
     (tie.spec
     (λ c. search needs)

@@ -1,19 +1,19 @@
--- `find_storage_intervals` meets its contract. The loop's invariant: i intervals are written, none of them crossed. Assumes nothing.
+-- `find_virtual_storage_intervals` meets its contract. The loop's invariant: i intervals are written, none of them crossed. Assumes nothing.
 use mathlib.Core.Path.{refl, _∙_}
 use Prim.Native.Nat.{_+_, _-_}
 use native.Mathlib.Omega.{arith}
 use lib.ListN.{length-set}
-use Rattle.step_virtual_storage_intervals.specs.StorageIntervals.{storageNumbered}
+use Rattle.step_virtual_storage_intervals.specs.VirtualStorageIntervals.{virtualStorageNumbered}
 use Rattle.step_work.proofs.WrittenLaws.{Passed, passed-none, passed-more, passed-stops, passed-all}
 use borrow.Author.Needs.{needs}
-use Rattle.step_virtual_storage_intervals.proofs.find_storage_intervals.Statement.{statement}
-use Rattle.step_virtual_storage_intervals.proofs.find_storage_intervals.Tie as tie
+use Rattle.step_virtual_storage_intervals.proofs.find_virtual_storage_intervals.Statement.{statement}
+use Rattle.step_virtual_storage_intervals.proofs.find_virtual_storage_intervals.Tie as tie
 
 abbrev Inv-loop : tie.InvT-loop
-Inv-loop file shape days sentinel work₀ first storages i₀ work i = Passed (storageNumbered sentinel days shape file) 320 storages work₀ work i
+Inv-loop file shape days sentinel work₀ first virtualStorages i₀ work i = Passed (virtualStorageNumbered sentinel days shape file) 320 virtualStorages work₀ work i
 
 abbrev μ-loop : tie.MeasureT-loop
-μ-loop file shape days sentinel work₀ first storages i₀ work i = storages - i
+μ-loop file shape days sentinel work₀ first virtualStorages i₀ work i = virtualStorages - i
 
 loop-holds : tie.Need-loop-holds Inv-loop μ-loop
 loop-holds c =
@@ -24,7 +24,7 @@ same-length c =
     c .before .before .before .before .loop .inv .writing .long
 
 returns : tie.Need-returns Inv-loop μ-loop
-unfolding storageNumbered
+unfolding virtualStorageNumbered
 returns c =
     let c2 = c .before .before in
     let c3 = c2 .before in
@@ -32,22 +32,22 @@ returns c =
     let c5 = c4 .before in
     let c7 = c5 .before .before in
     rw (← (c5 .wide .ensures .0))
-    (passed-stops _ _ (c3 .loop-test .taken) (c2 .storage-interval .ensures ∙ rw (c7 .stores-at .ensures)) (c .before .is-crossed .ensures) (c4 .loop .inv) 15 (c .if1 .taken))
+    (passed-stops _ _ (c3 .loop-test .taken) (c2 .virtual-storage-interval .ensures ∙ rw (c7 .virtual-storages-at .ensures)) (c .before .is-crossed .ensures) (c4 .loop .inv) 15 (c .if1 .taken))
 
 slice-write-work-2 : tie.Need-slice-write-work-2 Inv-loop μ-loop
 slice-write-work-2 c =
     let c2 = c .before .before in
     let c4 = c2 .before .before in
-    omega (arith, length-set (c4 .loop .work) (320 + c4 .loop .i) (c2 .storage-interval .result .lower), c4 .loop .inv .writing .long)
+    omega (arith, length-set (c4 .loop .work) (320 + c4 .loop .i) (c2 .virtual-storage-interval .result .lower), c4 .loop .inv .writing .long)
 
 loop-again : tie.Need-loop-again Inv-loop μ-loop
-unfolding storageNumbered
+unfolding virtualStorageNumbered
 loop-again c =
     let c2 = c .before .before in
     let c3 = c2 .before in
     let c4 = c3 .before in
     let c7 = c4 .before .before .before in
-    passed-more _ _ (c3 .loop-test .taken) (c2 .storage-interval .ensures ∙ rw (c7 .stores-at .ensures)) (c .before .is-crossed .ensures) (c4 .loop .inv) _ refl (search needs)
+    passed-more _ _ (c3 .loop-test .taken) (c2 .virtual-storage-interval .ensures ∙ rw (c7 .virtual-storages-at .ensures)) (c .before .is-crossed .ensures) (c4 .loop .inv) _ refl (search needs)
     (search needs) (c .if1 .left)
 
 same-length-2 : tie.Need-same-length-2 Inv-loop μ-loop
@@ -58,8 +58,8 @@ returns-2 : tie.Need-returns-2 Inv-loop μ-loop
 returns-2 c =
     rw (← (c .before .before .wide .ensures .0)) (passed-all 15 (c .loop-test .left) (c .before .loop .inv))
 
-pub find-storage-intervals-spec : {M : Type 1} → statement M
-find-storage-intervals-spec =
+pub find-virtual-storage-intervals-spec : {M : Type 1} → statement M
+find-virtual-storage-intervals-spec =
     tie.close
     (tie.spec
     Inv-loop

@@ -12,9 +12,9 @@ use Rattle.pywr.specs.Network.{Part, Period, VirtualStorage}
 use Rattle.pywr.specs.Misshapen.{columnsRise}
 use Rattle.pywr.specs.Store.{elementsOf}
 use Rattle.pywr.specs.Rows.{Element, ColumnMap, columnMap, addNode, addParts, virtualStorageRow}
-use Rattle.pywr.specs.Programme.{StorageShape}
-use Rattle.pywr.specs.Build.{placedStorages}
-use Rattle.pywr.specs.Written.{flagWord, storageWords}
+use Rattle.pywr.specs.Programme.{VirtualStorageShape}
+use Rattle.pywr.specs.Build.{placedVirtualStorages}
+use Rattle.pywr.specs.Written.{flagWord, virtualStorageWords}
 use Rattle.pywr.proofs.ListLaws.{found-get, found-map}
 use Rattle.fields.specs.Records.{recordsAt, recordsEnd}
 use Rattle.fields.specs.declared.Checked.{Checked}
@@ -29,9 +29,9 @@ use Rattle.build_row.specs.RowBuilder.{gathered}
 use Rattle.build_append.proofs.RowLaws.{flat-snoc}
 use Rattle.build_node_row.specs.Tables.{networkOf}
 use Rattle.build_node_row.specs.NodeAdded.{NodeAdded}
-use Rattle.build_join.specs.JoinedRows.{Gathered}
+use Rattle.build_row.specs.Gathered.{Gathered}
 use Rattle.build_join.proofs.GatherLaws.{Adding, adding-none, adding-more, adding-all}
-use Rattle.build_virtual_storages.specs.StorageRows.{storageRows, storageTable}
+use Rattle.build_virtual_storages.specs.VirtualStorageRows.{virtualStorageRows, virtualStorageTable}
 
 -- ---- the parts of the virtual storage at `at`
 
@@ -78,8 +78,8 @@ module _ (file : List ℕ) (nodes at : ℕ) (passed : checkVirtualStorage file n
   told : VirtualStoragePassed file nodes at
   told = virtual-storage-passed file nodes at (virtualStorageEnd file at) passed
 
-  pub storage-within : virtualStorageEnd file at ≤ length file
-  storage-within = told .within
+  pub virtual-storage-within : virtualStorageEnd file at ≤ length file
+  virtual-storage-within = told .within
 
   pub fields-within : at + 8 ≤ length file
   fields-within = omega (arith, told .within)
@@ -92,8 +92,8 @@ module _ (file : List ℕ) (nodes at : ℕ) (passed : checkVirtualStorage file n
 pub entry-written : (words : List ℕ) (at row flag startMonth startDay endMonth endDay : ℕ) (p : Period) → flag ≡ flagWord (not (p .always))
     → startMonth ≡ p .startMonth → startDay ≡ p .startDay → endMonth ≡ p .endMonth → endDay ≡ p .endDay
     → set (set (set (set (set (set words at row) (at + 1) flag) (at + 2) startMonth) (at + 3) startDay) (at + 4) endMonth) (at + 5) endDay
-    ≡ sets words at (storageWords (record { row = row; period = p }))
-unfolding storageWords
+    ≡ sets words at (virtualStorageWords (record { row = row; period = p }))
+unfolding virtualStorageWords
 entry-written words at row flag startMonth startDay endMonth endDay p ef em ed fm fd =
     let a : at + 1 ≡ suc at = omega arith in
     let b : at + 2 ≡ suc (suc at) = omega arith in
@@ -102,62 +102,62 @@ entry-written words at row flag startMonth startDay endMonth endDay p ef em ed f
     let e : at + 5 ≡ suc (suc (suc (suc (suc at)))) = omega arith in
     rw (a, b, c, d, e, ef, em, ed, fm, fd)
 
-pub entry-same : (words words′ : List ℕ) (at row k : ℕ) (p q : Period) → words′ ≡ sets words at (storageWords (record { row = row; period = p })) → row ≡ k → p ≡ q
-    → words′ ≡ sets words at (storageWords (record { row = k; period = q }))
-entry-same words words′ at row k p q e er ep = e ∙ ap₂ (λ (j : ℕ) (z : Period). sets words at (storageWords (record { row = j; period = z }))) er ep
+pub entry-same : (words words′ : List ℕ) (at row k : ℕ) (p q : Period) → words′ ≡ sets words at (virtualStorageWords (record { row = row; period = p })) → row ≡ k → p ≡ q
+    → words′ ≡ sets words at (virtualStorageWords (record { row = k; period = q }))
+entry-same words words′ at row k p q e er ep = e ∙ ap₂ (λ (j : ℕ) (z : Period). sets words at (virtualStorageWords (record { row = j; period = z }))) er ep
 
-placed-none : (vs : List VirtualStorage) → placedStorages vs [] ≡ []
-unfolding placedStorages
+placed-none : (vs : List VirtualStorage) → placedVirtualStorages vs [] ≡ []
+unfolding placedVirtualStorages
 placed-none [] = refl
 placed-none (v ∷ vs) = refl
 
 placed-more : (vs : List VirtualStorage) (places : List ℕ) (k : ℕ) (d : VirtualStorage) → length places < length vs
-    → placedStorages vs (places ++ (k ∷ [])) ≡ placedStorages vs places ++ (record { row = k; period = getD vs (length places) d .period } ∷ [])
-unfolding placedStorages
+    → placedVirtualStorages vs (places ++ (k ∷ [])) ≡ placedVirtualStorages vs places ++ (record { row = k; period = getD vs (length places) d .period } ∷ [])
+unfolding placedVirtualStorages
 placed-more [] places k d h = absurd (omega arith)
-placed-more (v ∷ vs) [] k d h = ap (λ (l : List StorageShape). record { row = k; period = v .period } ∷ l) (placed-none vs)
-placed-more (v ∷ vs) (p ∷ ps) k d h = ap (λ (l : List StorageShape). record { row = p; period = v .period } ∷ l) (placed-more vs ps k d (omega arith))
+placed-more (v ∷ vs) [] k d h = ap (λ (l : List VirtualStorageShape). record { row = k; period = v .period } ∷ l) (placed-none vs)
+placed-more (v ∷ vs) (p ∷ ps) k d h = ap (λ (l : List VirtualStorageShape). record { row = p; period = v .period } ∷ l) (placed-more vs ps k d (omega arith))
 
 -- ---- the virtual storages of a network
 
 module _ (file : List ℕ) (c : Counts) (sections : Sections file (c .nodes) (c .edges) (c .aggregates) (c .«virtual_storages») (c .«virtual_storages_at»)) where
-  abbrev storages : List VirtualStorage
-  storages = networkOf file c .virtualStorages
+  abbrev virtualStorages : List VirtualStorage
+  virtualStorages = networkOf file c .virtualStorages
 
-  count : length storages ≡ c .«virtual_storages»
+  count : length virtualStorages ≡ c .«virtual_storages»
   count = virtual-storage-count file (c .nodes) (c .edges) (c .aggregates) (c .«virtual_storages»)
 
-  pub asked-count : length (storageRows (networkOf file c)) ≡ c .«virtual_storages»
-  asked-count = length-map storages (virtualStorageRow (columnMap (networkOf file c))) ∙ count
+  pub asked-count : length (virtualStorageRows (networkOf file c)) ≡ c .«virtual_storages»
+  asked-count = length-map virtualStorages (virtualStorageRow (columnMap (networkOf file c))) ∙ count
 
-  pub table-none : storageTable (networkOf file c) [] ≡ []
+  pub table-none : virtualStorageTable (networkOf file c) [] ≡ []
   unfolding flatMap
-  table-none = ap (flatMap storageWords) (placed-none storages)
+  table-none = ap (flatMap virtualStorageWords) (placed-none virtualStorages)
 
   module _ (i at : ℕ) (lt : i < c .«virtual_storages») (e : at ≡ recordsEnd (virtualStorageEnd file) i (c .«virtual_storages_at»)) where
-    pub storage-check : checkVirtualStorage file (c .nodes) at ≡ Checked.Next (virtualStorageEnd file at)
-    storage-check = rw e (sections .storages-pass i lt ∙ ap (λ (x : ℕ). Checked.Next x) (end-more (virtualStorageEnd file) i (c .«virtual_storages_at»)))
+    pub virtual-storage-check : checkVirtualStorage file (c .nodes) at ≡ Checked.Next (virtualStorageEnd file at)
+    virtual-storage-check = rw e (sections .virtual-storages-pass i lt ∙ ap (λ (x : ℕ). Checked.Next x) (end-more (virtualStorageEnd file) i (c .«virtual_storages_at»)))
 
-    pub storage-next : (next : ℕ) → next ≡ virtualStorageEnd file at → next ≡ recordsEnd (virtualStorageEnd file) (i + 1) (c .«virtual_storages_at»)
-    storage-next next q = q ∙ ap (virtualStorageEnd file) e ∙ sym (end-more (virtualStorageEnd file) i (c .«virtual_storages_at»))
+    pub virtual-storage-next : (next : ℕ) → next ≡ virtualStorageEnd file at → next ≡ recordsEnd (virtualStorageEnd file) (i + 1) (c .«virtual_storages_at»)
+    virtual-storage-next next q = q ∙ ap (virtualStorageEnd file) e ∙ sym (end-more (virtualStorageEnd file) i (c .«virtual_storages_at»))
 
-    storage-is : getD storages i (virtualStorageAt file 0) ≡ virtualStorageAt file at
-    storage-is =
+    virtual-storage-is : getD virtualStorages i (virtualStorageAt file 0) ≡ virtualStorageAt file at
+    virtual-storage-is =
         virtual-storage-index file (c .nodes) (c .edges) (c .aggregates) (c .«virtual_storages») i (virtualStorageAt file 0) lt
-        ∙ ap (virtualStorageAt file) (ap (recordsEnd (virtualStorageEnd file) i) (sym (sections .storages)) ∙ sym e)
+        ∙ ap (virtualStorageAt file) (ap (recordsEnd (virtualStorageEnd file) i) (sym (sections .virtualStorages)) ∙ sym e)
 
-    pub asked-under : i < length (storageRows (networkOf file c))
+    pub asked-under : i < length (virtualStorageRows (networkOf file c))
     asked-under = omega (arith, asked-count)
 
-    pub asked-row : getD (storageRows (networkOf file c)) i [] ≡ virtualStorageRow (columnMap (networkOf file c)) (virtualStorageAt file at)
+    pub asked-row : getD (virtualStorageRows (networkOf file c)) i [] ≡ virtualStorageRow (columnMap (networkOf file c)) (virtualStorageAt file at)
     asked-row =
-        found-get (storageRows (networkOf file c)) i _ [] (found-map (virtualStorageRow (columnMap (networkOf file c))) storages (virtualStorageAt file 0) i (omega (arith, count)))
-        ∙ ap (virtualStorageRow (columnMap (networkOf file c))) storage-is
+        found-get (virtualStorageRows (networkOf file c)) i _ [] (found-map (virtualStorageRow (columnMap (networkOf file c))) virtualStorages (virtualStorageAt file 0) i (omega (arith, count)))
+        ∙ ap (virtualStorageRow (columnMap (networkOf file c))) virtual-storage-is
 
     pub table-more : (k : ℕ) (places : List ℕ) → length places ≡ i
-        → storageTable (networkOf file c) (places ++ (k ∷ [])) ≡ storageTable (networkOf file c) places ++ storageWords (record { row = k; period = periodAt file at })
+        → virtualStorageTable (networkOf file c) (places ++ (k ∷ [])) ≡ virtualStorageTable (networkOf file c) places ++ virtualStorageWords (record { row = k; period = periodAt file at })
     table-more k places q =
-        ap (flatMap storageWords)
-        (placed-more storages places k (virtualStorageAt file 0) (omega (arith, count))
-        ∙ ap (λ (v : VirtualStorage). placedStorages storages places ++ (record { row = k; period = v .period } ∷ [])) (ap (λ (j : ℕ). getD storages j (virtualStorageAt file 0)) q ∙ storage-is))
-        ∙ flat-snoc storageWords (placedStorages storages places) (record { row = k; period = periodAt file at })
+        ap (flatMap virtualStorageWords)
+        (placed-more virtualStorages places k (virtualStorageAt file 0) (omega (arith, count))
+        ∙ ap (λ (v : VirtualStorage). placedVirtualStorages virtualStorages places ++ (record { row = k; period = v .period } ∷ [])) (ap (λ (j : ℕ). getD virtualStorages j (virtualStorageAt file 0)) q ∙ virtual-storage-is))
+        ∙ flat-snoc virtualStorageWords (placedVirtualStorages virtualStorages places) (record { row = k; period = periodAt file at })

@@ -1,12 +1,12 @@
--- `storage_interval` meets its contract: at each return, the tests that led there. Assumes nothing.
+-- `virtual_storage_interval` meets its contract: at each return, the tests that led there. Assumes nothing.
 use Rattle.pywr.specs.Period.{virtualInterval}
-use Rattle.step_virtual_interval.specs.VirtualInterval.{storageAt}
+use Rattle.step_virtual_interval.specs.VirtualInterval.{virtualIntervalAt}
 use borrow.Author.Needs.{needs}
-use Rattle.step_virtual_interval.proofs.storage_interval.Statement.{statement}
-use Rattle.step_virtual_interval.proofs.storage_interval.Tie as tie
+use Rattle.step_virtual_interval.proofs.virtual_storage_interval.Statement.{statement}
+use Rattle.step_virtual_interval.proofs.virtual_storage_interval.Tie as tie
 
 returns : tie.Need-returns
-unfolding storageAt virtualInterval
+unfolding virtualIntervalAt virtualInterval
 returns c =
     let c2 = c .before .before in
     let c3 = c2 .before in
@@ -15,15 +15,15 @@ returns c =
     rw (← (c6 .wide-u16 .ensures), ← (c4 .wide-u162 .ensures), ← (c3 .is-active-at .ensures), c2 .if1 .taken, ← (c .before .bounds-at .ensures)) (c .interval-of .ensures)
 
 returns-2 : tie.Need-returns-2
-unfolding storageAt virtualInterval
+unfolding virtualIntervalAt virtualInterval
 returns-2 c =
     let c2 = c .before .before in
     let c3 = c2 .before in
     let c5 = c3 .before .before in
     rw (← (c5 .wide-u16 .ensures), ← (c3 .wide-u162 .ensures), ← (c2 .is-active-at .ensures), c .before .if1 .left) (c .sentinels .ensures)
 
-pub storage-interval-spec : {M : Type 1} → statement M
-storage-interval-spec =
+pub virtual-storage-interval-spec : {M : Type 1} → statement M
+virtual-storage-interval-spec =
     tie.close
     (tie.spec
     (λ c. search needs)

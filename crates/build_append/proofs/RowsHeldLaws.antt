@@ -15,12 +15,12 @@ use Rattle.pywr.specs.Programme.{Row}
 use Rattle.pywr.specs.Build.{elementCount}
 use Rattle.pywr.specs.Written.{startsFrom}
 use Rattle.pywr.proofs.FitLaws.{elements-append}
-use Rattle.build_append.specs.LpBuilder.{Held, withinCeilings}
+use Rattle.build_append.specs.LpBuilder.{RowsHeld, withinCeilings}
 use Rattle.build_append.specs.declared.Filled.{Filled}
 use Rattle.build_append.proofs.RowLaws.{part-agrees, both-true}
 
 -- no rows: the first start is 0
-pub held-none : (words : List ℕ) (numbers : List Float) → 4096 < length words → Held [] (set words 4096 0) numbers (record { rows = 0; elements = 0 })
+pub held-none : (words : List ℕ) (numbers : List Float) → 4096 < length words → RowsHeld [] (set words 4096 0) numbers (record { rows = 0; elements = 0 })
 unfolding elementCount startsFrom flatMap
 held-none words numbers h =
     record {
@@ -35,14 +35,14 @@ held-none words numbers h =
       elements = refl;
     }
 
-pub held-few : (rows : List Row) (words : List ℕ) (numbers : List Float) (f : Filled) → Held rows words numbers f → (f .rows ≤ 1024) × (f .elements ≤ 4096)
+pub held-few : (rows : List Row) (words : List ℕ) (numbers : List Float) (f : Filled) → RowsHeld rows words numbers f → (f .rows ≤ 1024) × (f .elements ≤ 4096)
 held-few rows words numbers f h = (omega (arith, h .rowCount, h .fewRows), omega (arith, h .elementsCount, h .fewElements))
 
 -- ---- what stays
 
 -- the rows stand in the words before 5,121 and in the numbers before the next row's elements
-pub held-agrees : (rows : List Row) (words words′ : List ℕ) (numbers numbers′ : List Float) (f : Filled) → Held rows words numbers f
-    → take 5121 words′ ≡ take 5121 words → take (2048 + f .elements) numbers′ ≡ take (2048 + f .elements) numbers → Held rows words′ numbers′ f
+pub held-agrees : (rows : List Row) (words words′ : List ℕ) (numbers numbers′ : List Float) (f : Filled) → RowsHeld rows words numbers f
+    → take 5121 words′ ≡ take 5121 words → take (2048 + f .elements) numbers′ ≡ take (2048 + f .elements) numbers → RowsHeld rows words′ numbers′ f
 held-agrees rows words words′ numbers numbers′ f h ew en =
     let end : ℕ = 2048 + f .elements in
     record {
@@ -57,13 +57,13 @@ held-agrees rows words words′ numbers numbers′ f h ew en =
       elements = part-agrees 2048 (elementCount rows) end numbers numbers′ (omega arith) en ∙ h .elements;
     }
 
-pub held-words : (rows : List Row) (words : List ℕ) (numbers : List Float) (f : Filled) (i v : ℕ) → 5121 ≤ i → Held rows words numbers f → Held rows (set words i v) numbers f
+pub held-words : (rows : List Row) (words : List ℕ) (numbers : List Float) (f : Filled) (i v : ℕ) → 5121 ≤ i → RowsHeld rows words numbers f → RowsHeld rows (set words i v) numbers f
 held-words rows words numbers f i v hi h = held-agrees rows words (set words i v) numbers numbers f h (take-set-le 5121 words i v hi) refl
 
 -- the part of numbers from the next row's elements on was lent and written
 module _ (numbers ys : List Float) (a : ℕ) (ha : a ≤ length numbers) where
-  pub held-lent : (rows : List Row) (words : List ℕ) (f : Filled) → a ≡ 2048 + f .elements → Held rows words numbers f
-      → Held rows words (putMid a (length numbers - a) numbers ys) f
+  pub held-lent : (rows : List Row) (words : List ℕ) (f : Filled) → a ≡ 2048 + f .elements → RowsHeld rows words numbers f
+      → RowsHeld rows words (putMid a (length numbers - a) numbers ys) f
   held-lent rows words f e h =
       held-agrees rows words words numbers (putMid a (length numbers - a) numbers ys) f h refl (rw (← e) (take-put a (length numbers - a) numbers ys ha))
 
@@ -82,7 +82,7 @@ within : (rows : List Row) → length rows ≤ 1024 → elementCount rows ≤ 40
 unfolding withinCeilings
 within rows hr he = rw (le-leb (length rows) 1024 hr, le-leb (elementCount rows) 4096 he)
 
-pub held-within : (rows : List Row) (words : List ℕ) (numbers : List Float) (f : Filled) → Held rows words numbers f → withinCeilings rows ≡ true
+pub held-within : (rows : List Row) (words : List ℕ) (numbers : List Float) (f : Filled) → RowsHeld rows words numbers f → withinCeilings rows ≡ true
 held-within rows words numbers f h = within rows (h .fewRows) (h .fewElements)
 
 not-both : (b : Bool) → (b ≡ true → ⊥) → b ≡ false

@@ -7,7 +7,7 @@ use lib.ListN.{getD}
 use lib.Ieee.{Float}
 use Rattle.pywr.specs.declared.Interval.{Interval}
 use Rattle.store_shape.proofs.EntryLaws.{entries-at}
-use Rattle.step_work.specs.Held.{heldAt, heldFrom}
+use Rattle.step_work.specs.WorkRun.{heldAt, heldFrom}
 
 pub held-at : (work : List Float) (base count k : ℕ) (d : Interval) → k < count → getD (heldFrom work base count) k d ≡ heldAt work (base + k)
 unfolding heldFrom

@@ -1,4 +1,4 @@
--- The walk over a node's listings: each gives the node's rows in one set. Assumes nothing.
+-- The walk over a node's memberships: each gives the node's rows in one set. Assumes nothing.
 use mathlib.Core.Path.{_≡_, refl, sym, ap, _∙_}
 use Prim.Native.Nat.{ℕ, _+_, _-_, _<_, _≤_}
 use native.Mathlib.Omega.{arith}
@@ -14,21 +14,21 @@ use Rattle.laws.proofs.LinkedLaws.{Walk, walk, walk-end, first-most}
 use Rattle.pywr.specs.declared.Sentinel.{Sentinel}
 use Rattle.pywr.specs.Numbers.{zero64, high}
 use Rattle.pywr.specs.Network.{Node}
-use Rattle.pywr.specs.ExclusiveSets.{setsListing}
+use Rattle.pywr.specs.ExclusiveSets.{setsWithNode}
 use Rattle.pywr.specs.Rows.{ColumnMap, columnMap, lowerRow}
 use Rattle.pywr.specs.FixedRows.{lowerCoefficient, exclusiveRows}
 use Rattle.pywr.specs.Programme.{Row}
 use Rattle.network_record.specs.declared.Counts.{Counts}
-use Rattle.build_append.specs.LpBuilder.{Held, AfterRows}
+use Rattle.build_append.specs.LpBuilder.{RowsHeld, AfterRows}
 use Rattle.build_append.specs.declared.Filled.{Filled}
 use Rattle.build_append.specs.declared.RowsAdded.{RowsAdded}
 use Rattle.build_append.specs.declared.RowsAdded.the-variants.{Done, Full}
-use Rattle.build_exclusive_sets.specs.Sets.{setsAt, listingsOf}
-use Rattle.build_exclusive_sets.proofs.ListingLaws.{setOf, node-sets}
-use Rattle.build_node_row.specs.Tables.{networkOf, ListingTables}
+use Rattle.build_exclusive_sets.specs.Sets.{setsAt, membershipsOf}
+use Rattle.build_exclusive_sets.proofs.MembershipLaws.{setOf, node-sets}
+use Rattle.build_node_row.specs.Tables.{networkOf, MembershipTables}
 use Rattle.build_append.proofs.AddingRows.{Adding, Adds, adding-first, adding-more, adding-over, adding-done}
 
--- the loop's measure: what is left above the listing's number
+-- the loop's measure: what is left above the membership's number
 abbrev pub above : ℕ → ℕ
 above link = cond (eqb link 0) 0 (2049 - link)
 
@@ -44,31 +44,31 @@ module _ (s : Sentinel) (f : ColumnMap) (n : ℕ) (x : Node) where
   unfolding exclusiveRows
   set-more k ks = rw (append-nil {A = Row} (cond (eq (x .min) zero64) [] (record { lower = zero64; upper = high s; elements = lowerRow f n k (lowerCoefficient (x .min)) } ∷ [])))
 
-  -- the listings from `link` on are left; `sets` are those of all the node's listings
+  -- the memberships from `link` on are left; `sets` are those of all the node's memberships
   pub record Walking (next sets words₀ : List ℕ) (numbers₀ : List Float) (f₀ : Filled) (words : List ℕ) (numbers : List Float) (filled : Filled) (link : ℕ) : Type 0 where
-    pub listings : List ℕ
-    pub linked : Linked 2048 next link listings
-    pub adding : (rows : List Row) → Held rows words₀ numbers₀ f₀ → Adding (rows ++ exclusiveRows s f n x sets) (exclusiveRows s f n x (map setOf listings)) words₀ words numbers filled
+    pub memberships : List ℕ
+    pub linked : Linked 2048 next link memberships
+    pub adding : (rows : List Row) → RowsHeld rows words₀ numbers₀ f₀ → Adding (rows ++ exclusiveRows s f n x sets) (exclusiveRows s f n x (map setOf memberships)) words₀ words numbers filled
 
   module _ (next sets words₀ : List ℕ) (numbers₀ : List Float) (f₀ : Filled) (words : List ℕ) (numbers : List Float) (filled : Filled) (link : ℕ)
       (w : Walking next sets words₀ numbers₀ f₀ words numbers filled link) where
     pub walked : link ≡ 0 → Adds (exclusiveRows s f n x sets) words₀ numbers₀ f₀ (Done filled) words numbers
     unfolding exclusiveRows
     walked z rows h =
-        let none : w .listings ≡ [] = walk-end 2048 next link (w .listings) (w .linked) z in
+        let none : w .memberships ≡ [] = walk-end 2048 next link (w .memberships) (w .linked) z in
         adding-done _ _ words₀ words numbers filled (w .adding rows h) (rw none)
 
     module _ (ne : link ≢ 0) where
-      step : Walk 2048 next link (w .listings)
-      step = walk 2048 next link (w .listings) (w .linked) ne
+      step : Walk 2048 next link (w .memberships)
+      step = walk 2048 next link (w .memberships) (w .linked) ne
 
-      pub listing-under : link - 1 < 2048
-      listing-under = step .under
+      pub membership-under : link - 1 < 2048
+      membership-under = step .under
 
-      pub listing-falls : (then : ℕ) → then ≡ getD next (link - 1) 0 → above then < above link
-      listing-falls then q = rw q (above-falls link (getD next (link - 1) 0) ne (first-most 2048 next link (w .listings) (w .linked)) (step .later))
+      pub membership-falls : (then : ℕ) → then ≡ getD next (link - 1) 0 → above then < above link
+      membership-falls then q = rw q (above-falls link (getD next (link - 1) 0) ne (first-most 2048 next link (w .memberships) (w .linked)) (step .later))
 
-      here : (rows : List Row) → Held rows words₀ numbers₀ f₀
+      here : (rows : List Row) → RowsHeld rows words₀ numbers₀ f₀
           → Adding (rows ++ exclusiveRows s f n x sets) (exclusiveRows s f n x (setOf (link - 1) ∷ []) ++ exclusiveRows s f n x (map setOf (step .rest))) words₀ words numbers filled
       here rows h = rw (step .is, set-more (setOf (link - 1)) (map setOf (step .rest))) at (w .adding rows h)
 
@@ -78,21 +78,21 @@ module _ (s : Sentinel) (f : ColumnMap) (n : ℕ) (x : Node) where
 
         pub walk-next : (g : Filled) (then : ℕ) → r ≡ Done g → then ≡ getD next (link - 1) 0 → Walking next sets words₀ numbers₀ f₀ words′ numbers′ g then
         walk-next g then e q = record {
-          listings = step .rest;
+          memberships = step .rest;
           linked = rw q (step .linked);
           adding = λ rows h. adding-more _ _ _ words₀ words numbers filled (here rows h) r words′ numbers′ added g e;
         }
 
--- the walk starts at the node's first listing
-module _ (s : Sentinel) (n : ℕ) (x : Node) (file : List ℕ) (c : Counts) (firstListing nextListing : List ℕ) (k link : ℕ) (words : List ℕ) (numbers : List Float) (filled : Filled)
-    (t : ListingTables file c firstListing nextListing) (e : k ≡ n) (under : n < 256) (el : link ≡ getD firstListing k 0) where
-  sets-are : map setOf (listingsOf n 0 (setsAt file (t .setAt) (t .sets))) ≡ setsListing n 0 (columnMap (networkOf file c) .sets)
+-- the walk starts at the node's first membership
+module _ (s : Sentinel) (n : ℕ) (x : Node) (file : List ℕ) (c : Counts) (firstMembership nextMembership : List ℕ) (k link : ℕ) (words : List ℕ) (numbers : List Float) (filled : Filled)
+    (t : MembershipTables file c firstMembership nextMembership) (e : k ≡ n) (under : n < 256) (el : link ≡ getD firstMembership k 0) where
+  sets-are : map setOf (membershipsOf n 0 (setsAt file (t .setAt) (t .sets))) ≡ setsWithNode n 0 (columnMap (networkOf file c) .sets)
   unfolding columnMap
   sets-are = node-sets file (t .setAt) (t .sets) (t .tables .fit) (networkOf file c) (t .tables .held) n
 
-  pub walk-first : Walking s (columnMap (networkOf file c)) n x nextListing (setsListing n 0 (columnMap (networkOf file c) .sets)) words numbers filled words numbers filled link
+  pub walk-first : Walking s (columnMap (networkOf file c)) n x nextMembership (setsWithNode n 0 (columnMap (networkOf file c) .sets)) words numbers filled words numbers filled link
   walk-first = record {
-    listings = listingsOf n 0 (setsAt file (t .setAt) (t .sets));
+    memberships = membershipsOf n 0 (setsAt file (t .setAt) (t .sets));
     linked = rw (el, e) (t .tables .listed n under);
     adding = λ rows h. rw sets-are (adding-first rows _ words numbers filled h);
   }

@@ -8,13 +8,13 @@ use lib.ListN.{length, take}
 use lib.Ieee.{Float}
 use Rattle.laws.specs.Part.{part}
 use Rattle.pywr.specs.declared.Sentinel.{Sentinel}
-use Rattle.pywr.specs.ExclusiveSets.{setsListing}
+use Rattle.pywr.specs.ExclusiveSets.{setsWithNode}
 use Rattle.pywr.specs.Rows.{ColumnMap}
 use Rattle.pywr.specs.VariableRows.{Joined, addVariableRows}
 use Rattle.pywr.specs.VaryingRows.{RowRequest, exclusiveRequests, requestsFrom, freshRow}
 use Rattle.pywr.specs.Build.{placedNodeRows, requestedRow}
 use Rattle.pywr.specs.Written.{nodeRowWords}
-use Rattle.build_append.specs.LpBuilder.{Held, withinCeilings}
+use Rattle.build_append.specs.LpBuilder.{RowsHeld, withinCeilings}
 use Rattle.build_node_table.specs.declared.NodeRows.{NodeRows}
 use Rattle.build_node_table.specs.declared.NodeRowsAdded.{NodeRowsAdded}
 use Rattle.build_node_table.specs.declared.NodeRowsAdded.the-variants.{Done, Full}
@@ -29,11 +29,11 @@ requestsBefore f n = requestsFrom f 0 (take n (f .nodes))
 
 -- what node n asks for where exclusive sets list it
 abbrev pub listedRequests : ColumnMap → ℕ → List RowRequest
-listedRequests f n = exclusiveRequests f n (setsListing n 0 (f .sets))
+listedRequests f n = exclusiveRequests f n (setsWithNode n 0 (f .sets))
 
 -- the rows asked for are held, and so are the node rows
 pub record NodeRowsHeld (s : Sentinel) (asks : List RowRequest) (words : List ℕ) (numbers : List Float) (r : NodeRows) : Type 0 where
-  pub held : Held (map (freshRow s) (joined asks .rows)) words numbers (r .filled)
+  pub held : RowsHeld (map (freshRow s) (joined asks .rows)) words numbers (r .filled)
   pub counted : r .count ≡ length asks
   pub table : part 7180 (4 * r .count) words ≡ flatMap nodeRowWords (placedNodeRows asks (joined asks .places))
 

@@ -13,11 +13,11 @@ use Rattle.pywr.specs.Store.{entries}
 abbrev pub uppersAt : ℕ
 uppersAt = 352
 
-abbrev pub groupsHeldAt : ℕ
-groupsHeldAt = 256
+abbrev pub aggregatesHeldAt : ℕ
+aggregatesHeldAt = 256
 
-abbrev pub storesHeldAt : ℕ
-storesHeldAt = 320
+abbrev pub virtualStoragesHeldAt : ℕ
+virtualStoragesHeldAt = 320
 
 unfoldable pub heldAt : List Float → ℕ → Interval
 heldAt work k = record { lower = getD work k zero64; upper = getD work (uppersAt + k) zero64 }
@@ -27,7 +27,7 @@ unfoldable pub heldFrom : List Float → ℕ → ℕ → List Interval
 heldFrom work k count = entries (heldAt work) 1 k count
 
 -- the run holds these intervals, as many as the store has nodes, aggregates and virtual storages
-pub record Held (nodes aggregates storages : ℕ) (work : List Float) (i : Intervals) : Type 0 where
+pub record IntervalsHeld (nodes aggregates virtualStorages : ℕ) (work : List Float) (i : Intervals) : Type 0 where
   pub nodes-are : heldFrom work 0 nodes ≡ i .nodes
-  pub aggregates-are : heldFrom work groupsHeldAt aggregates ≡ i .aggregates
-  pub storages-are : heldFrom work storesHeldAt storages ≡ i .virtualStorages
+  pub aggregates-are : heldFrom work aggregatesHeldAt aggregates ≡ i .aggregates
+  pub virtual-storages-are : heldFrom work virtualStoragesHeldAt virtualStorages ≡ i .virtualStorages

@@ -1,4 +1,4 @@
--- The walk over a node's listings: each asks for two rows, of the set numbered listing / 16. Assumes nothing.
+-- The walk over a node's memberships: each asks for two rows, of the set numbered membership / 16. Assumes nothing.
 use mathlib.Core.Path.{_≡_, refl, sym, ap, _∙_}
 use Prim.Native.Nat.{ℕ, _+_, _-_, _<_, _≤_}
 use native.Mathlib.Omega.{arith}
@@ -15,16 +15,16 @@ use Rattle.pywr.specs.declared.Sentinel.{Sentinel}
 use Rattle.pywr.specs.Rows.{ColumnMap, columnMap}
 use Rattle.pywr.specs.VaryingRows.{RowRequest, exclusiveRequests}
 use Rattle.network_record.specs.declared.Counts.{Counts}
-use Rattle.build_exclusive_sets.specs.Sets.{setsAt, listingsOf}
-use Rattle.build_exclusive_sets.proofs.ListingLaws.{setOf, node-sets}
-use Rattle.build_node_row.specs.Tables.{networkOf, ListingTables}
-use Rattle.build_node_table.specs.NodeRows.{NodeRowsHeld, AfterRequests, requestsBefore, listedRequests}
+use Rattle.build_exclusive_sets.specs.Sets.{setsAt, membershipsOf}
+use Rattle.build_exclusive_sets.proofs.MembershipLaws.{setOf, node-sets}
+use Rattle.build_node_row.specs.Tables.{networkOf, MembershipTables}
+use Rattle.build_node_table.specs.NodeTable.{NodeRowsHeld, AfterRequests, requestsBefore, listedRequests}
 use Rattle.build_node_table.specs.declared.NodeRows.{NodeRows}
 use Rattle.build_node_table.specs.declared.NodeRowsAdded.{NodeRowsAdded}
 use Rattle.build_node_table.specs.declared.NodeRowsAdded.the-variants.{Done, Full}
 use Rattle.build_node_table.proofs.Table.{requests-done, full-later}
 
--- the loop's measure: what is left above the listing's number
+-- the loop's measure: what is left above the membership's number
 abbrev pub above : ℕ → ℕ
 above link = cond (eqb link 0) 0 (2049 - link)
 
@@ -48,31 +48,31 @@ module _ (f : ColumnMap) (n : ℕ) (next : List ℕ) (s : Sentinel) where
   abbrev whole : List RowRequest
   whole = requestsBefore f n ++ listedRequests f n
 
-  -- the listings from `link` on are left
+  -- the memberships from `link` on are left
   pub record Walking (words : List ℕ) (numbers : List Float) (r : NodeRows) (link : ℕ) : Type 0 where
     pub asks : List RowRequest
-    pub listings : List ℕ
-    pub linked : Linked 2048 next link listings
-    pub rest : whole ≡ asks ++ exclusiveRequests f n (map setOf listings)
+    pub memberships : List ℕ
+    pub linked : Linked 2048 next link memberships
+    pub rest : whole ≡ asks ++ exclusiveRequests f n (map setOf memberships)
     pub rows : NodeRowsHeld s asks words numbers r
 
   module _ (words : List ℕ) (numbers : List Float) (r : NodeRows) (link : ℕ) (w : Walking words numbers r link) where
     pub walked : link ≡ 0 → AfterRequests s whole (Done r) words numbers
     unfolding exclusiveRequests
     walked z =
-        let none : w .listings ≡ [] = walk-end 2048 next link (w .listings) (w .linked) z in
+        let none : w .memberships ≡ [] = walk-end 2048 next link (w .memberships) (w .linked) z in
         let all : whole ≡ w .asks = w .rest ∙ ap (λ (js : List ℕ). w .asks ++ exclusiveRequests f n (map setOf js)) none ∙ append-nil (w .asks) in
         requests-done s whole words numbers r (rw all (w .rows))
 
     module _ (ne : link ≢ 0) where
-      step : Walk 2048 next link (w .listings)
-      step = walk 2048 next link (w .listings) (w .linked) ne
+      step : Walk 2048 next link (w .memberships)
+      step = walk 2048 next link (w .memberships) (w .linked) ne
 
-      pub listing-under : link - 1 < 2048
-      listing-under = step .under
+      pub membership-under : link - 1 < 2048
+      membership-under = step .under
 
-      pub listing-falls : (j : ℕ) → j ≡ link - 1 → above (getD next j 0) < above link
-      listing-falls j e = rw e (above-falls link (getD next (link - 1) 0) ne (first-most 2048 next link (w .listings) (w .linked)) (step .later))
+      pub membership-falls : (j : ℕ) → j ≡ link - 1 → above (getD next j 0) < above link
+      membership-falls j e = rw e (above-falls link (getD next (link - 1) 0) ne (first-most 2048 next link (w .memberships) (w .linked)) (step .later))
 
       abbrev two : List RowRequest
       two = exclusiveRequests f n (setOf (link - 1) ∷ [])
@@ -94,19 +94,19 @@ module _ (f : ColumnMap) (n : ℕ) (next : List ℕ) (s : Sentinel) where
         walk-full e = rw rest-is (full-later s (w .asks ++ two) (exclusiveRequests f n (map setOf (step .rest))) v words′ numbers′ a e)
 
         pub walk-next : (r′ : NodeRows) (j : ℕ) → v ≡ Done r′ → j ≡ link - 1 → Walking words′ numbers′ r′ (getD next j 0)
-        walk-next r′ j e ej = record { asks = w .asks ++ two; listings = step .rest; linked = rw ej (step .linked); rest = rest-is; rows = a .done r′ e }
+        walk-next r′ j e ej = record { asks = w .asks ++ two; memberships = step .rest; linked = rw ej (step .linked); rest = rest-is; rows = a .done r′ e }
 
--- the walk starts at the node's first listing
-pub walk-first : (file : List ℕ) (c : Counts) (firstListing nextListing : List ℕ) (n k : ℕ) (s : Sentinel) (words : List ℕ) (numbers : List Float) (r : NodeRows)
-    → ListingTables file c firstListing nextListing → k ≡ n → n < 256 → NodeRowsHeld s (requestsBefore (columnMap (networkOf file c)) n) words numbers r
-    → Walking (columnMap (networkOf file c)) n nextListing s words numbers r (getD firstListing k 0)
+-- the walk starts at the node's first membership
+pub walk-first : (file : List ℕ) (c : Counts) (firstMembership nextMembership : List ℕ) (n k : ℕ) (s : Sentinel) (words : List ℕ) (numbers : List Float) (r : NodeRows)
+    → MembershipTables file c firstMembership nextMembership → k ≡ n → n < 256 → NodeRowsHeld s (requestsBefore (columnMap (networkOf file c)) n) words numbers r
+    → Walking (columnMap (networkOf file c)) n nextMembership s words numbers r (getD firstMembership k 0)
 unfolding columnMap
-walk-first file c firstListing nextListing n k s words numbers r t e under h =
+walk-first file c firstMembership nextMembership n k s words numbers r t e under h =
     let f : ColumnMap = columnMap (networkOf file c) in
     let sets = node-sets file (t .setAt) (t .sets) (t .tables .fit) (networkOf file c) (t .tables .held) n in
     record {
       asks = requestsBefore f n;
-      listings = listingsOf n 0 (setsAt file (t .setAt) (t .sets));
+      memberships = membershipsOf n 0 (setsAt file (t .setAt) (t .sets));
       linked = rw e (t .tables .listed n under);
       rest = ap (λ (ks : List ℕ). requestsBefore f n ++ exclusiveRequests f n ks) (sym sets);
       rows = h;

@@ -1,17 +1,17 @@
--- `check_storages` meets its contract. The loop's invariant: the check of all is that of those that are left. Assumes nothing.
+-- `check_virtual_storages` meets its contract. The loop's invariant: the check of all is that of those that are left. Assumes nothing.
 use mathlib.Core.Path.{_≡_, sym, _∙_}
 use Prim.Native.Nat.{_+_, _*_, _-_, _≤_}
 use native.Mathlib.Nat.{sub-zero}
-use Rattle.step_record.specs.Check.{checkStorage}
+use Rattle.step_record.specs.Check.{checkVirtualStorageStep}
 use Rattle.step_file.specs.CheckStep.{checkRecords}
 use Rattle.step_file.proofs.LoopLaws.{records-refused, records-more, records-done}
 use borrow.Author.Needs.{needs}
-use Rattle.step_file.proofs.check_storages.Statement.{statement}
-use Rattle.step_file.proofs.check_storages.Tie as tie
+use Rattle.step_file.proofs.check_virtual_storages.Statement.{statement}
+use Rattle.step_file.proofs.check_virtual_storages.Tie as tie
 
 abbrev Inv-loop : tie.InvT-loop
 Inv-loop file from count at₀ i₀ at i =
-    (i ≤ count) × (at ≡ from + 26 * i) × (checkRecords (checkStorage file) 26 count from ≡ checkRecords (checkStorage file) 26 (count - i) at)
+    (i ≤ count) × (at ≡ from + 26 * i) × (checkRecords (checkVirtualStorageStep file) 26 count from ≡ checkRecords (checkVirtualStorageStep file) 26 (count - i) at)
 
 abbrev μ-loop : tie.MeasureT-loop
 μ-loop file from count at₀ i₀ at i = count - i
@@ -26,7 +26,7 @@ returns c =
     let c4 = c3 .before in
     let c5 = c4 .before in
     let c7 = c5 .before .before in
-    sym (c5 .loop .inv .2 ∙ records-refused (checkStorage (c7 .args .file .now)) 26 _ _ _ _ _ (c4 .loop-test .taken) (sym (c3 .check-storage .ensures) ∙ c .before .storage .given .1))
+    sym (c5 .loop .inv .2 ∙ records-refused (checkVirtualStorageStep (c7 .args .file .now)) 26 _ _ _ _ _ (c4 .loop-test .taken) (sym (c3 .check-virtual-storage-step .ensures) ∙ c .before .storage .given .1))
 
 loop-again : tie.Need-loop-again Inv-loop μ-loop
 loop-again c =
@@ -34,14 +34,14 @@ loop-again c =
     let c3 = c2 .before in
     let c4 = c3 .before in
     let c6 = c4 .before .before in
-    (search needs, search needs, c4 .loop .inv .2 ∙ records-more (checkStorage (c6 .args .file .now)) 26 _ _ _ (c3 .loop-test .taken) (sym (c2 .check-storage .ensures) ∙ c .enum-told .given .1))
+    (search needs, search needs, c4 .loop .inv .2 ∙ records-more (checkVirtualStorageStep (c6 .args .file .now)) 26 _ _ _ (c3 .loop-test .taken) (sym (c2 .check-virtual-storage-step .ensures) ∙ c .enum-told .given .1))
 
 returns-2 : tie.Need-returns-2 Inv-loop μ-loop
 returns-2 c =
-    sym (c .before .loop .inv .2 ∙ records-done (checkStorage (c .before .before .before .args .file .now)) 26 _ _ _ (c .loop-test .left))
+    sym (c .before .loop .inv .2 ∙ records-done (checkVirtualStorageStep (c .before .before .before .args .file .now)) 26 _ _ _ (c .loop-test .left))
 
-pub check-storages-spec : {M : Type 1} → statement M
-check-storages-spec =
+pub check-virtual-storages-spec : {M : Type 1} → statement M
+check-virtual-storages-spec =
     tie.close
     (tie.spec
     Inv-loop

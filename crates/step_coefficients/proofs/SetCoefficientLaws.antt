@@ -16,9 +16,9 @@ use Rattle.pywr.specs.Rows.{Element}
 use Rattle.pywr.specs.Programme.{Row}
 use Rattle.pywr.specs.Store.{Store, entries, columnsOfRow, startOf}
 use Rattle.pywr.specs.Misshapen.{columnsRise}
-use Rattle.pywr.specs.Step.{adjust, setFactor, withFactor}
-use Rattle.pywr.specs.Written.{columnsIn, factorsIn}
-use Rattle.pywr.proofs.RowsBack.{columns-length, factors-length}
+use Rattle.pywr.specs.Step.{adjust, setCoefficient, withCoefficient}
+use Rattle.pywr.specs.Written.{columnsIn, valuesIn}
+use Rattle.pywr.proofs.RowsBack.{columns-length, values-length}
 use Rattle.store_rows.specs.Starts.{StartsRise}
 use Rattle.store_rows.proofs.Starts.{start-under}
 
@@ -35,8 +35,8 @@ rise-least count least (c ∷ cs) t (suc p) h =
     omega arith
 
 module _ (c : ℕ) (x : Float) where
-  columns-stay : (es : List Element) → map (λ (e : Element). e .column) (setFactor c x es) ≡ map (λ (e : Element). e .column) es
-  unfolding setFactor
+  columns-stay : (es : List Element) → map (λ (e : Element). e .column) (setCoefficient c x es) ≡ map (λ (e : Element). e .column) es
+  unfolding setCoefficient
   columns-stay [] = refl
   columns-stay (e ∷ es) =
       by-cases (eqb (e .column) c)
@@ -44,27 +44,27 @@ module _ (c : ℕ) (x : Float) where
       (λ t. rw (to-false (eqb (e .column) c) t) (ap (λ (l : List ℕ). e .column ∷ l) (columns-stay es)))
 
   -- where the columns rise, the element on column c is the one at the place of c
-  factor-set : (count least : ℕ) (es : List Element) → T (columnsRise count least (map (λ (e : Element). e .column) es)) → (p : ℕ) → p < length es
+  coefficient-set : (count least : ℕ) (es : List Element) → T (columnsRise count least (map (λ (e : Element). e .column) es)) → (p : ℕ) → p < length es
       → getD (map (λ (e : Element). e .column) es) p 0 ≡ c
-      → map (λ (e : Element). e .factor) (setFactor c x es) ≡ set (map (λ (e : Element). e .factor) es) p x
-  unfolding setFactor columnsRise
-  factor-set count least [] t p h q = absurd (not-suc-le-zero h)
-  factor-set count least (e ∷ es) t zero h q = rw (eq-eqb (e .column) c q)
-  factor-set count least (e ∷ es) t (suc p) h q =
+      → map (λ (e : Element). e .value) (setCoefficient c x es) ≡ set (map (λ (e : Element). e .value) es) p x
+  unfolding setCoefficient columnsRise
+  coefficient-set count least [] t p h q = absurd (not-suc-le-zero h)
+  coefficient-set count least (e ∷ es) t zero h q = rw (eq-eqb (e .column) c q)
+  coefficient-set count least (e ∷ es) t (suc p) h q =
       let cs : List ℕ = map (λ (d : Element). d .column) es in
       let rest : T (columnsRise count (e .column + 1) cs) = and-r (leb least (e .column) && ltb (e .column) count) (columnsRise count (e .column + 1) cs) t in
       let k : p < length es = (let j : suc p < suc (length es) = h in omega arith) in
       let over : e .column + 1 ≤ getD cs p 0 = rise-least count (e .column + 1) cs rest p (let n = length-map es (λ (d : Element). d .column) in omega arith) in
-      rw (ne-eqb (e .column) c (λ z. omega arith)) (ap (λ (l : List Float). e .factor ∷ l) (factor-set count (e .column + 1) es rest p k q))
+      rw (ne-eqb (e .column) c (λ z. omega arith)) (ap (λ (l : List Float). e .value ∷ l) (coefficient-set count (e .column + 1) es rest p k q))
 
-  pub with-columns : (row : Row) → columnsIn (withFactor c x row) ≡ columnsIn row
-  unfolding columnsIn withFactor
+  pub with-columns : (row : Row) → columnsIn (withCoefficient c x row) ≡ columnsIn row
+  unfolding columnsIn withCoefficient
   with-columns row = columns-stay (row .elements)
 
-  with-factor : (count : ℕ) (row : Row) → columnsRise count 0 (columnsIn row) ≡ true → (p : ℕ) → p < length (row .elements) → getD (columnsIn row) p 0 ≡ c
-      → factorsIn (withFactor c x row) ≡ set (factorsIn row) p x
-  unfolding columnsIn factorsIn withFactor
-  with-factor count row t p h q = factor-set count 0 (row .elements) (of-true (columnsRise count 0 (map (λ (e : Element). e .column) (row .elements))) t) p h q
+  with-coefficient : (count : ℕ) (row : Row) → columnsRise count 0 (columnsIn row) ≡ true → (p : ℕ) → p < length (row .elements) → getD (columnsIn row) p 0 ≡ c
+      → valuesIn (withCoefficient c x row) ≡ set (valuesIn row) p x
+  unfolding columnsIn valuesIn withCoefficient
+  with-coefficient count row t p h q = coefficient-set count 0 (row .elements) (of-true (columnsRise count 0 (map (λ (e : Element). e .column) (row .elements))) t) p h q
 
 -- ---- all rows
 
@@ -96,13 +96,13 @@ module _ (s : Store) {total kept : ℕ} (starts : StartsRise (s .rowStarts) tota
     column-there j le lt = slice-at (s .columns) (startOf s j) (startOf s (j + 1)) p 0 le lt ∙ on
 
     -- in rows k, k + 1, .. the element at p is row r's on column c
-    factor-from : (rows : List Row) (n k r : ℕ) → map columnsIn rows ≡ entries (columnsOfRow s) 1 k n → k + n ≤ total → r < n
+    coefficient-from : (rows : List Row) (n k r : ℕ) → map columnsIn rows ≡ entries (columnsOfRow s) 1 k n → k + n ≤ total → r < n
         → startOf s (k + r) ≤ p → p < startOf s (k + r + 1) → columnsRise count 0 (columnsOfRow s (k + r)) ≡ true
-        → flatMap factorsIn (adjust (withFactor c x) r rows) ≡ set (flatMap factorsIn rows) (p - startOf s k) x
+        → flatMap valuesIn (adjust (withCoefficient c x) r rows) ≡ set (flatMap valuesIn rows) (p - startOf s k) x
     unfolding entries adjust flatMap
-    factor-from rows zero k r e h lt a b t = absurd (not-suc-le-zero lt)
-    factor-from [] (suc n) k r e h lt a b t = let z : _≡_ {A = ℕ} 0 1 = cc in absurd (omega arith)
-    factor-from (row ∷ rows) (suc n) k zero e h lt a b t =
+    coefficient-from rows zero k r e h lt a b t = absurd (not-suc-le-zero lt)
+    coefficient-from [] (suc n) k r e h lt a b t = let z : _≡_ {A = ℕ} 0 1 = cc in absurd (omega arith)
+    coefficient-from (row ∷ rows) (suc n) k zero e h lt a b t =
         let head : columnsIn row ≡ columnsOfRow s k = cc in
         let z : k + 0 ≡ k = add-zero k in
         let a′ : startOf s k ≤ p = rw z at a in
@@ -112,9 +112,9 @@ module _ (s : Store) {total kept : ℕ} (starts : StartsRise (s .rowStarts) tota
         let nc : length (columnsIn row) ≡ length (columnsOfRow s k) = ap length head in
         let place : p - startOf s k < length (row .elements) = omega (arith, columns-length row) in
         let there : getD (columnsIn row) (p - startOf s k) 0 ≡ c = ap (λ (l : List ℕ). getD l (p - startOf s k) 0) head ∙ column-there k a′ b′ in
-        ap (λ (l : List Float). l ++ flatMap factorsIn rows) (with-factor c x count row t′ (p - startOf s k) place there)
-        ∙ sym (set-append-left (factorsIn row) (flatMap factorsIn rows) (p - startOf s k) x (omega (arith, factors-length row)))
-    factor-from (row ∷ rows) (suc n) k (suc r) e h lt a b t =
+        ap (λ (l : List Float). l ++ flatMap valuesIn rows) (with-coefficient c x count row t′ (p - startOf s k) place there)
+        ∙ sym (set-append-left (valuesIn row) (flatMap valuesIn rows) (p - startOf s k) x (omega (arith, values-length row)))
+    coefficient-from (row ∷ rows) (suc n) k (suc r) e h lt a b t =
         let head : columnsIn row ≡ columnsOfRow s k = cc in
         let tail : map columnsIn rows ≡ entries (columnsOfRow s) 1 (k + 1) n = cc in
         let j : k + suc r ≡ k + 1 + r = omega arith in
@@ -125,28 +125,28 @@ module _ (s : Store) {total kept : ℕ} (starts : StartsRise (s .rowStarts) tota
         let nc : length (columnsIn row) ≡ length (columnsOfRow s k) = ap length head in
         let first = starts .rise k (omega arith) in
         let before = starts-mono r (k + 1) (omega arith) in
-        let ih = factor-from rows n (k + 1) r tail (omega arith) (omega arith) a′ b′ t′ in
-        let d : p - startOf s k ≡ length (factorsIn row) + (p - startOf s (k + 1)) = omega (arith, columns-length row, factors-length row) in
-        ap (λ (l : List Float). factorsIn row ++ l) ih
-        ∙ sym (set-append-right (factorsIn row) (flatMap factorsIn rows) (p - startOf s (k + 1)) x)
-        ∙ ap (λ (q : ℕ). set (factorsIn row ++ flatMap factorsIn rows) q x) (sym d)
+        let ih = coefficient-from rows n (k + 1) r tail (omega arith) (omega arith) a′ b′ t′ in
+        let d : p - startOf s k ≡ length (valuesIn row) + (p - startOf s (k + 1)) = omega (arith, columns-length row, values-length row) in
+        ap (λ (l : List Float). valuesIn row ++ l) ih
+        ∙ sym (set-append-right (valuesIn row) (flatMap valuesIn rows) (p - startOf s (k + 1)) x)
+        ∙ ap (λ (q : ℕ). set (valuesIn row ++ flatMap valuesIn rows) q x) (sym d)
 
-    pub factor-written : (rows : List Row) (n r : ℕ) → map columnsIn rows ≡ entries (columnsOfRow s) 1 0 n → n ≤ total → r < n
+    pub coefficient-written : (rows : List Row) (n r : ℕ) → map columnsIn rows ≡ entries (columnsOfRow s) 1 0 n → n ≤ total → r < n
         → startOf s r ≤ p → p < startOf s (r + 1) → columnsRise count 0 (columnsOfRow s r) ≡ true
-        → set (flatMap factorsIn rows) p x ≡ flatMap factorsIn (adjust (withFactor c x) r rows)
-    factor-written rows n r e h lt a b t =
+        → set (flatMap valuesIn rows) p x ≡ flatMap valuesIn (adjust (withCoefficient c x) r rows)
+    coefficient-written rows n r e h lt a b t =
         let z : 0 + r ≡ r = zero-add r in
         let f = starts .first in
         let q : p - startOf s 0 ≡ p = omega arith in
-        sym (factor-from rows n 0 r e (omega arith) lt (rw z a) (rw z b) (rw z t) ∙ ap (λ (k : ℕ). set (flatMap factorsIn rows) k x) q)
+        sym (coefficient-from rows n 0 r e (omega arith) lt (rw z a) (rw z b) (rw z t) ∙ ap (λ (k : ℕ). set (flatMap valuesIn rows) k x) q)
 
   -- the rows' elements are as many as the starts say
-  pub factors-long : (rows : List Row) (n k : ℕ) → map columnsIn rows ≡ entries (columnsOfRow s) 1 k n → k + n ≤ total → length (flatMap factorsIn rows) ≡ startOf s (k + n) - startOf s k
+  pub values-long : (rows : List Row) (n k : ℕ) → map columnsIn rows ≡ entries (columnsOfRow s) 1 k n → k + n ≤ total → length (flatMap valuesIn rows) ≡ startOf s (k + n) - startOf s k
   unfolding entries flatMap
-  factors-long [] zero k e h = let z : k + 0 ≡ k = add-zero k in rw z (omega arith)
-  factors-long [] (suc n) k e h = let z : _≡_ {A = ℕ} 0 1 = cc in absurd (omega arith)
-  factors-long (row ∷ rows) zero k e h = let z : _≡_ {A = ℕ} 0 1 = cc in absurd (omega arith)
-  factors-long (row ∷ rows) (suc n) k e h =
+  values-long [] zero k e h = let z : k + 0 ≡ k = add-zero k in rw z (omega arith)
+  values-long [] (suc n) k e h = let z : _≡_ {A = ℕ} 0 1 = cc in absurd (omega arith)
+  values-long (row ∷ rows) zero k e h = let z : _≡_ {A = ℕ} 0 1 = cc in absurd (omega arith)
+  values-long (row ∷ rows) (suc n) k e h =
       let head : columnsIn row ≡ columnsOfRow s k = cc in
       let tail : map columnsIn rows ≡ entries (columnsOfRow s) 1 (k + 1) n = cc in
       let j : k + suc n ≡ k + 1 + n = omega arith in
@@ -154,5 +154,5 @@ module _ (s : Store) {total kept : ℕ} (starts : StartsRise (s .rowStarts) tota
       let nc : length (columnsIn row) ≡ length (columnsOfRow s k) = ap length head in
       let first = starts .rise k (omega arith) in
       let later = starts-mono n (k + 1) (omega arith) in
-      let ih = factors-long rows n (k + 1) tail (omega arith) in
-      rw j (omega (arith, length-append (factorsIn row) (flatMap factorsIn rows), columns-length row, factors-length row))
+      let ih = values-long rows n (k + 1) tail (omega arith) in
+      rw j (omega (arith, length-append (valuesIn row) (flatMap valuesIn rows), columns-length row, values-length row))

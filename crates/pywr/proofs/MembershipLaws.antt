@@ -12,7 +12,7 @@ use lib.Dec.{T, T-not, eqb, eqb→eq, eqb-refl}
 use lib.Ieee.Fits.{and-i, and-l, and-r}
 use Rattle.laws.proofs.Tests.{or-l, or-r, or-elim}
 use Rattle.pywr.specs.Network.{Aggregate, Network, keepIf, listed, anyListed, isExclusive}
-use Rattle.pywr.specs.ExclusiveSets.{hasSet, addSets, setsFrom, exclusiveSets, setNumber, timesIn, setsListing}
+use Rattle.pywr.specs.ExclusiveSets.{hasSet, addSets, setsFrom, exclusiveSets, setNumber, timesIn, setsWithNode}
 use Rattle.pywr.proofs.SetLaws.{number-at, listed-known}
 use Rattle.pywr.proofs.ListLaws.{not-found, same-some, found-mem}
 
@@ -32,12 +32,12 @@ mem-listed n (y ∷ ys) m = go (λ k. mem-listed n ys k) (List·Memᴰ·cases-co
     go ih (inl e) = or-l (eqb n y) (listed n ys) (subst (λ (k : ℕ). T (eqb n k)) e (eqb-refl n))
     go ih (inr k) = or-r (eqb n y) (listed n ys) (ih k)
 
-pub record Listing (n : ℕ) (ss : List (List ℕ)) : Type 0 where
+pub record Membership (n : ℕ) (ss : List (List ℕ)) : Type 0 where
   pub set : List ℕ
   pub among : List·Memᴰ set ss
   pub member : List·Memᴰ n set
 
-any-listed : (n : ℕ) (ss : List (List ℕ)) → T (anyListed n ss) → Listing n ss
+any-listed : (n : ℕ) (ss : List (List ℕ)) → T (anyListed n ss) → Membership n ss
 unfolding anyListed
 any-listed n [] h = absurd h
 any-listed n (s ∷ ss) h =
@@ -176,38 +176,38 @@ pub record Numbered (n start k : ℕ) (ss : List (List ℕ)) : Type 0 where
   pub found : getElem? ss at ≡ some set
   pub member : List·Memᴰ n set
 
-pub listing-sound : (n start k : ℕ) (ss : List (List ℕ)) → List·Memᴰ k (setsListing n start ss) → Numbered n start k ss
-unfolding setsListing
-listing-sound n start k [] m = absurd (List·Memᴰ·not-nil m)
-listing-sound n start k (s ∷ ss) m = go (λ j. listing-sound n (suc start) k ss j) (List·Memᴰ·append-cases (timesIn n start s) m)
+pub membership-sound : (n start k : ℕ) (ss : List (List ℕ)) → List·Memᴰ k (setsWithNode n start ss) → Numbered n start k ss
+unfolding setsWithNode
+membership-sound n start k [] m = absurd (List·Memᴰ·not-nil m)
+membership-sound n start k (s ∷ ss) m = go (λ j. membership-sound n (suc start) k ss j) (List·Memᴰ·append-cases (timesIn n start s) m)
   where
-    go : (List·Memᴰ k (setsListing n (suc start) ss) → Numbered n (suc start) k ss) → List·Memᴰ k (timesIn n start s) ⊎ List·Memᴰ k (setsListing n (suc start) ss) → Numbered n start k (s ∷ ss)
+    go : (List·Memᴰ k (setsWithNode n (suc start) ss) → Numbered n (suc start) k ss) → List·Memᴰ k (timesIn n start s) ⊎ List·Memᴰ k (setsWithNode n (suc start) ss) → Numbered n start k (s ∷ ss)
     go ih (inl j) = let r = times-sound n start k s j in record { at = 0; where-at = r .0 ∙ sym (add-zero start); set = s; found = refl; member = r .1 }
     go ih (inr j) = let r = ih j in record { at = suc (r .at); where-at = r .where-at ∙ suc-add start (r .at) ∙ sym (add-suc start (r .at)); set = r .set; found = r .found; member = r .member }
 
-pub listing-complete : (n start i : ℕ) (ss : List (List ℕ)) (s : List ℕ) → getElem? ss i ≡ some s → List·Memᴰ n s → List·Memᴰ (start + i) (setsListing n start ss)
-unfolding setsListing
-listing-complete n start i [] s e m = not-found s e
-listing-complete n start zero (t ∷ ts) s e m =
-    Memᴰ·append-left (setsListing n (suc start) ts) (subst (λ (k : ℕ). List·Memᴰ k (timesIn n start t)) (sym (add-zero start)) (times-complete n start t (subst (λ (l : List ℕ). List·Memᴰ n l) (sym (same-some t s e)) m)))
-listing-complete n start (suc i) (t ∷ ts) s e m =
-    Memᴰ·append-right (timesIn n start t) (subst (λ (k : ℕ). List·Memᴰ k (setsListing n (suc start) ts)) (suc-add start i ∙ sym (add-suc start i)) (listing-complete n (suc start) i ts s e m))
+pub membership-complete : (n start i : ℕ) (ss : List (List ℕ)) (s : List ℕ) → getElem? ss i ≡ some s → List·Memᴰ n s → List·Memᴰ (start + i) (setsWithNode n start ss)
+unfolding setsWithNode
+membership-complete n start i [] s e m = not-found s e
+membership-complete n start zero (t ∷ ts) s e m =
+    Memᴰ·append-left (setsWithNode n (suc start) ts) (subst (λ (k : ℕ). List·Memᴰ k (timesIn n start t)) (sym (add-zero start)) (times-complete n start t (subst (λ (l : List ℕ). List·Memᴰ n l) (sym (same-some t s e)) m)))
+membership-complete n start (suc i) (t ∷ ts) s e m =
+    Memᴰ·append-right (timesIn n start t) (subst (λ (k : ℕ). List·Memᴰ k (setsWithNode n (suc start) ts)) (suc-add start i ∙ sym (add-suc start i)) (membership-complete n (suc start) i ts s e m))
 
 -- ---- a node is exclusive exactly if a distinct set lists it
 
-pub listing-exclusive : (net : Network) (n k : ℕ) → List·Memᴰ k (setsListing n 0 (exclusiveSets net)) → T (isExclusive (net .aggregates) n)
-listing-exclusive net n k m =
-    let r = listing-sound n 0 k (exclusiveSets net) m in
+pub membership-exclusive : (net : Network) (n k : ℕ) → List·Memᴰ k (setsWithNode n 0 (exclusiveSets net)) → T (isExclusive (net .aggregates) n)
+membership-exclusive net n k m =
+    let r = membership-sound n 0 k (exclusiveSets net) m in
     lists-exclusive (net .aggregates) n (r .set) (set-from net (r .set) (found-mem (exclusiveSets net) (r .at) (r .set) (r .found))) (r .member)
 
-pub unlisted : (net : Network) (n : ℕ) → T (not (isExclusive (net .aggregates) n)) → setsListing n 0 (exclusiveSets net) ≡ []
-unlisted net n h = go (setsListing n 0 (exclusiveSets net)) refl
+pub unlisted : (net : Network) (n : ℕ) → T (not (isExclusive (net .aggregates) n)) → setsWithNode n 0 (exclusiveSets net) ≡ []
+unlisted net n h = go (setsWithNode n 0 (exclusiveSets net)) refl
   where
-    go : (l : List ℕ) → setsListing n 0 (exclusiveSets net) ≡ l → l ≡ []
+    go : (l : List ℕ) → setsWithNode n 0 (exclusiveSets net) ≡ l → l ≡ []
     go [] e = refl
-    go (k ∷ ks) e = absurd (T-not (isExclusive (net .aggregates) n) h (listing-exclusive net n k (subst (λ (l : List ℕ). List·Memᴰ k l) (sym e) (List·Memᴰ·head refl))))
+    go (k ∷ ks) e = absurd (T-not (isExclusive (net .aggregates) n) h (membership-exclusive net n k (subst (λ (l : List ℕ). List·Memᴰ k l) (sym e) (List·Memᴰ·head refl))))
 
-pub exclusive-listed : (net : Network) (n : ℕ) (s : List ℕ) → From (net .aggregates) s → List·Memᴰ n s → List·Memᴰ (setNumber s (exclusiveSets net)) (setsListing n 0 (exclusiveSets net))
+pub exclusive-listed : (net : Network) (n : ℕ) (s : List ℕ) → From (net .aggregates) s → List·Memᴰ n s → List·Memᴰ (setNumber s (exclusiveSets net)) (setsWithNode n 0 (exclusiveSets net))
 exclusive-listed net n s f m =
-    subst (λ (k : ℕ). List·Memᴰ k (setsListing n 0 (exclusiveSets net))) (zero-add (setNumber s (exclusiveSets net)))
-    (listing-complete n 0 (setNumber s (exclusiveSets net)) (exclusiveSets net) s (from-at net s f) m)
+    subst (λ (k : ℕ). List·Memᴰ k (setsWithNode n 0 (exclusiveSets net))) (zero-add (setNumber s (exclusiveSets net)))
+    (membership-complete n 0 (setNumber s (exclusiveSets net)) (exclusiveSets net) s (from-at net s f) m)

@@ -1,4 +1,4 @@
--- The sets that list a node, by its listings: listing j is of the set numbered j / 16. Assumes nothing.
+-- The sets that list a node, by its memberships: membership j is of the set numbered j / 16. Assumes nothing.
 use Prim.Native.Nat.{ℕ, suc, _+_, _*_, _/_, _<_, _≤_}
 use mathlib.Core.Path.{_≡_, refl, sym, ap, _∙_, subst}
 use mathlib.Core.Logic.{_↔_}
@@ -9,16 +9,16 @@ use lib.Dec.{eqb}
 use lib.ListN.{length, getD, take}
 use lib.Seq.{getD-take, length-take-le}
 use Rattle.pywr.specs.Network.{Network, keepIf}
-use Rattle.pywr.specs.ExclusiveSets.{exclusiveSets, timesIn, setsListing}
+use Rattle.pywr.specs.ExclusiveSets.{exclusiveSets, timesIn, setsWithNode}
 use Rattle.pywr.proofs.ListLaws.{AllMem, all-map, mem-found, found-get, found-below}
 use Rattle.network_aggregate.specs.AggregatedNode.{setAt}
 use Rattle.network_laws.specs.Passed.{SetPassed}
 use Rattle.laws.specs.Linked.{Linked}
-use Rattle.build_exclusive_sets.specs.Sets.{SetsFit, setsAt, placesIn, listingsOf}
+use Rattle.build_exclusive_sets.specs.Sets.{SetsFit, setsAt, placesIn, membershipsOf}
 use Rattle.laws.proofs.LinkedLaws.{walk-end, none-linked}
 use Rattle.build_exclusive_sets.proofs.SameSet.{set-length}
 
--- the set of a listing
+-- the set of a membership
 abbrev pub setOf : ℕ → ℕ
 setOf j = j / 16
 
@@ -36,13 +36,13 @@ places-sets n k j (m ∷ ms) l h =
     go true e ih = rw (e, ih)
     go false e ih = ih
 
-pub listings-sets : (n k : ℕ) (sets : List (List ℕ)) → AllMem Short sets → map setOf (listingsOf n k sets) ≡ setsListing n k sets
-unfolding listingsOf setsListing
-listings-sets n k [] h = refl
-listings-sets n k (s ∷ ss) h =
+pub memberships-sets : (n k : ℕ) (sets : List (List ℕ)) → AllMem Short sets → map setOf (membershipsOf n k sets) ≡ setsWithNode n k sets
+unfolding membershipsOf setsWithNode
+memberships-sets n k [] h = refl
+memberships-sets n k (s ∷ ss) h =
     let here = h s (List·Memᴰ·head refl) in
-    map-append setOf (placesIn n (16 * k) s) (listingsOf n (suc k) ss)
-    ∙ rw (places-sets n k (16 * k) s (omega arith) (omega arith), listings-sets n (suc k) ss (λ t m. h t (List·Memᴰ·tail m)))
+    map-append setOf (placesIn n (16 * k) s) (membershipsOf n (suc k) ss)
+    ∙ rw (places-sets n k (16 * k) s (omega arith) (omega arith), memberships-sets n (suc k) ss (λ t m. h t (List·Memᴰ·tail m)))
 
 module _ (file places : List ℕ) (count : ℕ) (h : SetsFit file places count) where
   pub sets-short : AllMem Short (setsAt file places count)
@@ -58,15 +58,15 @@ module _ (file places : List ℕ) (count : ℕ) (h : SetsFit file places count) 
       omega (arith, set-length file x, s .most))
 
   module _ (net : Network) (same : setsAt file places count ≡ exclusiveSets net) (n : ℕ) where
-    -- the listings of node n are of the sets that list it
-    pub node-sets : map setOf (listingsOf n 0 (setsAt file places count)) ≡ setsListing n 0 (exclusiveSets net)
-    node-sets = listings-sets n 0 (setsAt file places count) sets-short ∙ ap (setsListing n 0) same
+    -- the memberships of node n are of the sets that list it
+    pub node-sets : map setOf (membershipsOf n 0 (setsAt file places count)) ≡ setsWithNode n 0 (exclusiveSets net)
+    node-sets = memberships-sets n 0 (setsAt file places count) sets-short ∙ ap (setsWithNode n 0) same
 
-    -- no set lists it exactly if its first listing is 0
-    pub no-sets : (next : List ℕ) (first : ℕ) → Linked 2048 next first (listingsOf n 0 (setsAt file places count)) → (setsListing n 0 (exclusiveSets net) ≡ []) ↔ (first ≡ 0)
+    -- no set lists it exactly if its first membership is 0
+    pub no-sets : (next : List ℕ) (first : ℕ) → Linked 2048 next first (membershipsOf n 0 (setsAt file places count)) → (setsWithNode n 0 (exclusiveSets net) ≡ []) ↔ (first ≡ 0)
     no-sets next first l = (
-      λ e. none-linked 2048 next first (listingsOf n 0 (setsAt file places count)) l (unmapped (listingsOf n 0 (setsAt file places count)) (node-sets ∙ e)),
-      λ z. sym node-sets ∙ ap (map setOf) (walk-end 2048 next first (listingsOf n 0 (setsAt file places count)) l z),
+      λ e. none-linked 2048 next first (membershipsOf n 0 (setsAt file places count)) l (unmapped (membershipsOf n 0 (setsAt file places count)) (node-sets ∙ e)),
+      λ z. sym node-sets ∙ ap (map setOf) (walk-end 2048 next first (membershipsOf n 0 (setsAt file places count)) l z),
     )
       where
         unmapped : (js : List ℕ) → map setOf js ≡ [] → js ≡ []
