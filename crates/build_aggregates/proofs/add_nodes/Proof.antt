@@ -21,6 +21,22 @@ Inv-loop s c first-in next-in first-out next-out edge-to-col at columns₀ eleme
 abbrev μ-loop : tie.MeasureT-loop
 μ-loop s c first-in next-in first-out next-out edge-to-col at columns₀ elements₀ n size count₀ k₀ columns elements count k = size - k
 
+-- from a place to an earlier one
+abbrev to-start : tie.At-loop Inv-loop μ-loop → tie.Start Inv-loop μ-loop
+to-start c =
+    let after-shared-slice-known = c .before .before .before in
+    after-shared-slice-known .before
+
+abbrev to-loop : tie.After-add-node-arg2 Inv-loop μ-loop → tie.At-loop Inv-loop μ-loop
+to-loop c =
+    let in-loop = c .before .before .before in
+    in-loop .before
+
+abbrev to-set-size : tie.After-add-node-arg2 Inv-loop μ-loop → tie.After-set-size Inv-loop μ-loop
+to-set-size c =
+    let at-loop = to-loop c in
+    at-loop .before
+
 set-size-requires : tie.Need-set-size-requires Inv-loop μ-loop
 set-size-requires c κs =
     omega (arith, c .before .before .pre .1)
@@ -32,26 +48,26 @@ loop-holds c =
 
 member-requires : tie.Need-member-requires Inv-loop μ-loop
 member-requires c κs =
-    (c .before .before .before .before .before .pre .1, omega (arith, c .before .before .set-size .ensures .0, c .loop-test .taken))
+    (to-start (c .before) .pre .1, omega (arith, c .before .before .set-size .ensures .0, c .loop-test .taken))
 
 add-node-requires : tie.Need-add-node-requires Inv-loop μ-loop
 add-node-requires c κs =
-    let t = c .before .before .before .before .before .before .before .before in
-    let l = c .before .before .before .before .loop in
-    let listed = t .pre .2 (l .k) (omega (arith, c .before .before .before .before .before .set-size .ensures .0, c .before .before .before .loop-test .taken)) in
+    let t = to-start (to-loop c) in
+    let l = to-loop c .loop in
+    let listed = t .pre .2 (l .k) (omega (arith, to-set-size c .set-size .ensures .0, c .before .before .before .loop-test .taken)) in
     (t .pre .0, omega (arith, c .before .before .member .ensures, listed), l .inv .0 .few, omega (arith, l .inv .1, t .pre .4), l .inv .0 .rising)
 
 loop-again : tie.Need-loop-again Inv-loop μ-loop
 unfolding one64 ofBits
 loop-again c =
-    let c2 = c .before .before in
-    let c5 = c2 .before .before .before in
-    let c6 = c5 .before in
-    let c7 = c6 .before in
-    let c8 = c7 .before in
-    let c11 = c8 .before .before .before in
-    let l = c7 .loop in
-    (nodes-more _ (c11 .args .c) _ _ _ _ _ _ (l .inv .0) _ _ _ _ _ (omega (arith, c8 .set-size .ensures .0, c6 .loop-test .taken)) (c5 .member .ensures) refl (c2 .add-node .ensures), c2 .add-node .kept .1 .1 .1 .1 .1 .1 .1 .1 .1 .1 .0 ∙ l .inv .1)
+    let after-add-node = c .before .before in
+    let after-member = after-add-node .before .before .before in
+    let in-loop = after-member .before in
+    let at-loop = in-loop .before in
+    let after-set-size = at-loop .before in
+    let start = after-set-size .before .before .before in
+    let l = at-loop .loop in
+    (nodes-more _ (start .args .c) _ _ _ _ _ _ (l .inv .0) _ _ _ _ _ (omega (arith, after-set-size .set-size .ensures .0, in-loop .loop-test .taken)) (after-member .member .ensures) refl (after-add-node .add-node .ensures), after-add-node .add-node .kept .1 .1 .1 .1 .1 .1 .1 .1 .1 .1 .0 ∙ l .inv .1)
 
 same-length : tie.Need-same-length Inv-loop μ-loop
 same-length c =
@@ -59,7 +75,7 @@ same-length c =
 
 returns : tie.Need-returns Inv-loop μ-loop
 returns c =
-    nodes-all _ (c .before .before .before .before .before .args .c) _ _ _ _ _ _ (c .before .loop .inv .0) (omega (arith, c .before .before .set-size .ensures .0, c .loop-test .left))
+    nodes-all _ (to-start (c .before) .args .c) _ _ _ _ _ _ (c .before .loop .inv .0) (omega (arith, c .before .before .set-size .ensures .0, c .loop-test .left))
 
 pub add-nodes-spec : {M : Type 1} → statement M
 add-nodes-spec =

@@ -18,6 +18,27 @@ Inv-loop s c first-in next-in first-out next-out edge-to-col at columns₀ eleme
 abbrev μ-loop : tie.MeasureT-loop
 μ-loop s c first-in next-in first-out next-out edge-to-col at columns₀ elements₀ sets here₀ n₀ i₀ columns elements here n i = sets - i
 
+-- from a place to an earlier one
+abbrev to-start : tie.At-loop Inv-loop μ-loop → tie.Start Inv-loop μ-loop
+to-start c =
+    let after-shared-slice-known = c .before .before .before in
+    after-shared-slice-known .before
+
+abbrev to-set-count : tie.After-add-nodes-arg2 Inv-loop μ-loop → tie.After-set-count Inv-loop μ-loop
+to-set-count c =
+    let at-loop = c .before .before .before in
+    at-loop .before
+
+abbrev to-in-loop : tie.After-slice-known2 Inv-loop μ-loop → tie.In-loop Inv-loop μ-loop
+to-in-loop c =
+    let after-add-nodes-arg2 = c .before .before .before in
+    after-add-nodes-arg2 .before .before
+
+abbrev to-loop : tie.After-slice-known2 Inv-loop μ-loop → tie.At-loop Inv-loop μ-loop
+to-loop c =
+    let in-loop = to-in-loop c in
+    in-loop .before
+
 set-count-requires : tie.Need-set-count-requires Inv-loop μ-loop
 set-count-requires c κs =
     fields-within _ _ _ (c .before .before .pre .1)
@@ -33,29 +54,29 @@ loop-holds c =
 
 add-nodes-requires : tie.Need-add-nodes-requires Inv-loop μ-loop
 add-nodes-requires c κs =
-    let t = c .before .before .before .before .before .before .before in
+    let t = to-start (c .before .before .before) in
     let l = c .before .before .before .loop in
-    let lt : l .i < byte (t .args .s .now) (t .args .at + 3) = omega (arith, c .before .before .before .before .set-count .ensures .0, c .before .before .loop-test .taken) in
+    let lt : l .i < byte (t .args .s .now) (t .args .at + 3) = omega (arith, to-set-count c .set-count .ensures .0, c .before .before .loop-test .taken) in
     (t .pre .0, set-within _ _ _ (t .pre .1) _ _ lt (l .inv .1), set-nodes _ _ _ (t .pre .1) _ _ lt (l .inv .1), l .inv .0 .few, omega (arith, l .inv .2, t .pre .2), l .inv .0 .rising)
 
 set-end-requires : tie.Need-set-end-requires Inv-loop μ-loop
 set-end-requires c κs =
-    let t = c .before .before .before .before .before .before .before .before .before .before in
-    let l = c .before .before .before .before .before .before .loop in
-    let lt : l .i < byte (t .args .s .now) (t .args .at + 3) = omega (arith, c .before .before .before .before .before .before .before .set-count .ensures .0, c .before .before .before .before .before .loop-test .taken) in
+    let t = to-start (to-loop c) in
+    let l = to-loop c .loop in
+    let lt : l .i < byte (t .args .s .now) (t .args .at + 3) = omega (arith, to-set-count (c .before .before .before) .set-count .ensures .0, to-in-loop c .loop-test .taken) in
     omega (arith, set-within _ _ _ (t .pre .1) _ _ lt (l .inv .1))
 
 loop-again : tie.Need-loop-again Inv-loop μ-loop
 loop-again c =
-    let c3 = c .before .before .before in
-    let c6 = c3 .before .before .before in
-    let c7 = c6 .before in
-    let c8 = c7 .before in
-    let c11 = c8 .before .before .before in
-    let t = c11 in
-    let l = c7 .loop in
-    let lt : l .i < byte (t .args .s .now) (t .args .at + 3) = omega (arith, c8 .set-count .ensures .0, c6 .loop-test .taken) in
-    (sets-more _ (t .args .c) _ _ _ _ _ _ (l .inv .0) _ _ _ _ lt (c .set-end .ensures) (c3 .add-nodes .ensures), set-next _ _ _ (t .pre .1) _ _ lt (l .inv .1) _ (c .set-end .ensures), c3 .add-nodes .kept .1 .1 .1 .1 .1 .1 .1 .1 .1 .0 ∙ l .inv .2)
+    let after-add-nodes = c .before .before .before in
+    let in-loop = after-add-nodes .before .before .before in
+    let at-loop = in-loop .before in
+    let after-set-count = at-loop .before in
+    let start = after-set-count .before .before .before in
+    let t = start in
+    let l = at-loop .loop in
+    let lt : l .i < byte (t .args .s .now) (t .args .at + 3) = omega (arith, after-set-count .set-count .ensures .0, in-loop .loop-test .taken) in
+    (sets-more _ (t .args .c) _ _ _ _ _ _ (l .inv .0) _ _ _ _ lt (c .set-end .ensures) (after-add-nodes .add-nodes .ensures), set-next _ _ _ (t .pre .1) _ _ lt (l .inv .1) _ (c .set-end .ensures), after-add-nodes .add-nodes .kept .1 .1 .1 .1 .1 .1 .1 .1 .1 .0 ∙ l .inv .2)
 
 same-length : tie.Need-same-length Inv-loop μ-loop
 same-length c =
@@ -63,7 +84,7 @@ same-length c =
 
 returns : tie.Need-returns Inv-loop μ-loop
 returns c =
-    sets-all _ (c .before .before .before .before .before .args .c) _ _ _ _ _ _ (c .before .loop .inv .0) (omega (arith, c .before .before .set-count .ensures .0, c .loop-test .left))
+    sets-all _ (to-start (c .before) .args .c) _ _ _ _ _ _ (c .before .loop .inv .0) (omega (arith, c .before .before .set-count .ensures .0, c .loop-test .left))
 
 pub aggregate-row-spec : {M : Type 1} → statement M
 aggregate-row-spec =

@@ -29,6 +29,37 @@ Inv-loop s c first-in next-in first-out next-out edge-to-col sentinel words₀ n
 abbrev μ-loop : tie.MeasureT-loop
 μ-loop s c first-in next-in first-out next-out edge-to-col sentinel words₀ numbers₀ columns₀ at₀ filled₀ i₀ words numbers columns at filled i = c .aggregates - i
 
+-- from a place to an earlier one
+abbrev to-start : tie.At-loop Inv-loop μ-loop → tie.Start Inv-loop μ-loop
+to-start c =
+    let after-slice-known2 = c .before .before .before in
+    after-slice-known2 .before .before .before
+
+abbrev to-loop : tie.After-add-aggregate-row-arg3 Inv-loop μ-loop → tie.At-loop Inv-loop μ-loop
+to-loop c =
+    let then1 = c .before .before .before in
+    then1 .before .before
+
+abbrev to-then1 : tie.After-add-aggregate-row Inv-loop μ-loop → tie.Then1 Inv-loop μ-loop
+to-then1 c =
+    let after-add-aggregate-row-arg = c .before .before .before in
+    after-add-aggregate-row-arg .before
+
+abbrev to-add-aggregate-row : tie.After-slice-known4 Inv-loop μ-loop → tie.After-add-aggregate-row Inv-loop μ-loop
+to-add-aggregate-row c =
+    let after-words = c .before .before .before in
+    after-words .before
+
+abbrev to-add-aggregate-row-arg3 : tie.After-slice-known4 Inv-loop μ-loop → tie.After-add-aggregate-row-arg3 Inv-loop μ-loop
+to-add-aggregate-row-arg3 c =
+    let after-add-aggregate-row = to-add-aggregate-row c in
+    after-add-aggregate-row .before
+
+abbrev to-slice-known4 : tie.After-row-word Inv-loop μ-loop → tie.After-slice-known4 Inv-loop μ-loop
+to-slice-known4 c =
+    let at-match-keys2 = c .before .before .before in
+    at-match-keys2 .before
+
 loop-holds : tie.Need-loop-holds Inv-loop μ-loop
 unfolding recordsEnd
 loop-holds c =
@@ -36,94 +67,94 @@ loop-holds c =
 
 add-aggregate-row-requires : tie.Need-add-aggregate-row-requires Inv-loop μ-loop
 add-aggregate-row-requires c κs =
-    let t = c .before .before .before .before .before .before .before .before .before .before .before in
-    let l = c .before .before .before .before .before .loop in
+    let t = to-start (to-loop c) in
+    let l = to-loop c .loop in
     let lt = c .before .before .before .if1 .taken in
     let a = l .inv .0 (t .pre .3 .rows) (t .pre .3 .held) in
     (t .pre .0, aggregate-check _ (t .args .c) (t .pre .0 .sections) _ _ lt (l .inv .1), omega (arith, l .inv .3, t .pre .1), omega (arith, l .inv .4, t .pre .2), record { rows = _; held = a .held })
 
 same-length : tie.Need-same-length Inv-loop μ-loop
 same-length c =
-    c .before .before .before .before .before .before .add-aggregate-row .kept .1 .1 .1 .1 .1 .1 .1 .1 .1 .0 ∙ c .before .before .before .before .before .before .before .before .before .before .before .before .loop .inv .3
+    to-add-aggregate-row (c .before .before) .add-aggregate-row .kept .1 .1 .1 .1 .1 .1 .1 .1 .1 .0 ∙ to-loop (to-add-aggregate-row-arg3 (c .before .before)) .loop .inv .3
 
 same-length-2 : tie.Need-same-length-2 Inv-loop μ-loop
 same-length-2 c =
-    c .before .before .before .before .before .before .add-aggregate-row .kept .1 .1 .1 .1 .1 .1 .1 .1 .1 .1 .0 ∙ c .before .before .before .before .before .before .before .before .before .before .before .before .loop .inv .4
+    to-add-aggregate-row (c .before .before) .add-aggregate-row .kept .1 .1 .1 .1 .1 .1 .1 .1 .1 .1 .0 ∙ to-loop (to-add-aggregate-row-arg3 (c .before .before)) .loop .inv .4
 
 returns : tie.Need-returns Inv-loop μ-loop
 returns c =
-    let c6 = c .before .before .before .before .before .before in
-    let c10 = c6 .before .before .before .before in
-    let c12 = c10 .before .before in
-    let c18 = c12 .before .before .before .before .before .before in
-    let t = c18 in
-    let l = c12 .loop in
-    let lt = c10 .if1 .taken in
+    let after-add-aggregate-row = to-add-aggregate-row (c .before .before) in
+    let then1 = to-then1 after-add-aggregate-row in
+    let at-loop = then1 .before .before in
+    let start = to-start at-loop in
+    let t = start in
+    let l = at-loop .loop in
+    let lt = then1 .if1 .taken in
     λ rows held.
     let a = l .inv .0 rows held in
-    asked-full _ _ _ _ _ _ _ (omega arith) _ _ _ _ _ _ _ _ (asked-under _ (t .args .c) (t .pre .0 .sections) _ _ lt (l .inv .1)) (asked-row _ (t .args .c) (t .pre .0 .sections) _ _ lt (l .inv .1)) a (c6 .add-aggregate-row .ensures _ (a .held)) _ (c .enum-told .given .1)
+    asked-full _ _ _ _ _ _ _ (omega arith) _ _ _ _ _ _ _ _ (asked-under _ (t .args .c) (t .pre .0 .sections) _ _ lt (l .inv .1)) (asked-row _ (t .args .c) (t .pre .0 .sections) _ _ lt (l .inv .1)) a (after-add-aggregate-row .add-aggregate-row .ensures _ (a .held)) _ (c .enum-told .given .1)
 
 row-word-requires : tie.Need-row-word-requires Inv-loop μ-loop
 row-word-requires c κs =
-    let c1 = c .before in
-    let c7 = c1 .before .before .before .before .before .before in
-    let c11 = c7 .before .before .before .before in
-    let c13 = c11 .before .before in
-    let c19 = c13 .before .before .before .before .before .before in
-    let t = c19 in
-    let l = c13 .loop in
-    let lt = c11 .if1 .taken in
+    let after-r = c .before in
+    let after-add-aggregate-row = to-add-aggregate-row (after-r .before .before) in
+    let then1 = to-then1 after-add-aggregate-row in
+    let at-loop = then1 .before .before in
+    let start = to-start at-loop in
+    let t = start in
+    let l = at-loop .loop in
+    let lt = then1 .if1 .taken in
     let a = l .inv .0 (t .pre .3 .rows) (t .pre .3 .held) in
-    place-fits _ _ _ _ _ _ _ (omega arith) _ _ _ _ _ _ _ _ (asked-under _ (t .args .c) (t .pre .0 .sections) _ _ lt (l .inv .1)) (asked-row _ (t .args .c) (t .pre .0 .sections) _ _ lt (l .inv .1)) a (c7 .add-aggregate-row .ensures _ (a .held)) _ _ (c1 .r .given .1)
+    place-fits _ _ _ _ _ _ _ (omega arith) _ _ _ _ _ _ _ _ (asked-under _ (t .args .c) (t .pre .0 .sections) _ _ lt (l .inv .1)) (asked-row _ (t .args .c) (t .pre .0 .sections) _ _ lt (l .inv .1)) a (after-add-aggregate-row .add-aggregate-row .ensures _ (a .held)) _ _ (after-r .r .given .1)
 
 add-words : tie.Need-add-words Inv-loop μ-loop
 add-words c =
-    let few = c .before .before .before .before .before .before .before .before .before .before .before .before .before .before .before .before .before .before .before .before .pre .0 .sections .few-aggregates in
-    let lt = c .before .before .before .before .before .before .before .before .before .before .before .before .if1 .taken in
+    let few = to-start (to-loop (to-add-aggregate-row-arg3 (to-slice-known4 c))) .pre .0 .sections .few-aggregates in
+    let lt = to-then1 (to-add-aggregate-row (to-slice-known4 c)) .if1 .taken in
     search needs
 
 mul-words : tie.Need-mul-words Inv-loop μ-loop
 mul-words c =
-    let few = c .before .before .before .before .before .before .before .before .before .before .before .before .before .before .before .before .before .before .before .before .pre .0 .sections .few-aggregates in
-    let lt = c .before .before .before .before .before .before .before .before .before .before .before .before .if1 .taken in
+    let few = to-start (to-loop (to-add-aggregate-row-arg3 (to-slice-known4 c))) .pre .0 .sections .few-aggregates in
+    let lt = to-then1 (to-add-aggregate-row (to-slice-known4 c)) .if1 .taken in
     search needs
 
 slice-write-words : tie.Need-slice-write-words Inv-loop μ-loop
 slice-write-words c =
-    let t = c .before .before .before .before .before .before .before .before .before .before .before .before .before .before .before .before .before .before .before .before in
-    let l = c .before .before .before .before .before .before .before .before .before .before .before .before .before .before .loop in
-    let lt = c .before .before .before .before .before .before .before .before .before .before .before .before .if1 .taken in
-    let call = c .before .before .before .before .before .before .before .before .add-aggregate-row in
+    let t = to-start (to-loop (to-add-aggregate-row-arg3 (to-slice-known4 c))) in
+    let l = to-loop (to-add-aggregate-row-arg3 (to-slice-known4 c)) .loop in
+    let lt = to-then1 (to-add-aggregate-row (to-slice-known4 c)) .if1 .taken in
+    let call = to-add-aggregate-row (to-slice-known4 c) .add-aggregate-row in
     omega (arith, call .kept .1 .1 .1 .1 .1 .1 .1 .1 .1 .0, l .inv .3, t .pre .1, t .pre .0 .sections .few-aggregates, lt)
 
 aggregate-end-requires : tie.Need-aggregate-end-requires Inv-loop μ-loop
 aggregate-end-requires c κs =
-    let t = c .before .before .before .before .before .before .before .before .before .before .before .before .before .before .before .before .before .before .before .before in
-    let l = c .before .before .before .before .before .before .before .before .before .before .before .before .before .before .loop in
-    let lt = c .before .before .before .before .before .before .before .before .before .before .before .before .if1 .taken in
+    let t = to-start (to-loop (to-add-aggregate-row-arg3 (to-slice-known4 c))) in
+    let l = to-loop (to-add-aggregate-row-arg3 (to-slice-known4 c)) .loop in
+    let lt = to-then1 (to-add-aggregate-row (to-slice-known4 c)) .if1 .taken in
     aggregate-within _ _ _ (aggregate-check _ (t .args .c) (t .pre .0 .sections) _ _ lt (l .inv .1))
 
 loop-less : tie.Need-loop-less Inv-loop μ-loop
 loop-less c =
-    omega (arith, c .before .before .before .before .before .before .before .before .before .before .before .before .before .if1 .taken)
+    omega (arith, to-then1 (to-add-aggregate-row (to-slice-known4 (c .before))) .if1 .taken)
 
 loop-again : tie.Need-loop-again Inv-loop μ-loop
 loop-again c =
-    let c1 = c .before in
-    let c3 = c1 .before .before in
-    let c9 = c3 .before .before .before .before .before .before in
-    let c13 = c9 .before .before .before .before in
-    let c15 = c13 .before .before in
-    let c21 = c15 .before .before .before .before .before .before in
-    let t = c21 in
-    let l = c15 .loop in
-    let lt = c13 .if1 .taken in
-    let call = c9 .add-aggregate-row in (
+    let after-row-word = c .before in
+    let after-r = after-row-word .before .before in
+    let after-add-aggregate-row = to-add-aggregate-row (after-r .before .before) in
+    let then1 = to-then1 after-add-aggregate-row in
+    let at-loop = then1 .before .before in
+    let start = to-start at-loop in
+    let t = start in
+    let l = at-loop .loop in
+    let lt = then1 .if1 .taken in
+    let call = after-add-aggregate-row .add-aggregate-row in (
       (λ rows held.
           let a = l .inv .0 rows held in
-          asked-more _ _ _ _ _ _ _ (omega arith) _ _ _ _ _ _ _ _ (asked-under _ (t .args .c) (t .pre .0 .sections) _ _ lt (l .inv .1)) (asked-row _ (t .args .c) (t .pre .0 .sections) _ _ lt (l .inv .1)) a (call .ensures _ (a .held)) _ _ (c3 .r .given .1) _ (c1 .row-word .result ∷ []) _ (omega arith) refl
+          asked-more _ _ _ _ _ _ _ (omega arith) _ _ _ _ _ _ _ _ (asked-under _ (t .args .c) (t .pre .0 .sections) _ _ lt (l .inv .1)) (asked-row _ (t .args .c) (t .pre .0 .sections) _ _ lt (l .inv .1)) a (call .ensures _ (a .held)) _ _ (after-r .r .given .1) _ (after-row-word .row-word .result ∷ []) _ (omega arith) refl
           (omega (arith, call .kept .1 .1 .1 .1 .1 .1 .1 .1 .1 .0, l .inv .3, t .pre .1, t .pre .0 .sections .few-aggregates, lt))
-          (λ places e. ap (λ (k : ℕ). places ++ (k ∷ [])) (sym (c1 .row-word .ensures))) refl),
+          (λ places e. ap (λ (k : ℕ). places ++ (k ∷ [])) (sym (after-row-word .row-word .ensures))) refl),
       aggregate-next _ (t .args .c) (t .pre .0 .sections) _ _ lt (l .inv .1) _ (c .aggregate-end .ensures),
       omega arith,
       simp length-set (call .kept .1 .1 .1 .1 .1 .1 .1 .1 .1 .0 ∙ l .inv .3),
@@ -140,7 +171,7 @@ same-length-4 c =
 
 returns-2 : tie.Need-returns-2 Inv-loop μ-loop
 returns-2 c =
-    let t = c .before .before .before .before .before .before .before .before in
+    let t = to-start (c .before .before) in
     let l = c .before .before .loop in
     λ rows held. asked-all _ _ _ _ _ _ _ _ _ _ _ _ (omega (arith, asked-count _ (t .args .c) (t .pre .0 .sections), c .if1 .left)) (omega (arith, l .inv .2, c .if1 .left)) (l .inv .0 rows held)
 

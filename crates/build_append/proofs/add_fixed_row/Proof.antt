@@ -10,9 +10,15 @@ returns : tie.Need-returns
 returns c =
     λ rows held. rows-over rows _ _ _ _ _ _ _ held (omega arith)
 
+-- from a place to an earlier one
+abbrev to-start : tie.Then2 → tie.Start
+to-start c =
+    let after-slice-known2 = c .before .before .before in
+    after-slice-known2 .before .before
+
 returns-2 : tie.Need-returns-2
 returns-2 c =
-    let start = c .before .before .before .before .before in
+    let start = to-start c in
     λ rows held. elements-over rows _ _ _ _ _ _ _ held (start .pre .1) (omega (arith, c .before .before .run .given .0)) (start .pre .2) (omega arith)
 
 slice-write-numbers-2 : tie.Need-slice-write-numbers-2
@@ -21,14 +27,14 @@ slice-write-numbers-2 c =
 
 returns-3 : tie.Need-returns-3
 returns-3 c =
-    let c3 = c .before .before .before in
-    let c5 = c3 .before .before in
-    let c6 = c5 .before in
-    let c7 = c6 .before in
-    let c10 = c7 .before .before .before in
-    let start = c10 in
+    let after-put-columns = c .before .before .before in
+    let else2 = after-put-columns .before .before in
+    let else1 = else2 .before in
+    let after-run = else1 .before in
+    let start-place = after-run .before .before .before in
+    let start = start-place in
     λ rows held.
-    row-added rows _ _ _ _ _ _ _ held (start .pre .1) (omega (arith, c7 .run .given .0)) (start .pre .2) (start .pre .0) (omega (arith, c6 .if1 .left)) (omega (arith, c5 .if2 .left)) _ _ (c3 .put-columns .ensures) (c .start-word .ensures)
+    row-added rows _ _ _ _ _ _ _ held (start .pre .1) (omega (arith, after-run .run .given .0)) (start .pre .2) (start .pre .0) (omega (arith, else1 .if1 .left)) (omega (arith, else2 .if2 .left)) _ _ (after-put-columns .put-columns .ensures) (c .start-word .ensures)
 
 pub add-fixed-row-spec : {M : Type 1} → statement M
 add-fixed-row-spec =

@@ -14,18 +14,29 @@ Inv-loop words₀ at columns n i₀ words i = (i ≤ n) × (words ≡ sets words
 abbrev μ-loop : tie.MeasureT-loop
 μ-loop words₀ at columns n i₀ words i = n - i
 
+-- from a place to an earlier one
+abbrev to-start-from-loop : tie.After-loop Inv-loop μ-loop → tie.Start Inv-loop μ-loop
+to-start-from-loop c =
+    let after-slice-known = c .before .before .before in
+    after-slice-known .before
+
+abbrev to-start-from-shared-slice-known2 : tie.After-shared-slice-known2 Inv-loop μ-loop → tie.Start Inv-loop μ-loop
+to-start-from-shared-slice-known2 c =
+    let after-shared-slice-known = c .before .before .before in
+    after-shared-slice-known .before .before
+
 loop-holds : tie.Need-loop-holds Inv-loop μ-loop
 loop-holds c =
     (search needs, refl, refl)
 
 column-word-requires : tie.Need-column-word-requires Inv-loop μ-loop
 column-word-requires c κs =
-    let start = c .before .before .before .before .before in
+    let start = to-start-from-shared-slice-known2 c in
     column-under _ _ _ (start .pre .1) (start .pre .2) (c .before .loop-test .taken)
 
 loop-again : tie.Need-loop-again Inv-loop μ-loop
 loop-again c =
-    let start = c .before .before .before .before .before .before in
+    let start = to-start-from-shared-slice-known2 (c .before) in
     let l = c .before .before .before .loop in (
       search needs,
       columns-next _ _ _ _ _ _ (start .pre .1) _ (c .before .before .loop-test .taken) (c .column-word .ensures) (l .inv .1),
@@ -34,7 +45,7 @@ loop-again c =
 
 returns : tie.Need-returns Inv-loop μ-loop
 returns c =
-    let start = c .before .before .before .before in
+    let start = to-start-from-loop c in
     let l = c .before .loop in
     columns-end _ _ _ _ _ _ (start .pre .1) (c .loop-test .left) (l .inv .1)
 

@@ -16,70 +16,87 @@ Inv-loop s nodes edges first-in next-in first-out next-out edge-to-col₀ count�
 abbrev μ-loop : tie.MeasureT-loop
 μ-loop s nodes edges first-in next-in first-out next-out edge-to-col₀ count₀ e₀ edge-to-col count e = edges - e
 
+-- from a place to an earlier one
+abbrev to-start : tie.After-from-node-index Inv-loop μ-loop → tie.Start Inv-loop μ-loop
+to-start c =
+    let at-loop = c .before .before .before in
+    at-loop .before .before .before
+
+abbrev to-narrow16 : tie.After-add-simple-edge-arg Inv-loop μ-loop → tie.After-narrow16 Inv-loop μ-loop
+to-narrow16 c =
+    let after-from-node-index = c .before .before .before in
+    after-from-node-index .before
+
+abbrev to-loop : tie.After-add-simple-edge-arg Inv-loop μ-loop → tie.At-loop Inv-loop μ-loop
+to-loop c =
+    let after-narrow16 = to-narrow16 c in
+    after-narrow16 .before .before
+
 loop-holds : tie.Need-loop-holds Inv-loop μ-loop
 loop-holds c =
     none-placed _ _ _ (c .before .before .pre .1)
 
 shares-with-requires : tie.Need-shares-with-requires Inv-loop μ-loop
 shares-with-requires c κs =
+    let start = to-start c in
     let q = rw (c .before .narrow16 .ensures) at (c .from-node-index .ensures) in
-    let under = c .before .before .before .before .before .before .pre .3 (c .before .before .before .loop .e) (c .before .before .loop-test .taken) in (
-      omega (arith, c .before .before .before .before .before .before .pre .0),
-      omega (arith, c .before .before .before .before .before .before .pre .2),
-      le-trans (listed-most (c .before .before .before .before .before .before .pre .4) (c .from-node-index .result .0)) (c .before .before .before .before .before .before .pre .1),
-      le-trans (listed-most (c .before .before .before .before .before .before .pre .5) (c .from-node-index .result .0)) (c .before .before .before .before .before .before .pre .1),
+    let under = start .pre .3 (c .before .before .before .loop .e) (c .before .before .loop-test .taken) in (
+      omega (arith, start .pre .0),
+      omega (arith, start .pre .2),
+      le-trans (listed-most (start .pre .4) (c .from-node-index .result .0)) (start .pre .1),
+      le-trans (listed-most (start .pre .5) (c .from-node-index .result .0)) (start .pre .1),
     )
 
 add-simple-edge-requires : tie.Need-add-simple-edge-requires Inv-loop μ-loop
 add-simple-edge-requires c κs =
-    let few = c .before .before .before .before .before .before .loop .inv .few-columns in
-    let most = c .before .before .before .before .before .before .before .before .before .pre .1 in
-    let q = c .before .before .before .before .narrow16 .ensures in
+    let few = to-loop c .loop .inv .few-columns in
+    let most = to-start (c .before .before .before) .pre .1 in
+    let q = to-narrow16 c .narrow16 .ensures in
     (omega arith, omega arith)
 
 loop-again : tie.Need-loop-again Inv-loop μ-loop
 loop-again c =
-    let c2 = c .before .before in
-    let c3 = c2 .before in
-    let c4 = c3 .before in
-    let c5 = c4 .before in
-    let c6 = c5 .before in
-    let c7 = c6 .before in
-    let c10 = c7 .before .before .before in
-    let k = shared-read _ _ _ (c10 .pre .4) (c10 .pre .5) (c7 .loop .e) _ _ (rw (c5 .narrow16 .ensures) at (c4 .from-node-index .ensures)) (c3 .shares-with .ensures) in
-    let under = c10 .pre .3 (c7 .loop .e) (c6 .loop-test .taken) in
-    simple-placed _ _ _ _ _ _ _ _ (c7 .loop .inv) (c6 .loop-test .taken) under (c .add-simple-edge .ensures .0) (sym k ∙ c2 .if1 .taken)
-    (rw (c5 .narrow16 .ensures) at (c .add-simple-edge .ensures .1 (c7 .loop .inv .now-columns) (c7 .loop .inv .mapped) (omega (arith, c7 .loop .inv .long, c5 .narrow16 .ensures))))
+    let then1 = c .before .before in
+    let after-shares-with = then1 .before in
+    let after-from-node-index = after-shares-with .before in
+    let after-narrow16 = after-from-node-index .before in
+    let in-loop = after-narrow16 .before in
+    let at-loop = in-loop .before in
+    let start = at-loop .before .before .before in
+    let k = shared-read _ _ _ (start .pre .4) (start .pre .5) (at-loop .loop .e) _ _ (rw (after-narrow16 .narrow16 .ensures) at (after-from-node-index .from-node-index .ensures)) (after-shares-with .shares-with .ensures) in
+    let under = start .pre .3 (at-loop .loop .e) (in-loop .loop-test .taken) in
+    simple-placed _ _ _ _ _ _ _ _ (at-loop .loop .inv) (in-loop .loop-test .taken) under (c .add-simple-edge .ensures .0) (sym k ∙ then1 .if1 .taken)
+    (rw (after-narrow16 .narrow16 .ensures) at (c .add-simple-edge .ensures .1 (at-loop .loop .inv .now-columns) (at-loop .loop .inv .mapped) (omega (arith, at-loop .loop .inv .long, after-narrow16 .narrow16 .ensures))))
 
 add-equal-edges-requires : tie.Need-add-equal-edges-requires Inv-loop μ-loop
 add-equal-edges-requires c κs =
-    let c1 = c .before in
-    let c2 = c1 .before in
-    let c3 = c2 .before in
-    let c4 = c3 .before in
-    let c6 = c4 .before .before in
-    let c9 = c6 .before .before .before in
-    let few = c6 .loop .inv .few-columns in
-    let most = c9 .pre .1 in
-    let q = c4 .narrow16 .ensures in
-    let k = shared-read _ _ _ (c9 .pre .4) (c9 .pre .5) (c6 .loop .e) _ _ (rw (c4 .narrow16 .ensures) at (c3 .from-node-index .ensures)) (c2 .shares-with .ensures) in
-    let under = shared-under _ _ _ (c9 .pre .4) (c6 .loop .e) _ k (c1 .if1 .left) in
+    let else1 = c .before in
+    let after-shares-with = else1 .before in
+    let after-from-node-index = after-shares-with .before in
+    let after-narrow16 = after-from-node-index .before in
+    let at-loop = after-narrow16 .before .before in
+    let start = at-loop .before .before .before in
+    let few = at-loop .loop .inv .few-columns in
+    let most = start .pre .1 in
+    let q = after-narrow16 .narrow16 .ensures in
+    let k = shared-read _ _ _ (start .pre .4) (start .pre .5) (at-loop .loop .e) _ _ (rw (after-narrow16 .narrow16 .ensures) at (after-from-node-index .from-node-index .ensures)) (after-shares-with .shares-with .ensures) in
+    let under = shared-under _ _ _ (start .pre .4) (at-loop .loop .e) _ k (else1 .if1 .left) in
     (omega arith, omega arith, omega arith)
 
 loop-again-2 : tie.Need-loop-again-2 Inv-loop μ-loop
 loop-again-2 c =
-    let c2 = c .before .before in
-    let c3 = c2 .before in
-    let c4 = c3 .before in
-    let c5 = c4 .before in
-    let c6 = c5 .before in
-    let c7 = c6 .before in
-    let c10 = c7 .before .before .before in
-    let k = shared-read _ _ _ (c10 .pre .4) (c10 .pre .5) (c7 .loop .e) _ _ (rw (c5 .narrow16 .ensures) at (c4 .from-node-index .ensures)) (c3 .shares-with .ensures) in
-    let there = shared-under _ _ _ (c10 .pre .4) (c7 .loop .e) _ k (c2 .if1 .left) in
-    let under = c10 .pre .3 (c7 .loop .e) (c6 .loop-test .taken) in
-    equal-placed _ _ _ _ _ _ _ _ (c7 .loop .inv) (c6 .loop-test .taken) under (c .add-equal-edges .ensures .0) _ k (c2 .if1 .left)
-    (rw (c5 .narrow16 .ensures) at (c .add-equal-edges .ensures .1 (c7 .loop .inv .now-columns) (c7 .loop .inv .mapped) (omega (arith, c7 .loop .inv .long, c5 .narrow16 .ensures)) (omega (arith, c7 .loop .inv .long))))
+    let else1 = c .before .before in
+    let after-shares-with = else1 .before in
+    let after-from-node-index = after-shares-with .before in
+    let after-narrow16 = after-from-node-index .before in
+    let in-loop = after-narrow16 .before in
+    let at-loop = in-loop .before in
+    let start = at-loop .before .before .before in
+    let k = shared-read _ _ _ (start .pre .4) (start .pre .5) (at-loop .loop .e) _ _ (rw (after-narrow16 .narrow16 .ensures) at (after-from-node-index .from-node-index .ensures)) (after-shares-with .shares-with .ensures) in
+    let there = shared-under _ _ _ (start .pre .4) (at-loop .loop .e) _ k (else1 .if1 .left) in
+    let under = start .pre .3 (at-loop .loop .e) (in-loop .loop-test .taken) in
+    equal-placed _ _ _ _ _ _ _ _ (at-loop .loop .inv) (in-loop .loop-test .taken) under (c .add-equal-edges .ensures .0) _ k (else1 .if1 .left)
+    (rw (after-narrow16 .narrow16 .ensures) at (c .add-equal-edges .ensures .1 (at-loop .loop .inv .now-columns) (at-loop .loop .inv .mapped) (omega (arith, at-loop .loop .inv .long, after-narrow16 .narrow16 .ensures)) (omega (arith, at-loop .loop .inv .long))))
 
 returns : tie.Need-returns Inv-loop μ-loop
 returns c =

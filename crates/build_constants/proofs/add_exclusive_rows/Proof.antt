@@ -21,15 +21,52 @@ Inv-loop s c first-in next-in first-out next-out edge-to-col edge-columns first-
 abbrev μ-loop : tie.MeasureT-loop
 μ-loop s c first-in next-in first-out next-out edge-to-col edge-columns first-membership next-membership node sentinel words₀ numbers₀ columns₀ k filled₀ link₀ words numbers columns filled link = above link
 
+-- from a place to an earlier one
+abbrev to-start : tie.After-wide16 Inv-loop μ-loop → tie.Start Inv-loop μ-loop
+to-start c =
+    let after-shared-slice-known = c .before .before .before in
+    after-shared-slice-known .before
+
+abbrev to-loop : tie.After-add-bounded-rows-arg3 Inv-loop μ-loop → tie.At-loop Inv-loop μ-loop
+to-loop c =
+    let in-loop = c .before .before .before in
+    in-loop .before
+
+abbrev to-wide16 : tie.After-add-bounded-rows-arg3 Inv-loop μ-loop → tie.After-wide16 Inv-loop μ-loop
+to-wide16 c =
+    let at-loop = to-loop c in
+    at-loop .before .before .before
+
+abbrev to-in-loop : tie.After-add-bounded-rows Inv-loop μ-loop → tie.In-loop Inv-loop μ-loop
+to-in-loop c =
+    let after-add-bounded-rows-arg = c .before .before .before in
+    after-add-bounded-rows-arg .before
+
+abbrev to-add-bounded-rows : tie.After-slice-known4 Inv-loop μ-loop → tie.After-add-bounded-rows Inv-loop μ-loop
+to-add-bounded-rows c =
+    let after-words = c .before .before .before in
+    after-words .before
+
+abbrev to-add-bounded-rows-arg3 : tie.After-slice-known4 Inv-loop μ-loop → tie.After-add-bounded-rows-arg3 Inv-loop μ-loop
+to-add-bounded-rows-arg3 c =
+    let after-add-bounded-rows = to-add-bounded-rows c in
+    after-add-bounded-rows .before
+
+abbrev to-slice-known4 : tie.After-wide163 Inv-loop μ-loop → tie.After-slice-known4 Inv-loop μ-loop
+to-slice-known4 c =
+    let after-r = c .before .before .before in
+    after-r .before .before
+
 element-copy-out-wide16 : tie.Need-element-copy-out-wide16 Inv-loop μ-loop
 element-copy-out-wide16 c =
-    omega (arith, c .wide16 .ensures, c .before .before .before .before .pre .1, c .before .before .before .before .pre .0 .sections .few-nodes)
+    let start = to-start c in
+    omega (arith, c .wide16 .ensures, start .pre .1, start .pre .0 .sections .few-nodes)
 
 loop-holds : tie.Need-loop-holds Inv-loop μ-loop
 loop-holds c =
-    let c2 = c .before .before in
-    let c6 = c2 .before .before .before .before in
-    (walk-first _ _ _ _ _ _ _ _ _ _ _ _ (c6 .pre .3) (c2 .wide16 .ensures .0) (omega (arith, c6 .pre .1, c6 .pre .0 .sections .few-nodes)) (c .wide162 .ensures .0), refl, refl)
+    let after-wide16 = c .before .before in
+    let start = to-start after-wide16 in
+    (walk-first _ _ _ _ _ _ _ _ _ _ _ _ (start .pre .3) (after-wide16 .wide16 .ensures .0) (omega (arith, start .pre .1, start .pre .0 .sections .few-nodes)) (c .wide162 .ensures .0), refl, refl)
 
 sub-membership : tie.Need-sub-membership Inv-loop μ-loop
 sub-membership c =
@@ -37,56 +74,59 @@ sub-membership c =
 
 add-bounded-rows-requires : tie.Need-add-bounded-rows-requires Inv-loop μ-loop
 add-bounded-rows-requires c κs =
-    let w = c .before .before .before .before .loop .inv in
+    let start = to-start (to-wide16 c) in
+    let w = to-loop c .loop .inv in
     let u = membership-under _ _ _ _ _ _ _ _ _ _ _ _ _ (w .0) (c .before .before .before .loop-test .taken) in (
-      c .before .before .before .before .before .before .before .before .before .before .before .pre .0,
-      c .before .before .before .before .before .before .before .before .before .before .before .pre .1,
-      c .before .before .before .before .before .before .before .before .before .before .before .pre .2,
+      start .pre .0,
+      start .pre .1,
+      start .pre .2,
       omega arith,
-      omega (arith, w .1, c .before .before .before .before .before .before .before .before .before .before .before .pre .4),
-      omega (arith, w .2, c .before .before .before .before .before .before .before .before .before .before .before .pre .5),
-      adding-holding _ _ _ _ _ _ (w .0 .adding (c .before .before .before .before .before .before .before .before .before .before .before .pre .6 .rows) (c .before .before .before .before .before .before .before .before .before .before .before .pre .6 .held)),
+      omega (arith, w .1, start .pre .4),
+      omega (arith, w .2, start .pre .5),
+      adding-holding _ _ _ _ _ _ (w .0 .adding (start .pre .6 .rows) (start .pre .6 .held)),
     )
 
 same-length : tie.Need-same-length Inv-loop μ-loop
 same-length c =
-    c .before .before .before .before .before .before .add-bounded-rows .kept .1 .1 .1 .1 .1 .1 .1 .1 .1 .1 .1 .0 ∙ c .before .before .before .before .before .before .before .before .before .before .before .loop .inv .1
+    to-add-bounded-rows (c .before .before) .add-bounded-rows .kept .1 .1 .1 .1 .1 .1 .1 .1 .1 .1 .1 .0 ∙ to-loop (to-add-bounded-rows-arg3 (c .before .before)) .loop .inv .1
 
 same-length-2 : tie.Need-same-length-2 Inv-loop μ-loop
 same-length-2 c =
-    c .before .before .before .before .before .before .add-bounded-rows .kept .1 .1 .1 .1 .1 .1 .1 .1 .1 .1 .1 .1 .0 ∙ c .before .before .before .before .before .before .before .before .before .before .before .loop .inv .2
+    to-add-bounded-rows (c .before .before) .add-bounded-rows .kept .1 .1 .1 .1 .1 .1 .1 .1 .1 .1 .1 .1 .0 ∙ to-loop (to-add-bounded-rows-arg3 (c .before .before)) .loop .inv .2
 
 returns : tie.Need-returns Inv-loop μ-loop
 returns c =
-    let c6 = c .before .before .before .before .before .before in
-    let c10 = c6 .before .before .before .before in
-    let c11 = c10 .before in
-    walk-over _ _ _ _ _ _ _ _ _ _ _ _ _ (c11 .loop .inv .0) (c10 .loop-test .taken) _ _ _ (c6 .add-bounded-rows .ensures) (c .enum-told .given .1)
+    let after-add-bounded-rows = to-add-bounded-rows (c .before .before) in
+    let in-loop = to-in-loop after-add-bounded-rows in
+    let at-loop = in-loop .before in
+    walk-over _ _ _ _ _ _ _ _ _ _ _ _ _ (at-loop .loop .inv .0) (in-loop .loop-test .taken) _ _ _ (after-add-bounded-rows .add-bounded-rows .ensures) (c .enum-told .given .1)
 
 mul-wide16-2 : tie.Need-mul-wide16-2 Inv-loop μ-loop
 mul-wide16-2 c =
-    let c11 = c .before .before .before .before .before .before .before .before .before .before .before in
-    let c12 = c11 .before in
-    omega (arith, membership-under _ _ _ _ _ _ _ _ _ _ _ _ _ (c12 .loop .inv .0) (c11 .loop-test .taken))
+    let in-loop = to-in-loop (to-add-bounded-rows (c .before .before .before)) in
+    let at-loop = in-loop .before in
+    omega (arith, membership-under _ _ _ _ _ _ _ _ _ _ _ _ _ (at-loop .loop .inv .0) (in-loop .loop-test .taken))
 
 element-copy-out-wide16-2 : tie.Need-element-copy-out-wide16-2 Inv-loop μ-loop
 element-copy-out-wide16-2 c =
-    let c11 = c .before .before .before .before .before .before .before .before .before .before .before in
-    let c12 = c11 .before in
-    membership-under _ _ _ _ _ _ _ _ _ _ _ _ _ (c12 .loop .inv .0) (c11 .loop-test .taken)
+    let in-loop = to-in-loop (to-add-bounded-rows (c .before .before .before)) in
+    let at-loop = in-loop .before in
+    membership-under _ _ _ _ _ _ _ _ _ _ _ _ _ (at-loop .loop .inv .0) (in-loop .loop-test .taken)
 
 loop-less : tie.Need-loop-less Inv-loop μ-loop
 loop-less c =
-    let c13 = c .before .before .before .before .before .before .before .before .before .before .before .before .before in
-    let c14 = c13 .before in
-    membership-falls _ _ _ _ _ _ _ _ _ _ _ _ _ (c14 .loop .inv .0) (c13 .loop-test .taken) _ (c .wide163 .ensures .0)
+    let in-loop = to-in-loop (to-add-bounded-rows (to-slice-known4 c)) in
+    let at-loop = in-loop .before in
+    membership-falls _ _ _ _ _ _ _ _ _ _ _ _ _ (at-loop .loop .inv .0) (in-loop .loop-test .taken) _ (c .wide163 .ensures .0)
 
 loop-again : tie.Need-loop-again Inv-loop μ-loop
-loop-again c = (
-  walk-next _ _ _ _ _ _ _ _ _ _ _ _ _ (c .before .before .before .before .before .before .before .before .before .before .before .before .before .before .loop .inv .0) (c .before .before .before .before .before .before .before .before .before .before .before .before .before .loop-test .taken) _ _ _ (c .before .before .before .before .before .before .before .before .before .add-bounded-rows .ensures) _ _ (c .before .before .before .r .given .1) (c .wide163 .ensures .0),
-  c .before .before .before .before .before .before .before .before .before .add-bounded-rows .kept .1 .1 .1 .1 .1 .1 .1 .1 .1 .1 .1 .0 ∙ c .before .before .before .before .before .before .before .before .before .before .before .before .before .before .loop .inv .1,
-  c .before .before .before .before .before .before .before .before .before .add-bounded-rows .kept .1 .1 .1 .1 .1 .1 .1 .1 .1 .1 .1 .1 .0 ∙ c .before .before .before .before .before .before .before .before .before .before .before .before .before .before .loop .inv .2,
-)
+loop-again c =
+    let after-add-bounded-rows = to-add-bounded-rows (to-slice-known4 c) in
+    let at-loop = to-loop (to-add-bounded-rows-arg3 (to-slice-known4 c)) in (
+      walk-next _ _ _ _ _ _ _ _ _ _ _ _ _ (at-loop .loop .inv .0) (to-in-loop (to-add-bounded-rows (to-slice-known4 c)) .loop-test .taken) _ _ _ (after-add-bounded-rows .add-bounded-rows .ensures) _ _ (c .before .before .before .r .given .1) (c .wide163 .ensures .0),
+      after-add-bounded-rows .add-bounded-rows .kept .1 .1 .1 .1 .1 .1 .1 .1 .1 .1 .1 .0 ∙ at-loop .loop .inv .1,
+      after-add-bounded-rows .add-bounded-rows .kept .1 .1 .1 .1 .1 .1 .1 .1 .1 .1 .1 .1 .0 ∙ at-loop .loop .inv .2,
+    )
 
 same-length-3 : tie.Need-same-length-3 Inv-loop μ-loop
 same-length-3 c =

@@ -14,39 +14,61 @@ use Rattle.build_constants.proofs.add_node_row.Statement.{statement}
 use Rattle.build_constants.proofs.add_node_row.Tie as tie
 
 add-node-requires : tie.Need-add-node-requires
+
+-- from a place to an earlier one
+abbrev to-start : tie.After-add-node-arg2 → tie.Start
+to-start c =
+    let after-slice-known2 = c .before .before .before in
+    after-slice-known2 .before .before .before
+
+abbrev to-add-node-arg2 : tie.After-add-fixed-row-arg3 → tie.After-add-node-arg2
+to-add-node-arg2 c =
+    let after-slice-known3 = c .before .before .before in
+    after-slice-known3 .before .before .before
+
+abbrev to-add-node : tie.After-min → tie.After-add-node
+to-add-node c =
+    let after-add-fixed-row-arg = c .before .before .before in
+    after-add-fixed-row-arg .before .before .before
+
+abbrev to-add-fixed-row : tie.After-slice-known5 → tie.After-add-fixed-row
+to-add-fixed-row c =
+    let after-words = c .before .before .before in
+    after-words .before
+
 unfolding columnsRise
 add-node-requires c κs =
-    let c6 = c .before .before .before .before .before .before in
-    (c6 .pre .0, c6 .pre .1, omega arith, lent-room _ _ _ (c6 .pre .4) (c6 .pre .3) .1, refl)
+    let start = to-start c in
+    (start .pre .0, start .pre .1, omega arith, lent-room _ _ _ (start .pre .4) (start .pre .3) .1, refl)
 
 min-requires : tie.Need-min-requires
 min-requires c κs =
-    let c12 = c .before .before .before .before .before .before .before .before .before .before .before .before in
-    let p = node-stands _ _ _ _ _ _ (c12 .pre .0 .sections) _ (c12 .pre .1) in (p .within, p .min)
+    let start = to-start (to-add-node-arg2 c) in
+    let p = node-stands _ _ _ _ _ _ (start .pre .0 .sections) _ (start .pre .1) in (p .within, p .min)
 
 max-requires : tie.Need-max-requires
 max-requires c κs =
-    let c13 = c .before .before .before .before .before .before .before .before .before .before .before .before .before in
-    let p = node-stands _ _ _ _ _ _ (c13 .pre .0 .sections) _ (c13 .pre .1) in (p .within, p .max)
+    let start = to-start (to-add-node-arg2 (c .before)) in
+    let p = node-stands _ _ _ _ _ _ (start .pre .0 .sections) _ (start .pre .1) in (p .within, p .max)
 
 add-fixed-row-requires : tie.Need-add-fixed-row-requires
 add-fixed-row-requires c κs =
-    let c7 = c .before .before .before .before .before .before .before in
-    let c14 = c7 .before .before .before .before .before .before .before in
-    let few = held-few _ _ _ _ (c14 .pre .4 .held) in
-    let a = c7 .add-node .ensures in
-    (c14 .pre .2, lent-long (c14 .args .numbers .now) (c7 .add-node .last .1 .1 .1 .1 .1 .1 .1 .1 .1 .1 .0) (2048 + c14 .args .f .elements) (c7 .add-node .kept .1 .1 .1 .1 .1 .1 .1 .1 .1 .1 .0) (c14 .pre .3), a .few, few .0, few .1, a .rising)
+    let after-add-node = to-add-node (c .before) in
+    let start = to-start (after-add-node .before) in
+    let few = held-few _ _ _ _ (start .pre .4 .held) in
+    let a = after-add-node .add-node .ensures in
+    (start .pre .2, lent-long (start .args .numbers .now) (after-add-node .add-node .last .1 .1 .1 .1 .1 .1 .1 .1 .1 .1 .0) (2048 + start .args .f .elements) (after-add-node .add-node .kept .1 .1 .1 .1 .1 .1 .1 .1 .1 .1 .0) (start .pre .3), a .few, few .0, few .1, a .rising)
 
 returns : tie.Need-returns
 unfolding one64 ofBits
 returns c =
-    let c4 = c .before .before .before .before in
-    let c5 = c4 .before in
-    let c6 = c5 .before in
-    let c12 = c6 .before .before .before .before .before .before in
-    let c19 = c12 .before .before .before .before .before .before .before in
-    let room = lent-room _ _ _ (c19 .pre .4) (c19 .pre .3) in
-    lent-row _ _ _ _ _ refl (room .0) _ _ _ _ _ _ _ _ _ _ (c6 .min .ensures) (c5 .max .ensures) (node-row _ _ _ _ _ _ _ _ _ refl (c12 .add-node .ensures)) (c4 .add-fixed-row .ensures)
+    let after-add-fixed-row = to-add-fixed-row c in
+    let after-max = after-add-fixed-row .before in
+    let after-min = after-max .before in
+    let after-add-node = to-add-node after-min in
+    let start = to-start (after-add-node .before) in
+    let room = lent-room _ _ _ (start .pre .4) (start .pre .3) in
+    lent-row _ _ _ _ _ refl (room .0) _ _ _ _ _ _ _ _ _ _ (after-min .min .ensures) (after-max .max .ensures) (node-row _ _ _ _ _ _ _ _ _ refl (after-add-node .add-node .ensures)) (after-add-fixed-row .add-fixed-row .ensures)
 
 pub add-node-row-spec : {M : Type 1} → statement M
 add-node-row-spec =

@@ -16,62 +16,100 @@ Inv-loop s c first-in next-in first-out next-out edge-to-col edge-columns first-
 abbrev μ-loop : tie.MeasureT-loop
 μ-loop s c first-in next-in first-out next-out edge-to-col edge-columns first-membership next-membership node sentinel words₀ numbers₀ columns₀ k held₀ link₀ words numbers columns held link = above link
 
+-- from a place to an earlier one
+abbrev to-start : tie.After-wide16 Inv-loop μ-loop → tie.Start Inv-loop μ-loop
+to-start c =
+    let after-shared-slice-known = c .before .before .before in
+    after-shared-slice-known .before
+
+abbrev to-loop : tie.After-request-bounded-rows-arg3 Inv-loop μ-loop → tie.At-loop Inv-loop μ-loop
+to-loop c =
+    let in-loop = c .before .before .before in
+    in-loop .before
+
+abbrev to-wide16 : tie.After-request-bounded-rows-arg3 Inv-loop μ-loop → tie.After-wide16 Inv-loop μ-loop
+to-wide16 c =
+    let at-loop = to-loop c in
+    at-loop .before .before
+
+abbrev to-in-loop : tie.After-request-bounded-rows Inv-loop μ-loop → tie.In-loop Inv-loop μ-loop
+to-in-loop c =
+    let after-request-bounded-rows-arg = c .before .before .before in
+    after-request-bounded-rows-arg .before
+
+abbrev to-request-bounded-rows : tie.After-slice-known4 Inv-loop μ-loop → tie.After-request-bounded-rows Inv-loop μ-loop
+to-request-bounded-rows c =
+    let after-words = c .before .before .before in
+    after-words .before
+
+abbrev to-request-bounded-rows-arg3 : tie.After-enum-told Inv-loop μ-loop → tie.After-request-bounded-rows-arg3 Inv-loop μ-loop
+to-request-bounded-rows-arg3 c =
+    let after-request-bounded-rows = to-request-bounded-rows (c .before .before) in
+    after-request-bounded-rows .before
+
+abbrev to-slice-known4 : tie.After-wide162 Inv-loop μ-loop → tie.After-slice-known4 Inv-loop μ-loop
+to-slice-known4 c =
+    let at-match-keys2 = c .before .before .before in
+    at-match-keys2 .before
+
 element-copy-out-link : tie.Need-element-copy-out-link Inv-loop μ-loop
 element-copy-out-link c =
-    omega (arith, c .wide16 .ensures .0, c .before .before .before .before .pre .1, c .before .before .before .before .pre .0 .sections .few-nodes)
+    let start = to-start c in
+    omega (arith, c .wide16 .ensures .0, start .pre .1, start .pre .0 .sections .few-nodes)
 
 loop-holds : tie.Need-loop-holds Inv-loop μ-loop
 loop-holds c =
-    let p = c .before .before .before .before .before .pre in
+    let p = to-start (c .before) .pre in
     (walk-first _ _ _ _ _ _ _ _ _ _ (p .3) (c .before .wide16 .ensures .0) (omega (arith, p .1, p .0 .sections .few-nodes)) (p .6), refl, refl)
 
 request-bounded-rows-requires : tie.Need-request-bounded-rows-requires Inv-loop μ-loop
 request-bounded-rows-requires c κs =
-    let p = c .before .before .before .before .before .before .before .before .before .before .pre in
-    let w = c .before .before .before .before .loop .inv .0 in
+    let at-loop = to-loop c in
+    let p = to-start (to-wide16 c) .pre in
+    let w = at-loop .loop .inv .0 in
     let ne = c .before .before .before .loop-test .taken in
     let under = membership-under _ _ _ _ _ _ _ _ w ne in
-    (p .0, p .1, p .2, omega arith, omega (arith, p .4, c .before .before .before .before .loop .inv .1), omega (arith, p .5, c .before .before .before .before .loop .inv .2), record { asks = w .asks; held = w .rows }, room _ _ _ _ _ _ _ _ w ne (p .7))
+    (p .0, p .1, p .2, omega arith, omega (arith, p .4, at-loop .loop .inv .1), omega (arith, p .5, at-loop .loop .inv .2), record { asks = w .asks; held = w .rows }, room _ _ _ _ _ _ _ _ w ne (p .7))
 
 same-length : tie.Need-same-length Inv-loop μ-loop
 same-length c =
-    c .before .before .before .before .before .before .request-bounded-rows .kept .1 .1 .1 .1 .1 .1 .1 .1 .1 .1 .1 .0 ∙ c .before .before .before .before .before .before .before .before .before .before .before .loop .inv .1
+    to-request-bounded-rows (c .before .before) .request-bounded-rows .kept .1 .1 .1 .1 .1 .1 .1 .1 .1 .1 .1 .0 ∙ to-loop (to-request-bounded-rows-arg3 c) .loop .inv .1
 
 same-length-2 : tie.Need-same-length-2 Inv-loop μ-loop
 same-length-2 c =
-    c .before .before .before .before .before .before .request-bounded-rows .kept .1 .1 .1 .1 .1 .1 .1 .1 .1 .1 .1 .1 .0 ∙ c .before .before .before .before .before .before .before .before .before .before .before .loop .inv .2
+    to-request-bounded-rows (c .before .before) .request-bounded-rows .kept .1 .1 .1 .1 .1 .1 .1 .1 .1 .1 .1 .1 .0 ∙ to-loop (to-request-bounded-rows-arg3 c) .loop .inv .2
 
 returns : tie.Need-returns Inv-loop μ-loop
 returns c =
-    let c6 = c .before .before .before .before .before .before in
-    let c10 = c6 .before .before .before .before in
-    let c11 = c10 .before in
-    let w = c11 .loop .inv .0 in
-    walk-full _ _ _ _ _ _ _ _ w (c10 .loop-test .taken) _ _ _ (c6 .request-bounded-rows .ensures (w .asks) (w .rows)) (c .enum-told .given .1)
+    let after-request-bounded-rows = to-request-bounded-rows (c .before .before) in
+    let in-loop = to-in-loop after-request-bounded-rows in
+    let at-loop = in-loop .before in
+    let w = at-loop .loop .inv .0 in
+    walk-full _ _ _ _ _ _ _ _ w (in-loop .loop-test .taken) _ _ _ (after-request-bounded-rows .request-bounded-rows .ensures (w .asks) (w .rows)) (c .enum-told .given .1)
 
 element-copy-out-link-2 : tie.Need-element-copy-out-link-2 Inv-loop μ-loop
 element-copy-out-link-2 c =
-    let c12 = c .before .before .before .before .before .before .before .before .before .before .before .before in
-    let c13 = c12 .before in
-    let under = membership-under _ _ _ _ _ _ _ _ (c13 .loop .inv .0) (c12 .loop-test .taken) in
+    let in-loop = to-in-loop (to-request-bounded-rows (to-slice-known4 c)) in
+    let at-loop = in-loop .before in
+    let under = membership-under _ _ _ _ _ _ _ _ (at-loop .loop .inv .0) (in-loop .loop-test .taken) in
     omega (arith, c .wide162 .ensures .0)
 
 loop-less : tie.Need-loop-less Inv-loop μ-loop
 loop-less c =
-    let c1 = c .before in
-    let c13 = c1 .before .before .before .before .before .before .before .before .before .before .before .before in
-    let c14 = c13 .before in
-    membership-falls _ _ _ _ _ _ _ _ (c14 .loop .inv .0) (c13 .loop-test .taken) _ (c1 .wide162 .ensures .0)
+    let after-wide162 = c .before in
+    let in-loop = to-in-loop (to-request-bounded-rows (to-slice-known4 after-wide162)) in
+    let at-loop = in-loop .before in
+    membership-falls _ _ _ _ _ _ _ _ (at-loop .loop .inv .0) (in-loop .loop-test .taken) _ (after-wide162 .wide162 .ensures .0)
 
 loop-again : tie.Need-loop-again Inv-loop μ-loop
 loop-again c =
-    let c1 = c .before in
-    let c3 = c1 .before .before in
-    let c9 = c3 .before .before .before .before .before .before in
-    let c13 = c9 .before .before .before .before in
-    let c14 = c13 .before in
-    let w = c14 .loop .inv .0 in
-    (walk-next _ _ _ _ _ _ _ _ w (c13 .loop-test .taken) _ _ _ (c9 .request-bounded-rows .ensures (w .asks) (w .rows)) _ _ (c3 .r .given .1) (c1 .wide162 .ensures .0), c9 .request-bounded-rows .kept .1 .1 .1 .1 .1 .1 .1 .1 .1 .1 .1 .0 ∙ c14 .loop .inv .1, c9 .request-bounded-rows .kept .1 .1 .1 .1 .1 .1 .1 .1 .1 .1 .1 .1 .0 ∙ c14 .loop .inv .2)
+    let after-wide162 = c .before in
+    let after-r = after-wide162 .before .before in
+    let after-request-bounded-rows = to-request-bounded-rows (after-r .before .before) in
+    let in-loop = to-in-loop after-request-bounded-rows in
+    let at-loop = in-loop .before in
+    let w = at-loop .loop .inv .0 in
+    (walk-next _ _ _ _ _ _ _ _ w (in-loop .loop-test .taken) _ _ _ (after-request-bounded-rows .request-bounded-rows .ensures (w .asks) (w .rows)) _ _ (after-r .r .given .1) (after-wide162 .wide162 .ensures .0), after-request-bounded-rows .request-bounded-rows .kept .1 .1 .1 .1 .1 .1 .1 .1 .1 .1 .1 .0 ∙ at-loop .loop .inv .1, after-request-bounded-rows .request-bounded-rows .kept .1 .1 .1 .1 .1 .1 .1 .1 .1 .1 .1 .1 .0 ∙ at-loop .loop .inv .2)
 
 same-length-3 : tie.Need-same-length-3 Inv-loop μ-loop
 same-length-3 c =

@@ -14,9 +14,40 @@ Inv-loop s at known set-at₀ sets count₀ here₀ i₀ set-at count here i = A
 abbrev μ-loop : tie.MeasureT-loop
 μ-loop s at known set-at₀ sets count₀ here₀ i₀ set-at count here i = sets - i
 
+-- from a place to an earlier one
+abbrev to-start : tie.In-loop Inv-loop μ-loop → tie.Start Inv-loop μ-loop
+to-start c =
+    let after-shared-slice-known = c .before .before .before in
+    after-shared-slice-known .before
+
+abbrev to-in-loop-from-then2 : tie.Then2 Inv-loop μ-loop → tie.In-loop Inv-loop μ-loop
+to-in-loop-from-then2 c =
+    let after-set-number-arg = c .before .before .before in
+    after-set-number-arg .before
+
+abbrev to-loop-from-then2 : tie.Then2 Inv-loop μ-loop → tie.At-loop Inv-loop μ-loop
+to-loop-from-then2 c =
+    let in-loop = to-in-loop-from-then2 c in
+    in-loop .before
+
+abbrev to-in-loop-from-set-end : tie.After-set-end Inv-loop μ-loop → tie.In-loop Inv-loop μ-loop
+to-in-loop-from-set-end c =
+    let after-set-number-arg = c .before .before .before in
+    after-set-number-arg .before
+
+abbrev to-loop-from-set-end : tie.After-set-end Inv-loop μ-loop → tie.At-loop Inv-loop μ-loop
+to-loop-from-set-end c =
+    let in-loop = to-in-loop-from-set-end c in
+    in-loop .before
+
+abbrev to-in-loop-from-else2 : tie.Else2 Inv-loop μ-loop → tie.In-loop Inv-loop μ-loop
+to-in-loop-from-else2 c =
+    let after-set-number-arg = c .before .before .before in
+    after-set-number-arg .before
+
 -- the set that stands next
-fits : (c : tie.In-loop Inv-loop μ-loop) → SetPassed (c .before .before .before .before .args .s .now) 256 (c .before .loop .here)
-fits c = rw (c .before .loop .inv .stands) (c .before .before .before .before .pre .0 .sets (c .before .loop .i) (omega (arith, c .before .loop .inv .size, c .loop-test .taken)))
+fits : (c : tie.In-loop Inv-loop μ-loop) → SetPassed (to-start c .args .s .now) 256 (c .before .loop .here)
+fits c = rw (c .before .loop .inv .stands) (to-start c .pre .0 .sets (c .before .loop .i) (omega (arith, c .before .loop .inv .size, c .loop-test .taken)))
 
 set-count-requires : tie.Need-set-count-requires Inv-loop μ-loop
 set-count-requires c κs =
@@ -40,29 +71,29 @@ set-end-requires c κs =
 
 loop-again : tie.Need-loop-again Inv-loop μ-loop
 loop-again c =
-    rw (c .set-end .ensures) (adding-known _ _ _ _ _ _ _ _ _ (c .before .before .before .before .before .loop .inv) (c .before .before .before .before .loop-test .taken) (rw (c .before .before .set-number .ensures) at (c .before .if1 .taken)))
+    rw (c .set-end .ensures) (adding-known _ _ _ _ _ _ _ _ _ (to-loop-from-set-end c .loop .inv) (to-in-loop-from-set-end c .loop-test .taken) (rw (c .before .before .set-number .ensures) at (c .before .if1 .taken)))
 
 returns : tie.Need-returns Inv-loop μ-loop
 returns c =
-    adding-over _ _ _ _ _ _ _ _ _ (c .before .before .before .before .before .loop .inv) (c .before .before .before .before .loop-test .taken) (rw (c .before .before .set-number .ensures) at (c .before .if1 .left)) (c .if2 .taken) _
+    adding-over _ _ _ _ _ _ _ _ _ (to-loop-from-then2 c .loop .inv) (to-in-loop-from-then2 c .loop-test .taken) (rw (c .before .before .set-number .ensures) at (c .before .if1 .left)) (c .if2 .taken) _
 
 narrow16-requires : tie.Need-narrow16-requires Inv-loop μ-loop
 narrow16-requires c κs =
-    omega (arith, fits (c .before .before .before .before) .within, c .before .before .before .before .before .before .before .before .pre .2)
+    omega (arith, fits (to-in-loop-from-else2 c) .within, to-start (to-in-loop-from-else2 c) .pre .2)
 
 set-end-requires-2 : tie.Need-set-end-requires-2 Inv-loop μ-loop
 set-end-requires-2 c κs =
-    let h = fits (c .before .before .before .before .before) .within in omega arith
+    let h = fits (to-in-loop-from-else2 (c .before)) .within in omega arith
 
 loop-again-2 : tie.Need-loop-again-2 Inv-loop μ-loop
 loop-again-2 c =
-    let c1 = c .before in
-    let c2 = c1 .before in
-    let c3 = c2 .before in
-    let c4 = c3 .before in
-    let c6 = c4 .before .before in
-    let c7 = c6 .before in
-    rw (c .set-end2 .ensures, c1 .narrow16 .ensures) (adding-new _ _ _ _ _ _ _ _ _ (c7 .loop .inv) (c6 .loop-test .taken) (rw (c4 .set-number .ensures) at (c3 .if1 .left)) (c2 .if2 .left) (fits (c6)))
+    let after-narrow16 = c .before in
+    let else2 = after-narrow16 .before in
+    let else1 = else2 .before in
+    let after-set-number = else1 .before in
+    let in-loop = after-set-number .before .before in
+    let at-loop = in-loop .before in
+    rw (c .set-end2 .ensures, after-narrow16 .narrow16 .ensures) (adding-new _ _ _ _ _ _ _ _ _ (at-loop .loop .inv) (in-loop .loop-test .taken) (rw (after-set-number .set-number .ensures) at (else1 .if1 .left)) (else2 .if2 .left) (fits (in-loop)))
 
 returns-2 : tie.Need-returns-2 Inv-loop μ-loop
 returns-2 c =

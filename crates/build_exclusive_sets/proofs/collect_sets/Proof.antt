@@ -15,9 +15,31 @@ Inv-loop s set-at₀ aggregates count₀ at₀ i₀ set-at count at i = Collecti
 abbrev μ-loop : tie.MeasureT-loop
 μ-loop s set-at₀ aggregates count₀ at₀ i₀ set-at count at i = aggregates - i
 
+-- from a place to an earlier one
+abbrev to-start : tie.At-loop Inv-loop μ-loop → tie.Start Inv-loop μ-loop
+to-start c =
+    let after-shared-slice-known = c .before .before .before in
+    after-shared-slice-known .before
+
+abbrev to-loop-from-aggregate-end2 : tie.After-aggregate-end2 Inv-loop μ-loop → tie.At-loop Inv-loop μ-loop
+to-loop-from-aggregate-end2 c =
+    let in-loop = c .before .before .before in
+    in-loop .before
+
+abbrev to-loop-from-add-sets-arg : tie.After-add-sets-arg Inv-loop μ-loop → tie.At-loop Inv-loop μ-loop
+to-loop-from-add-sets-arg c =
+    let in-loop = c .before .before .before in
+    in-loop .before
+
+abbrev to-in-loop : tie.After-known-told Inv-loop μ-loop → tie.In-loop Inv-loop μ-loop
+to-in-loop c =
+    let after-add-sets = c .before .before .before in
+    let after-is-exclusive = after-add-sets .before .before .before in
+    after-is-exclusive .before
+
 -- the aggregate that stands next
-fits : (c : tie.In-loop Inv-loop μ-loop) → AggregatePassed (c .before .before .before .before .before .args .s .now) 256 (c .before .loop .at)
-fits c = rw (c .before .loop .inv .stands) (aggregate-passed-256 _ _ _ _ _ _ (c .before .before .before .before .before .pre .0) (c .before .loop .i) (c .loop-test .taken))
+fits : (c : tie.In-loop Inv-loop μ-loop) → AggregatePassed (to-start (c .before) .args .s .now) 256 (c .before .loop .at)
+fits c = rw (c .before .loop .inv .stands) (aggregate-passed-256 _ _ _ _ _ _ (to-start (c .before) .pre .0) (c .before .loop .i) (c .loop-test .taken))
 
 loop-holds : tie.Need-loop-holds Inv-loop μ-loop
 loop-holds c =
@@ -29,32 +51,32 @@ is-exclusive-requires c κs =
 
 add-sets-requires : tie.Need-add-sets-requires Inv-loop μ-loop
 add-sets-requires c κs =
-    (fits (c .before .before .before), c .before .before .before .before .loop .inv .fit, let h = few-bytes _ _ _ _ _ _ (c .before .before .before .before .before .before .before .before .pre .0) in omega arith)
+    (fits (c .before .before .before), to-loop-from-add-sets-arg c .loop .inv .fit, let h = few-bytes _ _ _ _ _ _ (to-start (to-loop-from-add-sets-arg c) .pre .0) in omega arith)
 
 returns : tie.Need-returns Inv-loop μ-loop
 returns c =
-    let c2 = c .before .before in
-    let c4 = c2 .before .before in
-    let c5 = c4 .before in
-    let c6 = c5 .before in
-    let c7 = c6 .before in
-    let c11 = c7 .before .before .before .before in
-    let p = c11 .args in
-    of-network (p .s .now) (p .c .nodes) (p .c .edges) (p .c .aggregates) _ _ _ (collecting-over _ _ _ _ _ _ _ (c7 .loop .inv) (c6 .loop-test .taken) (sym (c5 .is-exclusive .ensures) ∙ c4 .if1 .taken) _ _ (c2 .add-sets .ensures) (c .enum-told .given .1))
+    let after-add-sets = c .before .before in
+    let then1 = after-add-sets .before .before in
+    let after-is-exclusive = then1 .before in
+    let in-loop = after-is-exclusive .before in
+    let at-loop = in-loop .before in
+    let start = to-start at-loop in
+    let p = start .args in
+    of-network (p .s .now) (p .c .nodes) (p .c .edges) (p .c .aggregates) _ _ _ (collecting-over _ _ _ _ _ _ _ (at-loop .loop .inv) (in-loop .loop-test .taken) (sym (after-is-exclusive .is-exclusive .ensures) ∙ then1 .if1 .taken) _ _ (after-add-sets .add-sets .ensures) (c .enum-told .given .1))
 
 aggregate-end-requires : tie.Need-aggregate-end-requires Inv-loop μ-loop
 aggregate-end-requires c κs =
-    fits (c .before .before .before .before .before .before .before) .within
+    fits (to-in-loop c) .within
 
 loop-again : tie.Need-loop-again Inv-loop μ-loop
 loop-again c =
-    let c2 = c .before .before in
-    let c4 = c2 .before .before in
-    let c6 = c4 .before .before in
-    let c7 = c6 .before in
-    let c8 = c7 .before in
-    let c9 = c8 .before in
-    rw (c .aggregate-end .ensures) (collecting-more _ _ _ _ _ _ _ (c9 .loop .inv) (c8 .loop-test .taken) (sym (c7 .is-exclusive .ensures) ∙ c6 .if1 .taken) _ _ (c4 .add-sets .ensures) _ (c2 .r .given .1))
+    let after-r = c .before .before in
+    let after-add-sets = after-r .before .before in
+    let then1 = after-add-sets .before .before in
+    let after-is-exclusive = then1 .before in
+    let in-loop = after-is-exclusive .before in
+    let at-loop = in-loop .before in
+    rw (c .aggregate-end .ensures) (collecting-more _ _ _ _ _ _ _ (at-loop .loop .inv) (in-loop .loop-test .taken) (sym (after-is-exclusive .is-exclusive .ensures) ∙ then1 .if1 .taken) _ _ (after-add-sets .add-sets .ensures) _ (after-r .r .given .1))
 
 aggregate-end-requires-2 : tie.Need-aggregate-end-requires-2 Inv-loop μ-loop
 aggregate-end-requires-2 c κs =
@@ -62,11 +84,11 @@ aggregate-end-requires-2 c κs =
 
 loop-again-2 : tie.Need-loop-again-2 Inv-loop μ-loop
 loop-again-2 c =
-    rw (c .aggregate-end2 .ensures) (collecting-plain _ _ _ _ _ _ _ (c .before .before .before .before .loop .inv) (c .before .before .before .loop-test .taken) (sym (c .before .before .is-exclusive .ensures) ∙ c .before .if1 .left))
+    rw (c .aggregate-end2 .ensures) (collecting-plain _ _ _ _ _ _ _ (to-loop-from-aggregate-end2 c .loop .inv) (c .before .before .before .loop-test .taken) (sym (c .before .before .is-exclusive .ensures) ∙ c .before .if1 .left))
 
 returns-2 : tie.Need-returns-2 Inv-loop μ-loop
 returns-2 c =
-    let p = c .before .before .before .before .before .args in
+    let p = to-start (c .before) .args in
     of-network (p .s .now) (p .c .nodes) (p .c .edges) (p .c .aggregates) _ _ _ (collecting-done _ _ _ _ _ _ _ (c .before .loop .inv) (c .loop-test .left))
 
 pub collect-sets-spec : {M : Type 1} → statement M

@@ -17,10 +17,21 @@ Inv-loop s k at first₀ next₀ i₀ first next i =
 abbrev μ-loop : tie.MeasureT-loop
 μ-loop s k at first₀ next₀ i₀ first next i = i
 
+-- from a place to an earlier one
+abbrev to-start-from-loop : tie.After-loop Inv-loop μ-loop → tie.Start Inv-loop μ-loop
+to-start-from-loop c =
+    let after-shared-slice-known = c .before .before .before in
+    after-shared-slice-known .before
+
+abbrev to-start-from-wide16 : tie.After-wide16 Inv-loop μ-loop → tie.Start Inv-loop μ-loop
+to-start-from-wide16 c =
+    let at-loop = c .before .before .before in
+    at-loop .before .before .before
+
 -- a member's number
 small : (c : tie.After-wide16 Inv-loop μ-loop) → c .wide16 .result < 256
 small c =
-    let p = c .before .before .before .before .before .before in
+    let p = to-start-from-wide16 c in
     let i = c .before .before .before .loop .i - 1 in
     omega (arith, c .wide16 .ensures .0, c .before .member .ensures, p .pre .1 .members i (omega arith))
 
@@ -39,22 +50,22 @@ element-write-first c =
 
 loop-again : tie.Need-loop-again Inv-loop μ-loop
 loop-again c =
-    let c2 = c .before .before in
-    let c3 = c2 .before in
-    let c5 = c3 .before .before in
-    let c8 = c5 .before .before .before in
-    let l = c5 .loop in
-    let p = c8 .args in
+    let after-wide16 = c .before .before in
+    let after-member = after-wide16 .before in
+    let at-loop = after-member .before .before in
+    let start = at-loop .before .before .before in
+    let l = at-loop .loop in
+    let p = start .args in
     let e : l .i ≡ l .i - 1 + 1 = omega arith in (
       omega arith,
-      λ of h. rw (c .narrow16 .ensures) (members-more (p .s .now) (p .k) (p .at) of (l .first) (l .next) (l .i - 1) (c2 .wide16 .result) (omega arith) (c2 .wide16 .ensures .0 ∙ c3 .member .ensures) (small (c2)) (omega (arith, c8 .pre .1 .most))
+      λ of h. rw (c .narrow16 .ensures) (members-more (p .s .now) (p .k) (p .at) of (l .first) (l .next) (l .i - 1) (after-wide16 .wide16 .result) (omega arith) (after-wide16 .wide16 .ensures .0 ∙ after-member .member .ensures) (small (after-wide16)) (omega (arith, start .pre .1 .most))
           (subst (λ (i : ℕ). Memberships (16 * p .k + i) (l .first) (l .next) (withMembers (p .s .now) (p .k) (p .at) of i)) e (l .inv .1 of h))),
     )
 
 returns : tie.Need-returns Inv-loop μ-loop
 returns c =
     let l = c .before .loop in
-    let p = c .before .before .before .before .args in
+    let p = to-start-from-loop c .args in
     λ of h. members-all (p .s .now) (p .k) (p .at) of (l .first) (l .next) (l .i) (omega arith) (l .inv .1 of h)
 
 pub list-set-spec : {M : Type 1} → statement M

@@ -16,9 +16,20 @@ Inv-loop s a b size i₀ i = (i ≤ size) × (sameSet (setAt s a) (setAt s b) �
 abbrev μ-loop : tie.MeasureT-loop
 μ-loop s a b size i₀ i = size - i
 
+-- from a place to an earlier one
+abbrev to-start-from-then1 : tie.Then1 Inv-loop μ-loop → tie.Start Inv-loop μ-loop
+to-start-from-then1 c =
+    let after-shared-slice-known = c .before .before .before in
+    after-shared-slice-known .before
+
+abbrev to-start-from-loop : tie.At-loop Inv-loop μ-loop → tie.Start Inv-loop μ-loop
+to-start-from-loop c =
+    let after-set-size = c .before .before .before in
+    after-set-size .before .before
+
 returns : tie.Need-returns Inv-loop μ-loop
 returns c =
-    let p = c .before .before .before .before .args in
+    let p = to-start-from-then1 c .args in
     sym (other-size (setAt (p .s .now) (p .a)) (setAt (p .s .now) (p .b)) (λ e. c .if1 .taken (c .before .before .set-size .ensures .0 ∙ sym (set-length (p .s .now) (p .a)) ∙ e ∙ set-length (p .s .now) (p .b) ∙ sym (c .before .set-size2 .ensures .0))))
 
 loop-holds : tie.Need-loop-holds Inv-loop μ-loop
@@ -27,25 +38,25 @@ loop-holds c =
 
 returns-2 : tie.Need-returns-2 Inv-loop μ-loop
 returns-2 c =
-    let c3 = c .before .before .before in
-    let c4 = c3 .before in
-    let c6 = c4 .before .before in
-    let c11 = c6 .before .before .before .before .before in
-    let p = c11 .args in
-    sym (c6 .loop .inv .1 ∙ same-not (p .s .now) (p .a) (p .b) (c6 .loop .i) (omega arith) (omega arith) (λ e. c .if2 .taken (c4 .member .ensures ∙ e ∙ sym (c3 .member2 .ensures))))
+    let after-member2 = c .before .before .before in
+    let after-member = after-member2 .before in
+    let at-loop = after-member .before .before in
+    let start = to-start-from-loop at-loop in
+    let p = start .args in
+    sym (at-loop .loop .inv .1 ∙ same-not (p .s .now) (p .a) (p .b) (at-loop .loop .i) (omega arith) (omega arith) (λ e. c .if2 .taken (after-member .member .ensures ∙ e ∙ sym (after-member2 .member2 .ensures))))
 
 loop-again : tie.Need-loop-again Inv-loop μ-loop
 loop-again c =
-    let c3 = c .before .before .before in
-    let c4 = c3 .before in
-    let c6 = c4 .before .before in
-    let c11 = c6 .before .before .before .before .before in
-    let p = c11 .args in
-    (search needs, c6 .loop .inv .1 ∙ same-more (p .s .now) (p .a) (p .b) (c6 .loop .i) (omega arith) (omega arith) (sym (c4 .member .ensures) ∙ c .if2 .left ∙ c3 .member2 .ensures))
+    let after-member2 = c .before .before .before in
+    let after-member = after-member2 .before in
+    let at-loop = after-member .before .before in
+    let start = to-start-from-loop at-loop in
+    let p = start .args in
+    (search needs, at-loop .loop .inv .1 ∙ same-more (p .s .now) (p .a) (p .b) (at-loop .loop .i) (omega arith) (omega arith) (sym (after-member .member .ensures) ∙ c .if2 .left ∙ after-member2 .member2 .ensures))
 
 returns-3 : tie.Need-returns-3 Inv-loop μ-loop
 returns-3 c =
-    let p = c .before .before .before .before .before .before .args in
+    let p = to-start-from-loop (c .before) .args in
     sym (c .before .loop .inv .1 ∙ same-end (p .s .now) (p .a) (p .b) (c .before .loop .i) (omega arith) (omega arith))
 
 pub same-set-spec : {M : Type 1} → statement M

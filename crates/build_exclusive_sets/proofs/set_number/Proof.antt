@@ -18,33 +18,40 @@ Inv-loop s set-at count at k₀ k = (k ≤ count) × (setNumber (setAt s at) (se
 abbrev μ-loop : tie.MeasureT-loop
 μ-loop s set-at count at k₀ k = count - k
 
+-- from a place to an earlier one
+abbrev to-start : tie.After-wide16 Inv-loop μ-loop → tie.Start Inv-loop μ-loop
+to-start c =
+    let at-loop = c .before .before .before in
+    at-loop .before .before
+
 loop-holds : tie.Need-loop-holds Inv-loop μ-loop
 loop-holds c =
     (search needs, sym (zero-add _))
 
 same-set-requires : tie.Need-same-set-requires Inv-loop μ-loop
 same-set-requires c κs =
-    rw (c .wide16 .ensures .0) (c .before .before .before .before .before .pre .0 .fit (c .before .before .before .loop .k) (c .before .before .loop-test .taken) .within, c .before .before .before .before .before .pre .1)
+    let start = to-start c in
+    rw (c .wide16 .ensures .0) (start .pre .0 .fit (c .before .before .before .loop .k) (c .before .before .loop-test .taken) .within, start .pre .1)
 
 returns : tie.Need-returns Inv-loop μ-loop
 returns c =
-    let c1 = c .before in
-    let c2 = c1 .before in
-    let c4 = c2 .before .before in
-    let c5 = c4 .before in
-    let c7 = c5 .before .before in
-    let p = c7 .args in
-    sym (c5 .loop .inv .1 ∙ number-here (p .s .now) (p .set-at .now) (p .count) (omega arith) (setAt (p .s .now) (p .at)) (c5 .loop .k) (c4 .loop-test .taken) (rw (c2 .wide16 .ensures .0) at (sym (c1 .same-set .ensures) ∙ c .if1 .taken)))
+    let after-same-set = c .before in
+    let after-wide16 = after-same-set .before in
+    let in-loop = after-wide16 .before .before in
+    let at-loop = in-loop .before in
+    let start = at-loop .before .before in
+    let p = start .args in
+    sym (at-loop .loop .inv .1 ∙ number-here (p .s .now) (p .set-at .now) (p .count) (omega arith) (setAt (p .s .now) (p .at)) (at-loop .loop .k) (in-loop .loop-test .taken) (rw (after-wide16 .wide16 .ensures .0) at (sym (after-same-set .same-set .ensures) ∙ c .if1 .taken)))
 
 loop-again : tie.Need-loop-again Inv-loop μ-loop
 loop-again c =
-    let c1 = c .before in
-    let c2 = c1 .before in
-    let c4 = c2 .before .before in
-    let c5 = c4 .before in
-    let c7 = c5 .before .before in
-    let p = c7 .args in
-    (search needs, c5 .loop .inv .1 ∙ number-more (p .s .now) (p .set-at .now) (p .count) (omega arith) (setAt (p .s .now) (p .at)) (c5 .loop .k) (c4 .loop-test .taken) (rw (c2 .wide16 .ensures .0) at (sym (c1 .same-set .ensures) ∙ c .if1 .left)))
+    let after-same-set = c .before in
+    let after-wide16 = after-same-set .before in
+    let in-loop = after-wide16 .before .before in
+    let at-loop = in-loop .before in
+    let start = at-loop .before .before in
+    let p = start .args in
+    (search needs, at-loop .loop .inv .1 ∙ number-more (p .s .now) (p .set-at .now) (p .count) (omega arith) (setAt (p .s .now) (p .at)) (at-loop .loop .k) (in-loop .loop-test .taken) (rw (after-wide16 .wide16 .ensures .0) at (sym (after-same-set .same-set .ensures) ∙ c .if1 .left)))
 
 returns-2 : tie.Need-returns-2 Inv-loop μ-loop
 returns-2 c =

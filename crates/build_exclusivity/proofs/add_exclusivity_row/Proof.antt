@@ -9,35 +9,68 @@ use borrow.Author.Needs.{needs}
 use Rattle.build_exclusivity.proofs.add_exclusivity_row.Statement.{statement}
 use Rattle.build_exclusivity.proofs.add_exclusivity_row.Tie as tie
 
+-- from a place to an earlier one
+abbrev to-start : tie.After-is-exclusive → tie.Start
+to-start c =
+    let after-shared-slice-known = c .before .before .before in
+    after-shared-slice-known .before
+
+abbrev to-active-bound2 : tie.After-exclusivity-row → tie.After-active-bound2
+to-active-bound2 c =
+    let after-struct-known = c .before .before .before in
+    after-struct-known .before
+
+abbrev to-is-exclusive : tie.After-exclusivity-row → tie.After-is-exclusive
+to-is-exclusive c =
+    let after-active-bound2 = to-active-bound2 c in
+    let after-min-active = after-active-bound2 .before .before .before in
+    after-min-active .before .before
+
+abbrev to-then1 : tie.After-exclusivity-row-arg2 → tie.Then1
+to-then1 c =
+    let after-active-bound2 = c .before .before .before in
+    let after-min-active = after-active-bound2 .before .before .before in
+    after-min-active .before
+
+abbrev to-exclusivity-row : tie.After-add-fixed-row-arg3 → tie.After-exclusivity-row
+to-exclusivity-row c =
+    let after-slice-known3 = c .before .before .before in
+    after-slice-known3 .before .before
+
+abbrev to-add-fixed-row : tie.After-slice-known5 → tie.After-add-fixed-row
+to-add-fixed-row c =
+    let after-words = c .before .before .before in
+    after-words .before
+
 exclusivity-row-requires : tie.Need-exclusivity-row-requires
 exclusivity-row-requires c κs =
-    let c7 = c .before .before .before .before .before .before .before in
-    let c8 = c7 .before in
-    let c12 = c8 .before .before .before .before in
-    let x = sym (c8 .is-exclusive .ensures) ∙ c7 .if1 .taken in
-    (c12 .pre .0, c12 .pre .1, c12 .pre .2, c12 .pre .3 x, lent-room _ _ _ (c12 .pre .6) (c12 .pre .5) .1)
+    let then1 = to-then1 c in
+    let after-is-exclusive = then1 .before in
+    let start = to-start after-is-exclusive in
+    let x = sym (after-is-exclusive .is-exclusive .ensures) ∙ then1 .if1 .taken in
+    (start .pre .0, start .pre .1, start .pre .2, start .pre .3 x, lent-room _ _ _ (start .pre .6) (start .pre .5) .1)
 
 add-fixed-row-requires : tie.Need-add-fixed-row-requires
 add-fixed-row-requires c κs =
-    let c5 = c .before .before .before .before .before in
-    let c18 = c5 .before .before .before .before .before .before .before .before .before .before .before .before .before in
-    let few = held-few _ _ _ _ (c18 .pre .6 .held) in
-    (c18 .pre .4, lent-long (c18 .args .numbers .now) (c5 .exclusivity-row .last .1 .1 .1 .1 .1 .1 .0) (2048 + c18 .args .f .elements) (c5 .exclusivity-row .kept .1 .1 .1 .1 .1 .1 .0) (c18 .pre .5), c5 .exclusivity-row .ensures .few, few .0, few .1, c5 .exclusivity-row .ensures .rising)
+    let after-exclusivity-row = to-exclusivity-row c in
+    let start = to-start (to-is-exclusive after-exclusivity-row) in
+    let few = held-few _ _ _ _ (start .pre .6 .held) in
+    (start .pre .4, lent-long (start .args .numbers .now) (after-exclusivity-row .exclusivity-row .last .1 .1 .1 .1 .1 .1 .0) (2048 + start .args .f .elements) (after-exclusivity-row .exclusivity-row .kept .1 .1 .1 .1 .1 .1 .0) (start .pre .5), after-exclusivity-row .exclusivity-row .ensures .few, few .0, few .1, after-exclusivity-row .exclusivity-row .ensures .rising)
 
 returns : tie.Need-returns
 returns c =
-    let c4 = c .before .before .before .before in
-    let c10 = c4 .before .before .before .before .before .before in
-    let c14 = c10 .before .before .before .before in
-    let c15 = c14 .before in
-    let c16 = c15 .before in
-    let c17 = c16 .before in
-    let c18 = c17 .before in
-    let c19 = c18 .before in
-    let c23 = c19 .before .before .before .before in
-    let x = sym (c19 .is-exclusive .ensures) ∙ c18 .if1 .taken in
-    λ map m. exclusivity-row-added _ _ _ _ _ _ _ _ (c10 .exclusivity-row .ensures) x map m _ _ _ _ refl (lent-room _ _ _ (c23 .pre .6) (c23 .pre .5) .0) _ _ _ _ _
-    (c16 .active-bound .ensures ∙ ap double (c17 .min-active .ensures)) (c14 .active-bound2 .ensures ∙ ap double (c15 .max-active .ensures)) (c4 .add-fixed-row .ensures)
+    let after-add-fixed-row = to-add-fixed-row c in
+    let after-exclusivity-row = to-exclusivity-row (after-add-fixed-row .before) in
+    let after-active-bound2 = to-active-bound2 after-exclusivity-row in
+    let after-max-active = after-active-bound2 .before in
+    let after-active-bound = after-max-active .before in
+    let after-min-active = after-active-bound .before in
+    let then1 = after-min-active .before in
+    let after-is-exclusive = then1 .before in
+    let start = to-start after-is-exclusive in
+    let x = sym (after-is-exclusive .is-exclusive .ensures) ∙ then1 .if1 .taken in
+    λ map m. exclusivity-row-added _ _ _ _ _ _ _ _ (after-exclusivity-row .exclusivity-row .ensures) x map m _ _ _ _ refl (lent-room _ _ _ (start .pre .6) (start .pre .5) .0) _ _ _ _ _
+    (after-active-bound .active-bound .ensures ∙ ap double (after-min-active .min-active .ensures)) (after-active-bound2 .active-bound2 .ensures ∙ ap double (after-max-active .max-active .ensures)) (after-add-fixed-row .add-fixed-row .ensures)
 
 returns-2 : tie.Need-returns-2
 returns-2 c =

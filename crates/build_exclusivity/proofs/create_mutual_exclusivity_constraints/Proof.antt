@@ -22,6 +22,33 @@ Inv-loop s set-at sets edge-columns words₀ numbers₀ columns₀ aggregates fi
 abbrev μ-loop : tie.MeasureT-loop
 μ-loop s set-at sets edge-columns words₀ numbers₀ columns₀ aggregates filled₀ at₀ i₀ words numbers columns filled at i = aggregates - i
 
+-- from a place to an earlier one
+abbrev to-start : tie.At-loop Inv-loop μ-loop → tie.Start Inv-loop μ-loop
+to-start c =
+    let after-slice-known2 = c .before .before .before in
+    after-slice-known2 .before .before .before
+
+abbrev to-in-loop : tie.After-add-exclusivity-row Inv-loop μ-loop → tie.In-loop Inv-loop μ-loop
+to-in-loop c =
+    let after-add-exclusivity-row-arg = c .before .before .before in
+    after-add-exclusivity-row-arg .before
+
+abbrev to-add-exclusivity-row : tie.After-slice-known4 Inv-loop μ-loop → tie.After-add-exclusivity-row Inv-loop μ-loop
+to-add-exclusivity-row c =
+    let after-words = c .before .before .before in
+    after-words .before
+
+abbrev to-loop : tie.After-slice-known4 Inv-loop μ-loop → tie.At-loop Inv-loop μ-loop
+to-loop c =
+    let after-add-exclusivity-row = to-add-exclusivity-row c in
+    let in-loop = to-in-loop after-add-exclusivity-row in
+    in-loop .before
+
+abbrev to-slice-known4 : tie.After-aggregate-end Inv-loop μ-loop → tie.After-slice-known4 Inv-loop μ-loop
+to-slice-known4 c =
+    let at-match-keys2 = c .before .before .before in
+    at-match-keys2 .before
+
 -- the column map of the network
 map-is : (c : tie.Start Inv-loop μ-loop) → MapOf (c .args .s .now) (c .args .set-at .now) (c .args .sets) (c .args .edge-columns) (columnMap (networkOf (c .args .s .now) (c .args .c)))
 map-is c = map-of _ _ _ _ _ _ _ _ (c .pre .2) (c .pre .3)
@@ -32,43 +59,45 @@ loop-holds c =
 
 add-exclusivity-row-requires : tie.Need-add-exclusivity-row-requires Inv-loop μ-loop
 add-exclusivity-row-requires c κs =
-    let c3 = c .before .before .before in
-    let c4 = c3 .before in
-    let c10 = c4 .before .before .before .before .before .before in
-    let p = c10 .pre in
-    let l = c4 .loop .inv in
-    (p .1, p .4, aggregate-starts _ _ _ _ _ _ (p .0) _ (c3 .loop-test .taken) _ (l .0 .stands), known-sets _ _ _ _ _ _ (p .0) _ (c3 .loop-test .taken) _ (l .0 .stands) _ _ (p .1) (p .2), omega (arith, l .1, p .5), omega (arith, l .2, p .6), adding-holding _ _ _ _ _ _ (l .0 .adding _ (map-is (c10)) (p .7 .rows) (p .7 .held)))
+    let in-loop = c .before .before .before in
+    let at-loop = in-loop .before in
+    let start = to-start at-loop in
+    let p = start .pre in
+    let l = at-loop .loop .inv in
+    (p .1, p .4, aggregate-starts _ _ _ _ _ _ (p .0) _ (in-loop .loop-test .taken) _ (l .0 .stands), known-sets _ _ _ _ _ _ (p .0) _ (in-loop .loop-test .taken) _ (l .0 .stands) _ _ (p .1) (p .2), omega (arith, l .1, p .5), omega (arith, l .2, p .6), adding-holding _ _ _ _ _ _ (l .0 .adding _ (map-is (start)) (p .7 .rows) (p .7 .held)))
 
 same-length : tie.Need-same-length Inv-loop μ-loop
 same-length c =
-    c .before .before .before .before .before .before .add-exclusivity-row .kept .1 .1 .1 .1 .1 .0 ∙ c .before .before .before .before .before .before .before .before .before .before .before .loop .inv .1
+    to-add-exclusivity-row (c .before .before) .add-exclusivity-row .kept .1 .1 .1 .1 .1 .0 ∙ to-loop (c .before .before) .loop .inv .1
 
 same-length-2 : tie.Need-same-length-2 Inv-loop μ-loop
 same-length-2 c =
-    c .before .before .before .before .before .before .add-exclusivity-row .kept .1 .1 .1 .1 .1 .1 .0 ∙ c .before .before .before .before .before .before .before .before .before .before .before .loop .inv .2
+    to-add-exclusivity-row (c .before .before) .add-exclusivity-row .kept .1 .1 .1 .1 .1 .1 .0 ∙ to-loop (c .before .before) .loop .inv .2
 
 returns : tie.Need-returns Inv-loop μ-loop
 unfolding networkAt
 returns c =
-    let c6 = c .before .before .before .before .before .before in
-    let c10 = c6 .before .before .before .before in
-    let c11 = c10 .before in
-    let c17 = c11 .before .before .before .before .before .before in
-    aggregate-over _ _ _ _ _ _ _ _ _ _ _ _ (c11 .loop .inv .0) (c10 .loop-test .taken) _ _ _ (c6 .add-exclusivity-row .ensures) (c .enum-told .given .1) _ (map-is (c17))
+    let after-add-exclusivity-row = to-add-exclusivity-row (c .before .before) in
+    let in-loop = to-in-loop after-add-exclusivity-row in
+    let at-loop = in-loop .before in
+    let start = to-start at-loop in
+    aggregate-over _ _ _ _ _ _ _ _ _ _ _ _ (at-loop .loop .inv .0) (in-loop .loop-test .taken) _ _ _ (after-add-exclusivity-row .add-exclusivity-row .ensures) (c .enum-told .given .1) _ (map-is (start))
 
 aggregate-end-requires : tie.Need-aggregate-end-requires Inv-loop μ-loop
 aggregate-end-requires c κs =
-    let c11 = c .before .before .before .before .before .before .before .before .before .before .before in
-    let c12 = c11 .before in
-    let c18 = c12 .before .before .before .before .before .before in
-    aggregate-inside _ _ _ _ _ _ (c18 .pre .0) _ (c11 .loop-test .taken) _ (c12 .loop .inv .0 .stands)
+    let in-loop = to-in-loop (to-add-exclusivity-row (c .before .before .before)) in
+    let at-loop = in-loop .before in
+    let start = to-start at-loop in
+    aggregate-inside _ _ _ _ _ _ (start .pre .0) _ (in-loop .loop-test .taken) _ (at-loop .loop .inv .0 .stands)
 
 loop-again : tie.Need-loop-again Inv-loop μ-loop
-loop-again c = (
-  rw (c .aggregate-end .ensures) (aggregate-more _ _ _ _ _ _ _ _ _ _ _ _ (c .before .before .before .before .before .before .before .before .before .before .before .before .before .loop .inv .0) (c .before .before .before .before .before .before .before .before .before .before .before .before .loop-test .taken) _ _ _ (c .before .before .before .before .before .before .before .before .add-exclusivity-row .ensures) _ (c .before .before .r .given .1)),
-  c .before .before .before .before .before .before .before .before .add-exclusivity-row .kept .1 .1 .1 .1 .1 .0 ∙ c .before .before .before .before .before .before .before .before .before .before .before .before .before .loop .inv .1,
-  c .before .before .before .before .before .before .before .before .add-exclusivity-row .kept .1 .1 .1 .1 .1 .1 .0 ∙ c .before .before .before .before .before .before .before .before .before .before .before .before .before .loop .inv .2,
-)
+loop-again c =
+    let after-add-exclusivity-row = to-add-exclusivity-row (to-slice-known4 c) in
+    let at-loop = to-loop (to-slice-known4 c) in (
+      rw (c .aggregate-end .ensures) (aggregate-more _ _ _ _ _ _ _ _ _ _ _ _ (at-loop .loop .inv .0) (to-in-loop (to-add-exclusivity-row (to-slice-known4 c)) .loop-test .taken) _ _ _ (after-add-exclusivity-row .add-exclusivity-row .ensures) _ (c .before .before .r .given .1)),
+      after-add-exclusivity-row .add-exclusivity-row .kept .1 .1 .1 .1 .1 .0 ∙ at-loop .loop .inv .1,
+      after-add-exclusivity-row .add-exclusivity-row .kept .1 .1 .1 .1 .1 .1 .0 ∙ at-loop .loop .inv .2,
+    )
 
 same-length-3 : tie.Need-same-length-3 Inv-loop μ-loop
 same-length-3 c =
@@ -81,7 +110,7 @@ same-length-4 c =
 returns-2 : tie.Need-returns-2 Inv-loop μ-loop
 unfolding networkAt
 returns-2 c =
-    aggregates-done _ _ _ _ _ _ _ _ _ _ _ _ (c .before .loop .inv .0) (c .loop-test .left) _ (map-is (c .before .before .before .before .before .before .before))
+    aggregates-done _ _ _ _ _ _ _ _ _ _ _ _ (c .before .loop .inv .0) (c .loop-test .left) _ (map-is (to-start (c .before)))
 
 pub create-mutual-exclusivity-constraints-spec : {M : Type 1} → statement M
 create-mutual-exclusivity-constraints-spec =

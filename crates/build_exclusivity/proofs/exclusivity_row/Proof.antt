@@ -17,6 +17,18 @@ Inv-loop s set-at sets edge-columns at columns₀ elements₀ count n₀ here₀
 abbrev μ-loop : tie.MeasureT-loop
 μ-loop s set-at sets edge-columns at columns₀ elements₀ count n₀ here₀ i₀ columns elements n here i = count - i
 
+-- from a place to an earlier one
+abbrev to-start : tie.At-loop Inv-loop μ-loop → tie.Start Inv-loop μ-loop
+to-start c =
+    let after-shared-slice-known = c .before .before .before in
+    after-shared-slice-known .before
+
+abbrev to-in-loop : tie.After-slice-known2 Inv-loop μ-loop → tie.In-loop Inv-loop μ-loop
+to-in-loop c =
+    let after-add-element-arg2 = c .before .before .before in
+    let after-set-number = after-add-element-arg2 .before .before .before in
+    after-set-number .before
+
 set-count-requires : tie.Need-set-count-requires Inv-loop μ-loop
 set-count-requires c κs =
     c .before .before .pre .2
@@ -27,48 +39,49 @@ loop-holds c =
 
 set-number-requires : tie.Need-set-number-requires Inv-loop μ-loop
 set-number-requires c κs =
-    (c .before .before .before .before .before .pre .0, next-known _ _ _ _ _ _ _ _ _ _ _ (c .before .loop .inv .0) (c .loop-test .taken) (c .before .before .before .before .before .pre .3) .0)
+    let start = to-start (c .before) in
+    (start .pre .0, next-known _ _ _ _ _ _ _ _ _ _ _ (c .before .loop .inv .0) (c .loop-test .taken) (start .pre .3) .0)
 
 add-narrow16 : tie.Need-add-narrow16 Inv-loop μ-loop
 add-narrow16 c =
-    let c1 = c .before in
-    let c2 = c1 .before in
-    let c6 = c2 .before .before .before .before in
-    let k = next-known _ _ _ _ _ _ _ _ _ _ _ (c2 .loop .inv .0) (c1 .loop-test .taken) (c6 .pre .3) .1 in omega (arith, k, c .set-number .ensures, c6 .pre .0 .few, c6 .pre .1)
+    let in-loop = c .before in
+    let at-loop = in-loop .before in
+    let start = to-start at-loop in
+    let k = next-known _ _ _ _ _ _ _ _ _ _ _ (at-loop .loop .inv .0) (in-loop .loop-test .taken) (start .pre .3) .1 in omega (arith, k, c .set-number .ensures, start .pre .0 .few, start .pre .1)
 
 narrow16-requires : tie.Need-narrow16-requires Inv-loop μ-loop
 narrow16-requires c κs =
-    let c1 = c .before in
-    let c2 = c1 .before in
-    let c6 = c2 .before .before .before .before in
-    let k = next-known _ _ _ _ _ _ _ _ _ _ _ (c2 .loop .inv .0) (c1 .loop-test .taken) (c6 .pre .3) .1 in omega (arith, k, c .set-number .ensures, c6 .pre .0 .few, c6 .pre .1)
+    let in-loop = c .before in
+    let at-loop = in-loop .before in
+    let start = to-start at-loop in
+    let k = next-known _ _ _ _ _ _ _ _ _ _ _ (at-loop .loop .inv .0) (in-loop .loop-test .taken) (start .pre .3) .1 in omega (arith, k, c .set-number .ensures, start .pre .0 .few, start .pre .1)
 
 add-element-requires : tie.Need-add-element-requires Inv-loop μ-loop
 add-element-requires c κs =
-    let c2 = c .before .before in
-    let c3 = c2 .before in
-    let c4 = c3 .before in
-    let c5 = c4 .before in
-    let c9 = c5 .before .before .before .before in
-    let k = next-known _ _ _ _ _ _ _ _ _ _ _ (c5 .loop .inv .0) (c4 .loop-test .taken) (c9 .pre .3) .1 in
-    (c5 .loop .inv .0 .few, omega (arith, c5 .loop .inv .1, c9 .pre .4), omega (arith, k, c2 .narrow16 .ensures, c3 .set-number .ensures, c9 .pre .0 .few, c9 .pre .1), c5 .loop .inv .0 .rising)
+    let after-narrow16 = c .before .before in
+    let after-set-number = after-narrow16 .before in
+    let in-loop = after-set-number .before in
+    let at-loop = in-loop .before in
+    let start = to-start at-loop in
+    let k = next-known _ _ _ _ _ _ _ _ _ _ _ (at-loop .loop .inv .0) (in-loop .loop-test .taken) (start .pre .3) .1 in
+    (at-loop .loop .inv .0 .few, omega (arith, at-loop .loop .inv .1, start .pre .4), omega (arith, k, after-narrow16 .narrow16 .ensures, after-set-number .set-number .ensures, start .pre .0 .few, start .pre .1), at-loop .loop .inv .0 .rising)
 
 set-end-requires : tie.Need-set-end-requires Inv-loop μ-loop
 set-end-requires c κs =
-    let c7 = c .before .before .before .before .before .before .before in
-    let c8 = c7 .before in
-    let c12 = c8 .before .before .before .before in
-    let k = next-known _ _ _ _ _ _ _ _ _ _ _ (c8 .loop .inv .0) (c7 .loop-test .taken) (c12 .pre .3) .0 in omega (arith, k)
+    let in-loop = to-in-loop c in
+    let at-loop = in-loop .before in
+    let start = to-start at-loop in
+    let k = next-known _ _ _ _ _ _ _ _ _ _ _ (at-loop .loop .inv .0) (in-loop .loop-test .taken) (start .pre .3) .0 in omega (arith, k)
 
 loop-again : tie.Need-loop-again Inv-loop μ-loop
 unfolding one64 ofBits
 loop-again c =
-    let c3 = c .before .before .before in
-    let c6 = c3 .before .before .before in
-    let c7 = c6 .before in
-    let c8 = c7 .before in
-    let c9 = c8 .before in
-    (rw (c .set-end .ensures) (gathering-next _ _ _ _ _ _ _ _ _ _ _ (c9 .loop .inv .0) (c8 .loop-test .taken) _ _ _ _ _ _ (c7 .set-number .ensures) (c6 .narrow16 .ensures) refl (c3 .add-element .ensures)), c3 .add-element .kept .1 .0 ∙ c9 .loop .inv .1)
+    let after-add-element = c .before .before .before in
+    let after-narrow16 = after-add-element .before .before .before in
+    let after-set-number = after-narrow16 .before in
+    let in-loop = after-set-number .before in
+    let at-loop = in-loop .before in
+    (rw (c .set-end .ensures) (gathering-next _ _ _ _ _ _ _ _ _ _ _ (at-loop .loop .inv .0) (in-loop .loop-test .taken) _ _ _ _ _ _ (after-set-number .set-number .ensures) (after-narrow16 .narrow16 .ensures) refl (after-add-element .add-element .ensures)), after-add-element .add-element .kept .1 .0 ∙ at-loop .loop .inv .1)
 
 same-length : tie.Need-same-length Inv-loop μ-loop
 same-length c =

@@ -14,39 +14,46 @@ Inv-loop s nodes edges end first₀ next₀ e₀ first next e = ListedFrom s nod
 abbrev μ-loop : tie.MeasureT-loop
 μ-loop s nodes edges end first₀ next₀ e₀ first next e = e
 
+-- from a place to an earlier one
+abbrev to-start : tie.At-loop Inv-loop μ-loop → tie.Start Inv-loop μ-loop
+to-start c =
+    let after-shared-slice-known = c .before .before .before in
+    after-shared-slice-known .before
+
 loop-holds : tie.Need-loop-holds Inv-loop μ-loop
 loop-holds c =
     none-listed _ _ _ _
 
 add-u16-at-2 : tie.Need-add-u16-at-2 Inv-loop μ-loop
 add-u16-at-2 c =
-    let h = end-most _ (c .before .before .before .before .before .pre .3) in search needs
+    let h = end-most _ (to-start (c .before) .pre .3) in search needs
 
 u16-at-requires : tie.Need-u16-at-requires Inv-loop μ-loop
 u16-at-requires c κs =
-    let h = end-most _ (c .before .before .before .before .before .pre .3) in search needs
+    let h = end-most _ (to-start (c .before) .pre .3) in search needs
 
 element-copy-out-next : tie.Need-element-copy-out-next Inv-loop μ-loop
 element-copy-out-next c =
-    omega (arith, c .wide16 .ensures .0, c .before .u16-at .ensures, c .before .before .before .before .before .before .before .pre .0, c .before .before .before .before .before .before .before .pre .4 (c .before .before .before .loop .e - 1) (omega arith))
+    let start = to-start (c .before .before .before) in
+    omega (arith, c .wide16 .ensures .0, c .before .u16-at .ensures, start .pre .0, start .pre .4 (c .before .before .before .loop .e - 1) (omega arith))
 
 element-write-first : tie.Need-element-write-first Inv-loop μ-loop
 element-write-first c =
-    let c2 = c .before .before in
-    let c3 = c2 .before in
-    let c5 = c3 .before .before in
-    let c9 = c5 .before .before .before .before in
-    omega (arith, c2 .wide16 .ensures .0, c3 .u16-at .ensures, c9 .pre .0, c9 .pre .4 (c5 .loop .e - 1) (omega arith))
+    let after-wide16 = c .before .before in
+    let after-u16-at = after-wide16 .before in
+    let at-loop = after-u16-at .before .before in
+    let start = to-start at-loop in
+    omega (arith, after-wide16 .wide16 .ensures .0, after-u16-at .u16-at .ensures, start .pre .0, start .pre .4 (at-loop .loop .e - 1) (omega arith))
 
 loop-again : tie.Need-loop-again Inv-loop μ-loop
 loop-again c =
-    let c2 = c .before .before in
-    let c3 = c2 .before in
-    let c5 = c3 .before .before in
-    let c9 = c5 .before .before .before .before in
-    let at = c2 .wide16 .ensures .0 ∙ c3 .u16-at .ensures in
-    let under : c2 .wide16 .result < 256 = omega (arith, c9 .pre .0, c9 .pre .4 (c5 .loop .e - 1) (omega arith)) in
-    edge-listed _ _ _ _ _ _ _ _ _ _ (c9 .pre .3) (omega arith) (c .narrow16 .ensures) at under (c9 .pre .1) (c5 .loop .inv)
+    let after-wide16 = c .before .before in
+    let after-u16-at = after-wide16 .before in
+    let at-loop = after-u16-at .before .before in
+    let start = to-start at-loop in
+    let at = after-wide16 .wide16 .ensures .0 ∙ after-u16-at .u16-at .ensures in
+    let under : after-wide16 .wide16 .result < 256 = omega (arith, start .pre .0, start .pre .4 (at-loop .loop .e - 1) (omega arith)) in
+    edge-listed _ _ _ _ _ _ _ _ _ _ (start .pre .3) (omega arith) (c .narrow16 .ensures) at under (start .pre .1) (at-loop .loop .inv)
 
 returns : tie.Need-returns Inv-loop μ-loop
 returns c =

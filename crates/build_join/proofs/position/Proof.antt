@@ -16,13 +16,19 @@ Inv-loop words numbers columns n f run rows k₀ k = (k ≤ rows) × Passed word
 abbrev μ-loop : tie.MeasureT-loop
 μ-loop words numbers columns n f run rows k₀ k = rows - k
 
+-- from a place to an earlier one
+abbrev to-start : tie.In-loop Inv-loop μ-loop → tie.Start Inv-loop μ-loop
+to-start c =
+    let after-shared-slice-known2 = c .before .before .before in
+    after-shared-slice-known2 .before .before
+
 loop-holds : tie.Need-loop-holds Inv-loop μ-loop
 loop-holds c =
     (search needs, λ rows held. sym (zero-add _))
 
 same-row-requires : tie.Need-same-row-requires Inv-loop μ-loop
 same-row-requires c κs =
-    let p = c .before .before .before .before .before .pre in
+    let p = to-start c .pre in
     (p .0, p .1, p .2, omega (arith, c .before .before .run .given .0), c .loop-test .taken, p .3)
 
 returns : tie.Need-returns Inv-loop μ-loop

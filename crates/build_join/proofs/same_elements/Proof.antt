@@ -20,43 +20,59 @@ Inv-loop words numbers columns n at from i₀ i =
 abbrev μ-loop : tie.MeasureT-loop
 μ-loop words numbers columns n at from i₀ i = n - i
 
+-- from a place to an earlier one
+abbrev to-start : tie.At-loop Inv-loop μ-loop → tie.Start Inv-loop μ-loop
+to-start c =
+    let after-shared-slice-known = c .before .before .before in
+    after-shared-slice-known .before
+
+abbrev to-in-loop : tie.Then1 Inv-loop μ-loop → tie.In-loop Inv-loop μ-loop
+to-in-loop c =
+    let after-shared-slice-known4 = c .before .before .before in
+    after-shared-slice-known4 .before
+
+abbrev to-loop : tie.Then1 Inv-loop μ-loop → tie.At-loop Inv-loop μ-loop
+to-loop c =
+    let in-loop = to-in-loop c in
+    in-loop .before
+
 loop-holds : tie.Need-loop-holds Inv-loop μ-loop
 loop-holds c =
     (search needs, rw sub-zero)
 
 returns : tie.Need-returns Inv-loop μ-loop
 returns c =
-    let start = c .before .before .before .before .before .before .before .before .before in
-    let l = c .before .before .before .before .before .loop in
-    sym (l .inv .1 ∙ columns-differ _ _ _ _ _ _ _ (start .pre) (c .before .before .before .before .loop-test .taken) (λ e. c .if1 .taken (c .before .before .wide-column .ensures .0 ∙ e)))
+    let start = to-start (to-loop c) in
+    let l = to-loop c .loop in
+    sym (l .inv .1 ∙ columns-differ _ _ _ _ _ _ _ (start .pre) (to-in-loop c .loop-test .taken) (λ e. c .if1 .taken (c .before .before .wide-column .ensures .0 ∙ e)))
 
 returns-2 : tie.Need-returns-2 Inv-loop μ-loop
 unfolding ne
 returns-2 c =
-    let c3 = c .before .before .before in
-    let c5 = c3 .before .before in
-    let c7 = c5 .before .before in
-    let c8 = c7 .before in
-    let c12 = c8 .before .before .before .before in
-    let start = c12 in
-    let l = c8 .loop in
-    sym (l .inv .1 ∙ values-differ _ _ _ _ _ _ _ (start .pre) (c7 .loop-test .taken) (sym (c5 .wide-column .ensures .0) ∙ c3 .if1 .left) (not-true _ (c .if2 .taken)))
+    let else1 = c .before .before .before in
+    let after-wide-column = else1 .before .before in
+    let in-loop = after-wide-column .before .before in
+    let at-loop = in-loop .before in
+    let start-place = to-start at-loop in
+    let start = start-place in
+    let l = at-loop .loop in
+    sym (l .inv .1 ∙ values-differ _ _ _ _ _ _ _ (start .pre) (in-loop .loop-test .taken) (sym (after-wide-column .wide-column .ensures .0) ∙ else1 .if1 .left) (not-true _ (c .if2 .taken)))
 
 loop-again : tie.Need-loop-again Inv-loop μ-loop
 unfolding ne
 loop-again c =
-    let c3 = c .before .before .before in
-    let c5 = c3 .before .before in
-    let c7 = c5 .before .before in
-    let c8 = c7 .before in
-    let c12 = c8 .before .before .before .before in
-    let start = c12 in
-    let l = c8 .loop in
-    (search needs, l .inv .1 ∙ same-next _ _ _ _ _ _ _ (start .pre) (c7 .loop-test .taken) (sym (c5 .wide-column .ensures .0) ∙ c3 .if1 .left) (not-false _ (c .if2 .left)))
+    let else1 = c .before .before .before in
+    let after-wide-column = else1 .before .before in
+    let in-loop = after-wide-column .before .before in
+    let at-loop = in-loop .before in
+    let start-place = to-start at-loop in
+    let start = start-place in
+    let l = at-loop .loop in
+    (search needs, l .inv .1 ∙ same-next _ _ _ _ _ _ _ (start .pre) (in-loop .loop-test .taken) (sym (after-wide-column .wide-column .ensures .0) ∙ else1 .if1 .left) (not-false _ (c .if2 .left)))
 
 returns-3 : tie.Need-returns-3 Inv-loop μ-loop
 returns-3 c =
-    let start = c .before .before .before .before .before in
+    let start = to-start (c .before) in
     let l = c .before .loop in
     sym (l .inv .1 ∙ same-end _ _ _ _ _ _ _ (start .pre) (c .loop-test .left))
 

@@ -6,19 +6,31 @@ use borrow.Author.Needs.{needs}
 use Rattle.build_join.proofs.same_row.Statement.{statement}
 use Rattle.build_join.proofs.same_row.Tie as tie
 
+-- from a place to an earlier one
+abbrev to-start : tie.After-wide-start2 → tie.Start
+to-start c =
+    let after-shared-slice-known4 = c .before .before .before in
+    let after-shared-slice-known = after-shared-slice-known4 .before .before .before in
+    after-shared-slice-known .before
+
+abbrev to-wide-start : tie.After-same-elements → tie.After-wide-start
+to-wide-start c =
+    let after-shared-slice-known5 = c .before .before .before in
+    after-shared-slice-known5 .before
+
 sub-if1 : tie.Need-sub-if1
 sub-if1 c =
-    let start = c .before .before .before .before .before .before .before in
+    let start = to-start c in
     starts-rise _ _ _ (start .args .k) _ _ (start .pre .4) (c .before .before .wide-start .ensures .0) (c .wide-start2 .ensures .0) (start .pre .5)
 
 returns : tie.Need-returns
 returns c =
-    let start = c .before .before .before .before .before .before .before .before in
+    let start = to-start (c .before) in
     length-differs _ _ _ _ _ _ (start .pre .4) (c .before .before .before .wide-start .ensures .0) (c .before .wide-start2 .ensures .0) _ _ (start .pre .1) (start .pre .2) (start .pre .3) (c .if1 .taken)
 
 same-elements-requires : tie.Need-same-elements-requires
 same-elements-requires c κs =
-    let start = c .before .before .before .before .before .before .before .before in
+    let start = to-start (c .before) in
     let at = c .before .before .before .wide-start .ensures .0 in
     let next = c .before .wide-start2 .ensures .0 in
     let rise = starts-rise _ _ _ (start .args .k) _ _ (start .pre .4) at next (start .pre .5) in
@@ -28,8 +40,8 @@ same-elements-requires c κs =
 
 returns-2 : tie.Need-returns-2
 returns-2 c =
-    let start = c .before .before .before .before .before .before .before .before .before in
-    length-same _ _ _ _ _ _ (start .pre .4) (c .before .before .before .before .wide-start .ensures .0) (c .before .before .wide-start2 .ensures .0) _ _ (c .before .if1 .left) _ (c .same-elements .ensures)
+    let start = to-start (c .before .before) in
+    length-same _ _ _ _ _ _ (start .pre .4) (to-wide-start c .wide-start .ensures .0) (c .before .before .wide-start2 .ensures .0) _ _ (c .before .if1 .left) _ (c .same-elements .ensures)
 
 pub same-row-spec : {M : Type 1} → statement M
 same-row-spec =

@@ -20,57 +20,88 @@ returns : tie.Need-returns
 returns c =
     no-mass-row _ _ _ (λ e. c .if1 .taken (c .before .kind .ensures ∙ e)) _ _ _
 
+-- from a place to an earlier one
+abbrev to-start : tie.After-kind → tie.Start
+to-start c =
+    let after-shared-slice-known = c .before .before .before in
+    after-shared-slice-known .before
+
+abbrev to-wide16 : tie.After-mass-row-arg4 → tie.After-wide16
+to-wide16 c =
+    let after-mass-row-arg = c .before .before .before in
+    after-mass-row-arg .before .before
+
+abbrev to-mass-row : tie.After-run2 → tie.After-mass-row
+to-mass-row c =
+    let after-numbers = c .before .before .before in
+    after-numbers .before
+
+abbrev to-run2 : tie.After-add-fixed-row-arg3 → tie.After-run2
+to-run2 c =
+    let else2 = c .before .before .before in
+    else2 .before .before
+
+abbrev to-else2 : tie.After-add-fixed-row → tie.Else2
+to-else2 c =
+    let after-add-fixed-row-arg = c .before .before .before in
+    after-add-fixed-row-arg .before
+
+abbrev to-add-fixed-row : tie.After-slice-known5 → tie.After-add-fixed-row
+to-add-fixed-row c =
+    let after-words = c .before .before .before in
+    after-words .before
+
 mass-row-requires : tie.Need-mass-row-requires
 mass-row-requires c κs =
-    let c5 = c .before .before .before .before .before in
-    let c11 = c5 .before .before .before .before .before .before in
-    (lent-room _ _ _ (c11 .pre .4) (c11 .pre .3) .1, in-listed _ _ _ _ _ _ _ (c11 .pre .0) (c5 .wide16 .result), out-listed _ _ _ _ _ _ _ (c11 .pre .0) (c5 .wide16 .result))
+    let after-wide16 = to-wide16 c in
+    let start = to-start (after-wide16 .before .before) in
+    (lent-room _ _ _ (start .pre .4) (start .pre .3) .1, in-listed _ _ _ _ _ _ _ (start .pre .0) (after-wide16 .wide16 .result), out-listed _ _ _ _ _ _ _ (start .pre .0) (after-wide16 .wide16 .result))
 
 part-row-end : tie.Need-part-row-end
 part-row-end c =
-    let c4 = c .before .before .before .before in
-    let c10 = c4 .before .before .before .before .before .before in
-    let c16 = c10 .before .before .before .before .before .before in
-    let g = mass-row _ _ _ _ _ _ _ (c16 .pre .0) _ (c10 .wide16 .result) (c10 .wide16 .ensures .0) _ _ _ (c4 .mass-row .ensures) in
+    let after-mass-row = to-mass-row c in
+    let after-wide16 = to-wide16 (after-mass-row .before) in
+    let start = to-start (after-wide16 .before .before) in
+    let g = mass-row _ _ _ _ _ _ _ (start .pre .0) _ (after-wide16 .wide16 .result) (after-wide16 .wide16 .ensures .0) _ _ _ (after-mass-row .mass-row .ensures) in
     omega (arith, g .few, c .run2 .given .0)
 
 returns-2 : tie.Need-returns-2
 returns-2 c =
-    let c2 = c .before .before in
-    let c6 = c2 .before .before .before .before in
-    let c12 = c6 .before .before .before .before .before .before in
-    let c13 = c12 .before in
-    let c14 = c13 .before in
-    let c18 = c14 .before .before .before .before in
-    let room = lent-room _ _ _ (c18 .pre .4) (c18 .pre .3) in
-    let g = mass-row _ _ _ _ _ _ _ (c18 .pre .0) _ (c12 .wide16 .result) (c12 .wide16 .ensures .0) _ _ _ (c6 .mass-row .ensures) in
-    row-dropped _ _ _ _ _ _ _ (c18 .pre .0) _ (c12 .wide16 .result) (c12 .wide16 .ensures .0) _ _ _ g (sym (c14 .kind .ensures) ∙ c13 .if1 .left)
-    (omega (arith, c2 .run2 .given .0)) (omega (arith, c6 .mass-row .kept .1 .1 .1 .1 .1 .1 .0, room .1)) _ _ _ _ refl (room .0) (c .if2 .taken)
+    let after-run2 = c .before .before in
+    let after-mass-row = to-mass-row after-run2 in
+    let after-wide16 = to-wide16 (after-mass-row .before) in
+    let else1 = after-wide16 .before in
+    let after-kind = else1 .before in
+    let start = to-start after-kind in
+    let room = lent-room _ _ _ (start .pre .4) (start .pre .3) in
+    let g = mass-row _ _ _ _ _ _ _ (start .pre .0) _ (after-wide16 .wide16 .result) (after-wide16 .wide16 .ensures .0) _ _ _ (after-mass-row .mass-row .ensures) in
+    row-dropped _ _ _ _ _ _ _ (start .pre .0) _ (after-wide16 .wide16 .result) (after-wide16 .wide16 .ensures .0) _ _ _ g (sym (after-kind .kind .ensures) ∙ else1 .if1 .left)
+    (omega (arith, after-run2 .run2 .given .0)) (omega (arith, after-mass-row .mass-row .kept .1 .1 .1 .1 .1 .1 .0, room .1)) _ _ _ _ refl (room .0) (c .if2 .taken)
 
 add-fixed-row-requires : tie.Need-add-fixed-row-requires
 add-fixed-row-requires c κs =
-    let c9 = c .before .before .before .before .before .before .before .before .before in
-    let c15 = c9 .before .before .before .before .before .before in
-    let c21 = c15 .before .before .before .before .before .before in
-    let g = mass-row _ _ _ _ _ _ _ (c21 .pre .0) _ (c15 .wide16 .result) (c15 .wide16 .ensures .0) _ _ _ (c9 .mass-row .ensures) in
-    let few = held-few _ _ _ _ (c21 .pre .4 .held) in
-    (c21 .pre .2, lent-long (c21 .args .numbers .now) (c9 .mass-row .last .1 .1 .1 .1 .1 .1 .0) (2048 + c21 .args .f .elements) (c9 .mass-row .kept .1 .1 .1 .1 .1 .1 .0) (c21 .pre .3), g .few, few .0, few .1, g .rising)
+    let after-mass-row = to-mass-row (to-run2 c) in
+    let after-wide16 = to-wide16 (after-mass-row .before) in
+    let start = to-start (after-wide16 .before .before) in
+    let g = mass-row _ _ _ _ _ _ _ (start .pre .0) _ (after-wide16 .wide16 .result) (after-wide16 .wide16 .ensures .0) _ _ _ (after-mass-row .mass-row .ensures) in
+    let few = held-few _ _ _ _ (start .pre .4 .held) in
+    (start .pre .2, lent-long (start .args .numbers .now) (after-mass-row .mass-row .last .1 .1 .1 .1 .1 .1 .0) (2048 + start .args .f .elements) (after-mass-row .mass-row .kept .1 .1 .1 .1 .1 .1 .0) (start .pre .3), g .few, few .0, few .1, g .rising)
 
 returns-3 : tie.Need-returns-3
 unfolding zero64 ofBits
 returns-3 c =
-    let c4 = c .before .before .before .before in
-    let c8 = c4 .before .before .before .before in
-    let c10 = c8 .before .before in
-    let c14 = c10 .before .before .before .before in
-    let c20 = c14 .before .before .before .before .before .before in
-    let c21 = c20 .before in
-    let c22 = c21 .before in
-    let c26 = c22 .before .before .before .before in
-    let room = lent-room _ _ _ (c26 .pre .4) (c26 .pre .3) in
-    let g = mass-row _ _ _ _ _ _ _ (c26 .pre .0) _ (c20 .wide16 .result) (c20 .wide16 .ensures .0) _ _ _ (c14 .mass-row .ensures) in
-    row-added _ _ _ _ _ _ _ (c26 .pre .0) _ (c20 .wide16 .result) (c20 .wide16 .ensures .0) _ _ _ g (sym (c22 .kind .ensures) ∙ c21 .if1 .left)
-    (omega (arith, c10 .run2 .given .0)) (omega (arith, c14 .mass-row .kept .1 .1 .1 .1 .1 .1 .0, room .1)) _ _ _ _ refl (room .0) _ _ _ _ _ (c8 .if2 .left) refl refl (c4 .add-fixed-row .ensures)
+    let after-add-fixed-row = to-add-fixed-row c in
+    let else2 = to-else2 after-add-fixed-row in
+    let after-run2 = else2 .before .before in
+    let after-mass-row = to-mass-row after-run2 in
+    let after-wide16 = to-wide16 (after-mass-row .before) in
+    let else1 = after-wide16 .before in
+    let after-kind = else1 .before in
+    let start = to-start after-kind in
+    let room = lent-room _ _ _ (start .pre .4) (start .pre .3) in
+    let g = mass-row _ _ _ _ _ _ _ (start .pre .0) _ (after-wide16 .wide16 .result) (after-wide16 .wide16 .ensures .0) _ _ _ (after-mass-row .mass-row .ensures) in
+    row-added _ _ _ _ _ _ _ (start .pre .0) _ (after-wide16 .wide16 .result) (after-wide16 .wide16 .ensures .0) _ _ _ g (sym (after-kind .kind .ensures) ∙ else1 .if1 .left)
+    (omega (arith, after-run2 .run2 .given .0)) (omega (arith, after-mass-row .mass-row .kept .1 .1 .1 .1 .1 .1 .0, room .1)) _ _ _ _ refl (room .0) _ _ _ _ _ (else2 .if2 .left) refl refl (after-add-fixed-row .add-fixed-row .ensures)
 
 pub add-mass-row-spec : {M : Type 1} → statement M
 add-mass-row-spec =

@@ -25,47 +25,78 @@ Inv-loop s c first-in next-in first-out next-out edge-to-col words₀ numbers₀
 abbrev μ-loop : tie.MeasureT-loop
 μ-loop s c first-in next-in first-out next-out edge-to-col words₀ numbers₀ columns₀ nodes filled₀ i₀ words numbers columns filled i = nodes - i
 
+-- from a place to an earlier one
+abbrev to-start : tie.At-loop Inv-loop μ-loop → tie.Start Inv-loop μ-loop
+to-start c =
+    let after-shared-slice-known = c .before .before .before in
+    after-shared-slice-known .before
+
+abbrev to-narrow16 : tie.After-add-mass-row Inv-loop μ-loop → tie.After-narrow16 Inv-loop μ-loop
+to-narrow16 c =
+    let after-add-mass-row-arg = c .before .before .before in
+    after-add-mass-row-arg .before
+
+abbrev to-add-mass-row : tie.After-slice-known4 Inv-loop μ-loop → tie.After-add-mass-row Inv-loop μ-loop
+to-add-mass-row c =
+    let after-words = c .before .before .before in
+    after-words .before
+
+abbrev to-loop : tie.After-slice-known4 Inv-loop μ-loop → tie.At-loop Inv-loop μ-loop
+to-loop c =
+    let after-add-mass-row = to-add-mass-row c in
+    let after-narrow16 = to-narrow16 after-add-mass-row in
+    after-narrow16 .before .before
+
+abbrev to-in-loop : tie.After-known-told Inv-loop μ-loop → tie.In-loop Inv-loop μ-loop
+to-in-loop c =
+    let after-add-mass-row = to-add-mass-row (c .before .before .before) in
+    let after-narrow16 = to-narrow16 after-add-mass-row in
+    after-narrow16 .before
+
 loop-holds : tie.Need-loop-holds Inv-loop μ-loop
 loop-holds c =
     (search needs, (λ rows h. adding-first rows _ _ _ _ h), refl, refl)
 
 narrow16-requires : tie.Need-narrow16-requires Inv-loop μ-loop
 narrow16-requires c κs =
-    omega (arith, c .loop-test .taken, c .before .before .before .before .before .pre .0 .sections .few-nodes)
+    omega (arith, c .loop-test .taken, to-start (c .before) .pre .0 .sections .few-nodes)
 
 add-mass-row-requires : tie.Need-add-mass-row-requires Inv-loop μ-loop
 add-mass-row-requires c κs =
-    let c3 = c .before .before .before in
-    let c4 = c3 .before in
-    let c5 = c4 .before in
-    let c9 = c5 .before .before .before .before in
-    let l = c5 .loop .inv in
-    (c9 .pre .0, omega (arith, c3 .narrow16 .ensures, c4 .loop-test .taken), omega (arith, l .2, c9 .pre .1), omega (arith, l .3, c9 .pre .2), adding-holding _ _ _ _ _ _ (l .1 (c9 .pre .3 .rows) (c9 .pre .3 .held)))
+    let after-narrow16 = c .before .before .before in
+    let in-loop = after-narrow16 .before in
+    let at-loop = in-loop .before in
+    let start = to-start at-loop in
+    let l = at-loop .loop .inv in
+    (start .pre .0, omega (arith, after-narrow16 .narrow16 .ensures, in-loop .loop-test .taken), omega (arith, l .2, start .pre .1), omega (arith, l .3, start .pre .2), adding-holding _ _ _ _ _ _ (l .1 (start .pre .3 .rows) (start .pre .3 .held)))
 
 same-length : tie.Need-same-length Inv-loop μ-loop
 same-length c =
-    c .before .before .before .before .before .before .add-mass-row .kept .1 .1 .1 .1 .1 .1 .1 .1 .0 ∙ c .before .before .before .before .before .before .before .before .before .before .before .before .loop .inv .2
+    to-add-mass-row (c .before .before) .add-mass-row .kept .1 .1 .1 .1 .1 .1 .1 .1 .0 ∙ to-loop (c .before .before) .loop .inv .2
 
 same-length-2 : tie.Need-same-length-2 Inv-loop μ-loop
 same-length-2 c =
-    c .before .before .before .before .before .before .add-mass-row .kept .1 .1 .1 .1 .1 .1 .1 .1 .1 .0 ∙ c .before .before .before .before .before .before .before .before .before .before .before .before .loop .inv .3
+    to-add-mass-row (c .before .before) .add-mass-row .kept .1 .1 .1 .1 .1 .1 .1 .1 .1 .0 ∙ to-loop (c .before .before) .loop .inv .3
 
 returns : tie.Need-returns Inv-loop μ-loop
 returns c =
-    let c6 = c .before .before .before .before .before .before in
-    let c10 = c6 .before .before .before .before in
-    let c11 = c10 .before in
-    let c12 = c11 .before in
-    let c16 = c12 .before .before .before .before in
-    λ rows h. node-over (massRowsFrom (columnMap (networkOf (c16 .args .s .now) (c16 .args .c)))) (by-node _) _ _ _ _ _ _ _ _ _ _ _ (c12 .loop .inv .1 rows h) (c11 .loop-test .taken) _ (c10 .narrow16 .ensures) _ _ _ (c6 .add-mass-row .ensures) (c .enum-told .given .1)
+    let after-add-mass-row = to-add-mass-row (c .before .before) in
+    let after-narrow16 = to-narrow16 after-add-mass-row in
+    let in-loop = after-narrow16 .before in
+    let at-loop = in-loop .before in
+    let start = to-start at-loop in
+    λ rows h. node-over (massRowsFrom (columnMap (networkOf (start .args .s .now) (start .args .c)))) (by-node _) _ _ _ _ _ _ _ _ _ _ _ (at-loop .loop .inv .1 rows h) (in-loop .loop-test .taken) _ (after-narrow16 .narrow16 .ensures) _ _ _ (after-add-mass-row .add-mass-row .ensures) (c .enum-told .given .1)
 
 loop-again : tie.Need-loop-again Inv-loop μ-loop
-loop-again c = (
-  search needs,
-  (λ rows h. node-more (massRowsFrom (columnMap (networkOf (c .before .before .before .before .before .before .before .before .before .before .before .before .before .before .before .before .before .args .s .now) (c .before .before .before .before .before .before .before .before .before .before .before .before .before .before .before .before .before .args .c)))) (by-node _) _ _ _ _ _ _ _ _ _ _ _ (c .before .before .before .before .before .before .before .before .before .before .before .before .before .loop .inv .1 rows h) (c .before .before .before .before .before .before .before .before .before .before .before .before .loop-test .taken) _ (c .before .before .before .before .before .before .before .before .before .before .before .narrow16 .ensures) _ _ _ (c .before .before .before .before .before .before .before .add-mass-row .ensures) _ (c .before .r .given .1)),
-  c .before .before .before .before .before .before .before .add-mass-row .kept .1 .1 .1 .1 .1 .1 .1 .1 .0 ∙ c .before .before .before .before .before .before .before .before .before .before .before .before .before .loop .inv .2,
-  c .before .before .before .before .before .before .before .add-mass-row .kept .1 .1 .1 .1 .1 .1 .1 .1 .1 .0 ∙ c .before .before .before .before .before .before .before .before .before .before .before .before .before .loop .inv .3,
-)
+loop-again c =
+    let after-add-mass-row = to-add-mass-row (c .before .before .before) in
+    let at-loop = to-loop (c .before .before .before) in
+    let start = to-start (to-loop (c .before .before .before)) in (
+      search needs,
+      (λ rows h. node-more (massRowsFrom (columnMap (networkOf (start .args .s .now) (start .args .c)))) (by-node _) _ _ _ _ _ _ _ _ _ _ _ (at-loop .loop .inv .1 rows h) (to-in-loop c .loop-test .taken) _ (to-narrow16 (to-add-mass-row (c .before .before .before)) .narrow16 .ensures) _ _ _ (after-add-mass-row .add-mass-row .ensures) _ (c .before .r .given .1)),
+      after-add-mass-row .add-mass-row .kept .1 .1 .1 .1 .1 .1 .1 .1 .0 ∙ at-loop .loop .inv .2,
+      after-add-mass-row .add-mass-row .kept .1 .1 .1 .1 .1 .1 .1 .1 .1 .0 ∙ at-loop .loop .inv .3,
+    )
 
 same-length-3 : tie.Need-same-length-3 Inv-loop μ-loop
 same-length-3 c =
@@ -77,9 +108,9 @@ same-length-4 c =
 
 returns-2 : tie.Need-returns-2 Inv-loop μ-loop
 returns-2 c =
-    let c1 = c .before in
-    let c5 = c1 .before .before .before .before in
-    λ rows h. nodes-done (massRowsFrom (columnMap (networkOf (c5 .args .s .now) (c5 .args .c)))) (by-node _) _ _ _ _ _ _ _ _ _ _ _ (c1 .loop .inv .1 rows h) (c .loop-test .left)
+    let at-loop = c .before in
+    let start = to-start at-loop in
+    λ rows h. nodes-done (massRowsFrom (columnMap (networkOf (start .args .s .now) (start .args .c)))) (by-node _) _ _ _ _ _ _ _ _ _ _ _ (at-loop .loop .inv .1 rows h) (c .loop-test .left)
 
 pub create-mass-balance-constraints-spec : {M : Type 1} → statement M
 create-mass-balance-constraints-spec =

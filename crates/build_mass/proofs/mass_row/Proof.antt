@@ -19,22 +19,33 @@ unfolding columnsRise
 add-columns-requires c κs =
     (omega arith, c .before .before .before .pre .0, refl, c .before .before .before .pre .1)
 
+-- from a place to an earlier one
+abbrev to-start : tie.After-add-columns → tie.Start
+to-start c =
+    let after-slice-known = c .before .before .before in
+    after-slice-known .before
+
+abbrev to-add-columns : tie.After-add-columns-arg4 → tie.After-add-columns
+to-add-columns c =
+    let after-elements = c .before .before .before in
+    after-elements .before
+
 add-columns-requires-2 : tie.Need-add-columns-requires-2
 add-columns-requires-2 c κs =
-    let c4 = c .before .before .before .before in
-    let c8 = c4 .before .before .before .before in
-    (c4 .add-columns .ensures .few, omega (arith, c4 .add-columns .kept .1 .1 .1 .1 .1 .0, c8 .pre .0), c4 .add-columns .ensures .rising, c8 .pre .2)
+    let after-add-columns = to-add-columns c in
+    let start = to-start after-add-columns in
+    (after-add-columns .add-columns .ensures .few, omega (arith, after-add-columns .add-columns .kept .1 .1 .1 .1 .1 .0, start .pre .0), after-add-columns .add-columns .ensures .rising, start .pre .2)
 
 returns : tie.Need-returns
 unfolding one64 ofBits gathered elementsOf
 returns c =
-    let c2 = c .before .before in
-    let c7 = c2 .before .before .before .before .before in
-    let c11 = c7 .before .before .before .before in
+    let after-add-columns2 = c .before .before in
+    let after-add-columns = to-add-columns (after-add-columns2 .before) in
+    let start = to-start after-add-columns in
     λ into out li lo. record {
-      is = c2 .add-columns2 .ensures .row out lo ∙ ap (addOn (columnsOf (c11 .args .edge-to-col .now) out) (neg one64)) (c7 .add-columns .ensures .row into li);
-      rising = c2 .add-columns2 .ensures .rising;
-      few = c2 .add-columns2 .ensures .few;
+      is = after-add-columns2 .add-columns2 .ensures .row out lo ∙ ap (addOn (columnsOf (start .args .edge-to-col .now) out) (neg one64)) (after-add-columns .add-columns .ensures .row into li);
+      rising = after-add-columns2 .add-columns2 .ensures .rising;
+      few = after-add-columns2 .add-columns2 .ensures .few;
     }
 
 pub mass-row-spec : {M : Type 1} → statement M

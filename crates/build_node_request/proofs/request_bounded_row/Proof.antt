@@ -4,22 +4,39 @@ use borrow.Author.Needs.{needs}
 use Rattle.build_node_request.proofs.request_bounded_row.Statement.{statement}
 use Rattle.build_node_request.proofs.request_bounded_row.Tie as tie
 
+-- from a place to an earlier one
+abbrev to-start : tie.After-bounded-row → tie.Start
+to-start c =
+    let after-struct-known = c .before .before .before in
+    let after-slice-known = after-struct-known .before .before .before in
+    after-slice-known .before .before
+
+abbrev to-bounded-row : tie.After-add-node-row-arg3 → tie.After-bounded-row
+to-bounded-row c =
+    let after-slice-known3 = c .before .before .before in
+    after-slice-known3 .before .before
+
+abbrev to-add-node-row : tie.After-slice-known5 → tie.After-add-node-row
+to-add-node-row c =
+    let after-words = c .before .before .before in
+    after-words .before
+
 add-node-row-requires : tie.Need-add-node-row-requires
 add-node-row-requires c κs =
-    let c5 = c .before .before .before .before .before in
-    let c13 = c5 .before .before .before .before .before .before .before .before in
-    let h = c13 .pre .5 in
-    let ys = c5 .bounded-row .last .1 .1 .1 .1 .1 .1 .1 .1 .1 .1 .1 .1 .0 in
-    (search needs, search needs, c5 .bounded-row .ensures .few, c5 .bounded-row .ensures .rising, record { asks = h .asks; held = rows-lent _ (h .asks) _ _ ys _ (c13 .pre .4) (h .held) }, c13 .pre .6)
+    let after-bounded-row = to-bounded-row c in
+    let start = to-start after-bounded-row in
+    let h = start .pre .5 in
+    let ys = after-bounded-row .bounded-row .last .1 .1 .1 .1 .1 .1 .1 .1 .1 .1 .1 .1 .0 in
+    (search needs, search needs, after-bounded-row .bounded-row .ensures .few, after-bounded-row .bounded-row .ensures .rising, record { asks = h .asks; held = rows-lent _ (h .asks) _ _ ys _ (start .pre .4) (h .held) }, start .pre .6)
 
 returns : tie.Need-returns
 returns c =
-    let c4 = c .before .before .before .before in
-    let c10 = c4 .before .before .before .before .before .before in
-    let c18 = c10 .before .before .before .before .before .before .before .before in
-    let ys = c10 .bounded-row .last .1 .1 .1 .1 .1 .1 .1 .1 .1 .1 .1 .1 .0 in
-    let long = c18 .pre .4 in
-    λ t et asks h. request-lent _ asks _ _ ys _ long h _ _ _ _ _ _ _ _ _ (c10 .bounded-row .ensures .is) (c4 .add-node-row .ensures t et asks (rows-lent _ asks _ _ ys _ long h))
+    let after-add-node-row = to-add-node-row c in
+    let after-bounded-row = to-bounded-row (after-add-node-row .before) in
+    let start = to-start after-bounded-row in
+    let ys = after-bounded-row .bounded-row .last .1 .1 .1 .1 .1 .1 .1 .1 .1 .1 .1 .1 .0 in
+    let long = start .pre .4 in
+    λ t et asks h. request-lent _ asks _ _ ys _ long h _ _ _ _ _ _ _ _ _ (after-bounded-row .bounded-row .ensures .is) (after-add-node-row .add-node-row .ensures t et asks (rows-lent _ asks _ _ ys _ long h))
 
 pub request-bounded-row-spec : {M : Type 1} → statement M
 request-bounded-row-spec =

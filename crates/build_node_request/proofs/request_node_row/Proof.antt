@@ -16,23 +16,40 @@ unfolding columnsRise
 add-node-requires c κs =
     search needs
 
+-- from a place to an earlier one
+abbrev to-start : tie.After-add-node → tie.Start
+to-start c =
+    let after-struct-known = c .before .before .before in
+    let after-slice-known = after-struct-known .before .before .before in
+    after-slice-known .before .before
+
+abbrev to-add-node : tie.After-add-node-row-arg3 → tie.After-add-node
+to-add-node c =
+    let after-slice-known3 = c .before .before .before in
+    after-slice-known3 .before .before
+
+abbrev to-add-node-row : tie.After-slice-known5 → tie.After-add-node-row
+to-add-node-row c =
+    let after-words = c .before .before .before in
+    after-words .before
+
 add-node-row-requires : tie.Need-add-node-row-requires
 add-node-row-requires c κs =
-    let c5 = c .before .before .before .before .before in
-    let c13 = c5 .before .before .before .before .before .before .before .before in
-    let h = c13 .pre .4 in
-    let ys = c5 .add-node .last .1 .1 .1 .1 .1 .1 .1 .1 .1 .1 .0 in
-    (search needs, search needs, c5 .add-node .ensures .few, c5 .add-node .ensures .rising, record { asks = h .asks; held = rows-lent _ (h .asks) _ _ ys _ (c13 .pre .3) (h .held) }, c13 .pre .5)
+    let after-add-node = to-add-node c in
+    let start = to-start after-add-node in
+    let h = start .pre .4 in
+    let ys = after-add-node .add-node .last .1 .1 .1 .1 .1 .1 .1 .1 .1 .1 .0 in
+    (search needs, search needs, after-add-node .add-node .ensures .few, after-add-node .add-node .ensures .rising, record { asks = h .asks; held = rows-lent _ (h .asks) _ _ ys _ (start .pre .3) (h .held) }, start .pre .5)
 
 returns : tie.Need-returns
 unfolding one64 ofBits rowTypeWord
 returns c =
-    let c4 = c .before .before .before .before in
-    let c10 = c4 .before .before .before .before .before .before in
-    let c18 = c10 .before .before .before .before .before .before .before .before in
-    let ys = c10 .add-node .last .1 .1 .1 .1 .1 .1 .1 .1 .1 .1 .0 in
-    let long = c18 .pre .3 in
-    λ asks h. request-lent _ asks _ _ ys _ long h _ _ _ _ _ _ _ _ _ (node-gathered _ _ _ _ _ _ _ _ _ refl (c10 .add-node .ensures) .is) (c4 .add-node-row .ensures continuous refl asks (rows-lent _ asks _ _ ys _ long h))
+    let after-add-node-row = to-add-node-row c in
+    let after-add-node = to-add-node (after-add-node-row .before) in
+    let start = to-start after-add-node in
+    let ys = after-add-node .add-node .last .1 .1 .1 .1 .1 .1 .1 .1 .1 .1 .0 in
+    let long = start .pre .3 in
+    λ asks h. request-lent _ asks _ _ ys _ long h _ _ _ _ _ _ _ _ _ (node-gathered _ _ _ _ _ _ _ _ _ refl (after-add-node .add-node .ensures) .is) (after-add-node-row .add-node-row .ensures continuous refl asks (rows-lent _ asks _ _ ys _ long h))
 
 pub request-node-row-spec : {M : Type 1} → statement M
 request-node-row-spec =

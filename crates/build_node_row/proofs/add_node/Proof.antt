@@ -5,56 +5,92 @@ use borrow.Author.Needs.{needs}
 use Rattle.build_node_row.proofs.add_node.Statement.{statement}
 use Rattle.build_node_row.proofs.add_node.Tie as tie
 
+-- from a place to an earlier one
+abbrev to-wide16-from-add-columns-arg3 : tie.After-add-columns-arg3 → tie.After-wide16
+to-wide16-from-add-columns-arg3 c =
+    let then1 = c .before .before .before in
+    then1 .before .before
+
+abbrev to-wide16-from-add-columns-arg12 : tie.After-add-columns-arg12 → tie.After-wide16
+to-wide16-from-add-columns-arg12 c =
+    let else2 = c .before .before .before in
+    else2 .before .before .before
+
+abbrev to-wide16-from-add-columns-arg6 : tie.After-add-columns-arg6 → tie.After-wide16
+to-wide16-from-add-columns-arg6 c =
+    let then2 = c .before .before .before in
+    then2 .before .before .before
+
+abbrev to-then1 : tie.After-add-columns → tie.Then1
+to-then1 c =
+    let after-add-columns-arg = c .before .before .before in
+    after-add-columns-arg .before
+
+abbrev to-else2 : tie.After-add-columns4 → tie.Else2
+to-else2 c =
+    let after-add-columns-arg10 = c .before .before .before in
+    after-add-columns-arg10 .before
+
+abbrev to-then2 : tie.After-add-columns2 → tie.Then2
+to-then2 c =
+    let after-add-columns-arg4 = c .before .before .before in
+    after-add-columns-arg4 .before
+
+abbrev to-add-columns2 : tie.After-add-columns-arg9 → tie.After-add-columns2
+to-add-columns2 c =
+    let after-slice-known3 = c .before .before .before in
+    after-slice-known3 .before .before
+
 add-columns-requires : tie.Need-add-columns-requires
 add-columns-requires c κs =
-    let c5 = c .before .before .before .before .before in
-    let c8 = c5 .before .before .before in
-    (c8 .pre .2, c8 .pre .3, c8 .pre .4, in-listed _ _ _ _ _ _ _ (c8 .pre .0) (c5 .wide16 .result))
+    let after-wide16 = to-wide16-from-add-columns-arg3 c in
+    let start = after-wide16 .before .before .before in
+    (start .pre .2, start .pre .3, start .pre .4, in-listed _ _ _ _ _ _ _ (start .pre .0) (after-wide16 .wide16 .result))
 
 returns : tie.Need-returns
 returns c =
-    let c2 = c .before .before in
-    let c6 = c2 .before .before .before .before in
-    let c8 = c6 .before .before in
-    let c11 = c8 .before .before .before in
-    output-added _ _ _ _ _ _ _ (c11 .pre .0) _ (c8 .wide16 .result) (c8 .wide16 .ensures .0) (c11 .pre .1) _ _ _ _ _ _ _ (c6 .if1 .taken) (c2 .add-columns .ensures)
+    let after-add-columns = c .before .before in
+    let then1 = to-then1 after-add-columns in
+    let after-wide16 = then1 .before .before in
+    let start = after-wide16 .before .before .before in
+    output-added _ _ _ _ _ _ _ (start .pre .0) _ (after-wide16 .wide16 .result) (after-wide16 .wide16 .ensures .0) (start .pre .1) _ _ _ _ _ _ _ (then1 .if1 .taken) (after-add-columns .add-columns .ensures)
 
 add-columns-requires-2 : tie.Need-add-columns-requires-2
 add-columns-requires-2 c κs =
-    let c6 = c .before .before .before .before .before .before in
-    let c9 = c6 .before .before .before in
-    (c9 .pre .2, c9 .pre .3, c9 .pre .4, in-listed _ _ _ _ _ _ _ (c9 .pre .0) (c6 .wide16 .result))
+    let after-wide16 = to-wide16-from-add-columns-arg6 c in
+    let start = after-wide16 .before .before .before in
+    (start .pre .2, start .pre .3, start .pre .4, in-listed _ _ _ _ _ _ _ (start .pre .0) (after-wide16 .wide16 .result))
 
 add-columns-requires-3 : tie.Need-add-columns-requires-3
 add-columns-requires-3 c κs =
-    let c5 = c .before .before .before .before .before in
-    let c12 = c5 .before .before .before .before .before .before .before in
-    let c15 = c12 .before .before .before in
-    (c5 .add-columns2 .ensures .few, omega (arith, c5 .add-columns2 .kept .1 .1 .1 .1 .1 .0, c15 .pre .3), c5 .add-columns2 .ensures .rising, out-listed _ _ _ _ _ _ _ (c15 .pre .0) (c12 .wide16 .result))
+    let after-add-columns2 = to-add-columns2 c in
+    let after-wide16 = to-wide16-from-add-columns-arg6 (after-add-columns2 .before) in
+    let start = after-wide16 .before .before .before in
+    (after-add-columns2 .add-columns2 .ensures .few, omega (arith, after-add-columns2 .add-columns2 .kept .1 .1 .1 .1 .1 .0, start .pre .3), after-add-columns2 .add-columns2 .ensures .rising, out-listed _ _ _ _ _ _ _ (start .pre .0) (after-wide16 .wide16 .result))
 
 returns-2 : tie.Need-returns-2
 returns-2 c =
-    let c2 = c .before .before in
-    let c8 = c2 .before .before .before .before .before .before in
-    let c12 = c8 .before .before .before .before in
-    let c15 = c12 .before .before .before in
-    let c18 = c15 .before .before .before in
-    storage-added _ _ _ _ _ _ _ (c18 .pre .0) _ (c15 .wide16 .result) (c15 .wide16 .ensures .0) (c18 .pre .1) _ _ _ _ _ _ _ _ _ _ (c12 .if2 .taken) (c8 .add-columns2 .ensures) (c2 .add-columns3 .ensures)
+    let after-add-columns3 = c .before .before in
+    let after-add-columns2 = to-add-columns2 (after-add-columns3 .before) in
+    let then2 = to-then2 after-add-columns2 in
+    let after-wide16 = then2 .before .before .before in
+    let start = after-wide16 .before .before .before in
+    storage-added _ _ _ _ _ _ _ (start .pre .0) _ (after-wide16 .wide16 .result) (after-wide16 .wide16 .ensures .0) (start .pre .1) _ _ _ _ _ _ _ _ _ _ (then2 .if2 .taken) (after-add-columns2 .add-columns2 .ensures) (after-add-columns3 .add-columns3 .ensures)
 
 add-columns-requires-4 : tie.Need-add-columns-requires-4
 add-columns-requires-4 c κs =
-    let c6 = c .before .before .before .before .before .before in
-    let c9 = c6 .before .before .before in
-    (c9 .pre .2, c9 .pre .3, c9 .pre .4, out-listed _ _ _ _ _ _ _ (c9 .pre .0) (c6 .wide16 .result))
+    let after-wide16 = to-wide16-from-add-columns-arg12 c in
+    let start = after-wide16 .before .before .before in
+    (start .pre .2, start .pre .3, start .pre .4, out-listed _ _ _ _ _ _ _ (start .pre .0) (after-wide16 .wide16 .result))
 
 returns-3 : tie.Need-returns-3
 returns-3 c =
-    let c2 = c .before .before in
-    let c6 = c2 .before .before .before .before in
-    let c7 = c6 .before in
-    let c9 = c7 .before .before in
-    let c12 = c9 .before .before .before in
-    outgoing-added _ _ _ _ _ _ _ (c12 .pre .0) _ (c9 .wide16 .result) (c9 .wide16 .ensures .0) (c12 .pre .1) _ _ _ _ _ _ _ (c7 .if1 .left) (c6 .if2 .left) (c2 .add-columns4 .ensures)
+    let after-add-columns4 = c .before .before in
+    let else2 = to-else2 after-add-columns4 in
+    let else1 = else2 .before in
+    let after-wide16 = else1 .before .before in
+    let start = after-wide16 .before .before .before in
+    outgoing-added _ _ _ _ _ _ _ (start .pre .0) _ (after-wide16 .wide16 .result) (after-wide16 .wide16 .ensures .0) (start .pre .1) _ _ _ _ _ _ _ (else1 .if1 .left) (else2 .if2 .left) (after-add-columns4 .add-columns4 .ensures)
 
 pub add-node-spec : {M : Type 1} → statement M
 add-node-spec =

@@ -14,11 +14,18 @@ add-node-requires c κs =
     search needs
 
 returns : tie.Need-returns
+
+-- from a place to an earlier one
+abbrev to-add-node : tie.After-add-element → tie.After-add-node
+to-add-node c =
+    let after-slice-known2 = c .before .before .before in
+    after-slice-known2 .before .before
+
 unfolding gathered elementsOf
 returns c =
-    let c2 = c .before .before in
-    let c7 = c2 .before .before .before .before .before in
-    record { is = c2 .add-element .ensures .row ∙ ap (addElement _ _) (c7 .add-node .ensures .row); rising = c2 .add-element .ensures .rising; few = c2 .add-element .ensures .few }
+    let after-add-element = c .before .before in
+    let after-add-node = to-add-node after-add-element in
+    record { is = after-add-element .add-element .ensures .row ∙ ap (addElement _ _) (after-add-node .add-node .ensures .row); rising = after-add-element .add-element .ensures .rising; few = after-add-element .add-element .ensures .few }
 
 pub bounded-row-spec : {M : Type 1} → statement M
 bounded-row-spec =

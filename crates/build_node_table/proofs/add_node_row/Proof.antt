@@ -6,27 +6,43 @@ use borrow.Author.Needs.{needs}
 use Rattle.build_node_table.proofs.add_node_row.Statement.{statement}
 use Rattle.build_node_table.proofs.add_node_row.Tie as tie
 
+-- from a place to an earlier one
+abbrev to-start : tie.After-add-variable-row → tie.Start
+to-start c =
+    let after-f = c .before .before .before in
+    after-f .before .before .before
+
+abbrev to-add-variable-row : tie.After-slice-known4 → tie.After-add-variable-row
+to-add-variable-row c =
+    let after-words = c .before .before .before in
+    after-words .before
+
+abbrev to-slice-known4 : tie.After-put-node-row-arg → tie.After-slice-known4
+to-slice-known4 c =
+    let at-match-keys2 = c .before .before .before in
+    at-match-keys2 .before
+
 row-word-requires : tie.Need-row-word-requires
 row-word-requires c κs =
-    let h = c .before .before .before .before .before .before .before .before .before .before .before .before .before .before .pre .4 in
-    place-fits _ (joined (h .asks) .rows) _ _ _ _ _ _ _ (h .held .held) (c .before .before .before .before .before .before .before .before .add-variable-row .ensures (joined (h .asks) .rows) (h .held .held)) _ _ (c .before .before .r .given .1)
+    let h = to-start (to-add-variable-row (to-slice-known4 c)) .pre .4 in
+    place-fits _ (joined (h .asks) .rows) _ _ _ _ _ _ _ (h .held .held) (to-add-variable-row (to-slice-known4 c) .add-variable-row .ensures (joined (h .asks) .rows) (h .held .held)) _ _ (c .before .before .r .given .1)
 
 returns : tie.Need-returns
 returns c =
-    λ t et asks h. row-full _ asks _ _ _ _ _ _ _ h (c .before .before .before .before .before .before .add-variable-row .ensures (joined asks .rows) (h .held)) (c .enum-told .given .1)
+    λ t et asks h. row-full _ asks _ _ _ _ _ _ _ h (to-add-variable-row (c .before .before) .add-variable-row .ensures (joined asks .rows) (h .held)) (c .enum-told .given .1)
 
 returns-2 : tie.Need-returns-2
 returns-2 c =
-    let c2 = c .before .before in
-    let c3 = c2 .before in
-    let c6 = c3 .before .before .before in
-    let c12 = c6 .before .before .before .before .before .before in
-    let c18 = c12 .before .before .before .before .before .before in
-    let room = c18 .pre .5 in
-    let long = c18 .pre .0 in
-    let kept = c12 .add-variable-row .kept .0 in
+    let after-put-node-row = c .before .before in
+    let after-row-word = after-put-node-row .before in
+    let after-r = after-row-word .before .before .before in
+    let after-add-variable-row = to-add-variable-row (after-r .before .before) in
+    let start = to-start after-add-variable-row in
+    let room = start .pre .5 in
+    let long = start .pre .0 in
+    let kept = after-add-variable-row .add-variable-row .kept .0 in
     λ t et asks h.
-    row-placed _ asks _ _ _ _ _ _ _ h (c12 .add-variable-row .ensures (joined asks .rows) (h .held)) _ _ (c6 .r .given .1) _ _ _ (c3 .row-word .ensures) et (omega arith) (c2 .put-node-row .ensures)
+    row-placed _ asks _ _ _ _ _ _ _ h (after-add-variable-row .add-variable-row .ensures (joined asks .rows) (h .held)) _ _ (after-r .r .given .1) _ _ _ (after-row-word .row-word .ensures) et (omega arith) (after-put-node-row .put-node-row .ensures)
 
 pub add-node-row-spec : {M : Type 1} → statement M
 add-node-row-spec =

@@ -18,43 +18,74 @@ Inv-loop s c first-in next-in first-out next-out edge-to-col edge-columns first-
 abbrev μ-loop : tie.MeasureT-loop
 μ-loop s c first-in next-in first-out next-out edge-to-col edge-columns first-membership next-membership sentinel words₀ numbers₀ columns₀ nodes rows₀ i₀ words numbers columns rows i = nodes - i
 
+-- from a place to an earlier one
+abbrev to-start : tie.At-loop Inv-loop μ-loop → tie.Start Inv-loop μ-loop
+to-start c =
+    let after-shared-slice-known = c .before .before .before in
+    after-shared-slice-known .before
+
+abbrev to-in-loop : tie.After-request-rows-arg3 Inv-loop μ-loop → tie.In-loop Inv-loop μ-loop
+to-in-loop c =
+    let after-narrow16 = c .before .before .before in
+    after-narrow16 .before
+
+abbrev to-loop : tie.After-request-rows-arg3 Inv-loop μ-loop → tie.At-loop Inv-loop μ-loop
+to-loop c =
+    let in-loop = to-in-loop c in
+    in-loop .before
+
+abbrev to-narrow16 : tie.After-request-rows Inv-loop μ-loop → tie.After-narrow16 Inv-loop μ-loop
+to-narrow16 c =
+    let after-request-rows-arg = c .before .before .before in
+    after-request-rows-arg .before
+
+abbrev to-request-rows : tie.After-slice-known4 Inv-loop μ-loop → tie.After-request-rows Inv-loop μ-loop
+to-request-rows c =
+    let after-words = c .before .before .before in
+    after-words .before
+
+abbrev to-request-rows-arg3 : tie.After-enum-told Inv-loop μ-loop → tie.After-request-rows-arg3 Inv-loop μ-loop
+to-request-rows-arg3 c =
+    let after-request-rows = to-request-rows (c .before .before) in
+    after-request-rows .before
+
 loop-holds : tie.Need-loop-holds Inv-loop μ-loop
 loop-holds c =
     (order-first _ _ _ _ _ _ _ (c .before .before .before .pre .0) _ _ _ _ (c .before .before .before .pre .5), refl, refl)
 
 narrow16-requires : tie.Need-narrow16-requires Inv-loop μ-loop
 narrow16-requires c κs =
-    let under = node-under _ _ _ _ _ _ _ (c .before .before .before .before .before .pre .0) _ (c .loop-test .taken) in
+    let under = node-under _ _ _ _ _ _ _ (to-start (c .before) .pre .0) _ (c .loop-test .taken) in
     omega arith
 
 request-rows-requires : tie.Need-request-rows-requires Inv-loop μ-loop
 request-rows-requires c κs =
-    let p = c .before .before .before .before .before .before .before .before .before .pre in
-    let l = c .before .before .before .before .before .loop .inv in
-    (p .0, omega (arith, c .before .before .before .narrow16 .ensures, c .before .before .before .before .loop-test .taken), p .1, p .2, omega (arith, p .3, l .1), omega (arith, p .4, l .2), rw (c .before .before .before .narrow16 .ensures) (l .0))
+    let p = to-start (to-loop c) .pre in
+    let l = to-loop c .loop .inv in
+    (p .0, omega (arith, c .before .before .before .narrow16 .ensures, to-in-loop c .loop-test .taken), p .1, p .2, omega (arith, p .3, l .1), omega (arith, p .4, l .2), rw (c .before .before .before .narrow16 .ensures) (l .0))
 
 same-length : tie.Need-same-length Inv-loop μ-loop
 same-length c =
-    c .before .before .before .before .before .before .request-rows .kept .1 .1 .1 .1 .1 .1 .1 .1 .1 .1 .1 .1 .0 ∙ c .before .before .before .before .before .before .before .before .before .before .before .before .loop .inv .1
+    to-request-rows (c .before .before) .request-rows .kept .1 .1 .1 .1 .1 .1 .1 .1 .1 .1 .1 .1 .0 ∙ to-loop (to-request-rows-arg3 c) .loop .inv .1
 
 same-length-2 : tie.Need-same-length-2 Inv-loop μ-loop
 same-length-2 c =
-    c .before .before .before .before .before .before .request-rows .kept .1 .1 .1 .1 .1 .1 .1 .1 .1 .1 .1 .1 .1 .0 ∙ c .before .before .before .before .before .before .before .before .before .before .before .before .loop .inv .2
+    to-request-rows (c .before .before) .request-rows .kept .1 .1 .1 .1 .1 .1 .1 .1 .1 .1 .1 .1 .1 .0 ∙ to-loop (to-request-rows-arg3 c) .loop .inv .2
 
 returns : tie.Need-returns Inv-loop μ-loop
 returns c =
-    let c6 = c .before .before .before .before .before .before in
-    let c10 = c6 .before .before .before .before in
-    let c16 = c10 .before .before .before .before .before .before in
-    order-full _ _ _ _ _ _ _ (c16 .pre .0) _ _ _ (c10 .narrow16 .result + 1) _ (c6 .request-rows .ensures) (c .enum-told .given .1)
+    let after-request-rows = to-request-rows (c .before .before) in
+    let after-narrow16 = to-narrow16 after-request-rows in
+    let start = to-start (after-narrow16 .before .before) in
+    order-full _ _ _ _ _ _ _ (start .pre .0) _ _ _ (after-narrow16 .narrow16 .result + 1) _ (after-request-rows .request-rows .ensures) (c .enum-told .given .1)
 
 loop-again : tie.Need-loop-again Inv-loop μ-loop
 loop-again c =
-    let c1 = c .before in
-    let c7 = c1 .before .before .before .before .before .before in
-    let c11 = c7 .before .before .before .before in
-    let c13 = c11 .before .before in
-    (rw (c11 .narrow16 .ensures) at (c7 .request-rows .ensures .done _ (c1 .r .given .1)), c7 .request-rows .kept .1 .1 .1 .1 .1 .1 .1 .1 .1 .1 .1 .1 .0 ∙ c13 .loop .inv .1, c7 .request-rows .kept .1 .1 .1 .1 .1 .1 .1 .1 .1 .1 .1 .1 .1 .0 ∙ c13 .loop .inv .2)
+    let after-r = c .before in
+    let after-request-rows = to-request-rows (after-r .before .before) in
+    let after-narrow16 = to-narrow16 after-request-rows in
+    let at-loop = after-narrow16 .before .before in
+    (rw (after-narrow16 .narrow16 .ensures) at (after-request-rows .request-rows .ensures .done _ (after-r .r .given .1)), after-request-rows .request-rows .kept .1 .1 .1 .1 .1 .1 .1 .1 .1 .1 .1 .1 .0 ∙ at-loop .loop .inv .1, after-request-rows .request-rows .kept .1 .1 .1 .1 .1 .1 .1 .1 .1 .1 .1 .1 .1 .0 ∙ at-loop .loop .inv .2)
 
 same-length-3 : tie.Need-same-length-3 Inv-loop μ-loop
 same-length-3 c =
@@ -66,7 +97,7 @@ same-length-4 c =
 
 returns-2 : tie.Need-returns-2 Inv-loop μ-loop
 returns-2 c =
-    order-done _ _ _ _ _ _ _ (c .before .before .before .before .before .pre .0) _ _ _ _ _ (c .loop-test .left) (c .before .loop .inv .0)
+    order-done _ _ _ _ _ _ _ (to-start (c .before) .pre .0) _ _ _ _ _ (c .loop-test .left) (c .before .loop .inv .0)
 
 pub create-node-constraints-spec : {M : Type 1} → statement M
 create-node-constraints-spec =

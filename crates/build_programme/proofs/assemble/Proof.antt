@@ -6,16 +6,22 @@ use borrow.Author.Needs.{needs}
 use Rattle.build_programme.proofs.assemble.Statement.{statement}
 use Rattle.build_programme.proofs.assemble.Tie as tie
 
+-- from a place to an earlier one
+abbrev to-start : tie.After-load → tie.Start
+to-start c =
+    let after-shared-slice-known = c .before .before .before in
+    after-shared-slice-known .before
+
 assemble-columns-requires : tie.Need-assemble-columns-requires
 assemble-columns-requires c κs =
-    let c3 = c .before .before .before in
-    let c5 = c3 .before .before in
-    let c9 = c5 .before .before .before .before in
-    (read-as _ _ _ (c3 .r2 .given .1) (c5 .load .ensures .0), placed-as _ _ _ (c3 .r2 .given .1) (c5 .load .ensures .1), c9 .pre .0, c9 .pre .1)
+    let after-r2 = c .before .before .before in
+    let after-load = after-r2 .before .before in
+    let start = to-start after-load in
+    (read-as _ _ _ (after-r2 .r2 .given .1) (after-load .load .ensures .0), placed-as _ _ _ (after-r2 .r2 .given .1) (after-load .load .ensures .1), start .pre .0, start .pre .1)
 
 returns : tie.Need-returns
 returns c =
-    refused-so (c .before .before .before .before .before .before .before .args .sentinel) _ _ _ _ _ (not-read _ _ _ _ (refused-as _ _ _ _ (c .before .r .given .1) (c .before .before .before .load .ensures .0)))
+    refused-so (to-start (c .before .before .before) .args .sentinel) _ _ _ _ _ (not-read _ _ _ _ (refused-as _ _ _ _ (c .before .r .given .1) (c .before .before .before .load .ensures .0)))
 
 pub assemble-spec : {M : Type 1} → statement M
 assemble-spec =

@@ -5,24 +5,45 @@ use borrow.Author.Needs.{needs}
 use Rattle.build_programme.proofs.assemble_rows.Statement.{statement}
 use Rattle.build_programme.proofs.assemble_rows.Tie as tie
 
+-- from a place to an earlier one
+abbrev to-start : tie.After-collect-sets → tie.Start
+to-start c =
+    let after-slice-known = c .before .before .before in
+    after-slice-known .before .before
+
+abbrev to-k : tie.After-next-membership → tie.After-k
+to-k c =
+    let after-known-told = c .before .before .before in
+    after-known-told .before
+
+abbrev to-collect-sets : tie.After-next-membership → tie.After-collect-sets
+to-collect-sets c =
+    let after-k = to-k c in
+    after-k .before .before
+
+abbrev to-list-members : tie.After-add-rows-arg2 → tie.After-list-members
+to-list-members c =
+    let after-first-membership2 = c .before .before .before in
+    after-first-membership2 .before .before
+
 list-members-requires : tie.Need-list-members-requires
 list-members-requires c κs =
-    (c .before .before .before .before .before .before .collect-sets .ensures .held _ (c .before .before .before .before .k .given .1) .1, refl)
+    (to-collect-sets c .collect-sets .ensures .held _ (to-k c .k .given .1) .1, refl)
 
 add-rows-requires : tie.Need-add-rows-requires
 add-rows-requires c κs =
-    let c5 = c .before .before .before .before .before in
-    let c10 = c5 .before .before .before .before .before in
-    let c12 = c10 .before .before in
-    let c17 = c12 .before .before .before .before .before in
-    let k = c12 .collect-sets .ensures .held _ (c10 .k .given .1) in
-    (c17 .pre .0, record { held = k .0; fit = k .1; listed = c5 .list-members .ensures }, c17 .pre .1, c17 .pre .2, c17 .pre .3)
+    let after-list-members = to-list-members c in
+    let after-k = to-k (after-list-members .before) in
+    let after-collect-sets = after-k .before .before in
+    let start = to-start after-collect-sets in
+    let k = after-collect-sets .collect-sets .ensures .held _ (after-k .k .given .1) in
+    (start .pre .0, record { held = k .0; fit = k .1; listed = after-list-members .list-members .ensures }, start .pre .1, start .pre .2, start .pre .3)
 
 returns : tie.Need-returns
 returns c =
-    let c2 = c .before .before in
-    let c7 = c2 .before .before .before .before .before in
-    sets-refused (c7 .args .sentinel) _ (c7 .args .c) _ _ _ _ _ (c7 .pre .0) _ _ (c2 .collect-sets .ensures .over (c .enum-told .given .1))
+    let after-collect-sets = c .before .before in
+    let start = to-start after-collect-sets in
+    sets-refused (start .args .sentinel) _ (start .args .c) _ _ _ _ _ (start .pre .0) _ _ (after-collect-sets .collect-sets .ensures .over (c .enum-told .given .1))
 
 pub assemble-rows-spec : {M : Type 1} → statement M
 assemble-rows-spec =

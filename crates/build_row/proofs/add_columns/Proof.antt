@@ -15,9 +15,36 @@ Inv-loop next edge-to-col first factor columns₀ elements₀ n count₀ link₀
 abbrev μ-loop : tie.MeasureT-loop
 μ-loop next edge-to-col first factor columns₀ elements₀ n count₀ link₀ columns elements count link = above link
 
+-- from a place to an earlier one
+abbrev to-start : tie.After-index Inv-loop μ-loop → tie.Start Inv-loop μ-loop
+to-start c =
+    let after-slice-known = c .before .before .before in
+    after-slice-known .before
+
+abbrev to-loop : tie.After-t12 Inv-loop μ-loop → tie.At-loop Inv-loop μ-loop
+to-loop c =
+    let after-index = c .before .before .before in
+    after-index .before .before
+
+abbrev to-t12 : tie.After-link Inv-loop μ-loop → tie.After-t12 Inv-loop μ-loop
+to-t12 c =
+    let after-add-element = c .before .before .before in
+    after-add-element .before
+
+abbrev to-in-loop : tie.After-link Inv-loop μ-loop → tie.In-loop Inv-loop μ-loop
+to-in-loop c =
+    let after-t12 = to-t12 c in
+    let after-index = after-t12 .before .before .before in
+    after-index .before
+
+abbrev to-index : tie.After-slice-known2 Inv-loop μ-loop → tie.After-index Inv-loop μ-loop
+to-index c =
+    let after-t12 = c .before .before .before in
+    after-t12 .before .before .before
+
 -- the edge that a turn adds
 here : (c : tie.After-index Inv-loop μ-loop)
-    → let a = c .before .before .before .before .args in
+    → let a = to-start c .args in
     let l = c .before .before .loop in
     Ahead (a .next .now) (a .edge-to-col .now) (l .link) (c .index .result) (l .inv .0 .left .edges)
 here c = ahead _ _ _ _ (c .before .before .loop .inv .0 .left) (c .before .loop-test .taken) (c .index .ensures .0)
@@ -37,22 +64,22 @@ sub-t20 c =
 add-element-requires : tie.Need-add-element-requires Inv-loop μ-loop
 add-element-requires c κs =
     let h = here (c .before .before .before) in
-    let w = c .before .before .before .before .before .loop .inv in
+    let w = to-loop c .loop .inv in
     (w .0 .few, omega arith, omega arith, w .0 .rising)
 
 element-copy-out-link : tie.Need-element-copy-out-link Inv-loop μ-loop
 element-copy-out-link c =
-    here (c .before .before .before .before .before .before) .within
+    here (to-index c) .within
 
 loop-less : tie.Need-loop-less Inv-loop μ-loop
 loop-less c =
-    let h = here (c .before .before .before .before .before .before .before) in
-    above-falls _ _ (c .before .before .before .before .before .before .before .before .loop-test .taken) (omega arith) (h .higher)
+    let h = here (to-index (c .before)) in
+    above-falls _ _ (to-in-loop c .loop-test .taken) (omega arith) (h .higher)
 
 loop-again : tie.Need-loop-again Inv-loop μ-loop
 loop-again c =
-    let w = c .before .before .before .before .before .before .before .before .before .loop .inv in
-    (walk-next _ _ _ _ _ _ _ _ _ (w .0) _ (here (c .before .before .before .before .before .before .before)) _ _ _ (c .before .before .before .add-element .ensures), c .before .before .before .add-element .kept .1 .0 ∙ w .1)
+    let w = to-loop (to-t12 c) .loop .inv in
+    (walk-next _ _ _ _ _ _ _ _ _ (w .0) _ (here (to-index (c .before))) _ _ _ (c .before .before .before .add-element .ensures), c .before .before .before .add-element .kept .1 .0 ∙ w .1)
 
 returns : tie.Need-returns Inv-loop μ-loop
 returns c =

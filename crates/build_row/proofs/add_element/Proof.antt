@@ -9,26 +9,53 @@ use borrow.Author.Needs.{needs}
 use Rattle.build_row.proofs.add_element.Statement.{statement}
 use Rattle.build_row.proofs.add_element.Tie as tie
 
+-- from a place to an earlier one
+abbrev to-start : tie.After-place-of → tie.Start
+to-start c =
+    let after-wide = c .before .before .before in
+    after-wide .before .before
+
+abbrev to-wide-from-joined1 : tie.Joined1 → tie.After-wide
+to-wide-from-joined1 c =
+    let after-place-of-arg = c .before .before .before in
+    after-place-of-arg .before
+
+abbrev to-place-of-from-slice-known2 : tie.After-slice-known2 → tie.After-place-of
+to-place-of-from-slice-known2 c =
+    let then1 = c .before .before .before in
+    then1 .before
+
+abbrev to-wide-from-slice-known2 : tie.After-slice-known2 → tie.After-wide
+to-wide-from-slice-known2 c =
+    let after-place-of = to-place-of-from-slice-known2 c in
+    after-place-of .before .before .before
+
+abbrev to-place-of-from-slice-known3 : tie.After-slice-known3 → tie.After-place-of
+to-place-of-from-slice-known3 c =
+    let after-insert-element-arg = c .before .before .before in
+    let joined1 = after-insert-element-arg .before .before .before in
+    joined1 .before
+
 -- past the tests the column is not in the row, so that a place is free
 absent : (c : tie.Joined1)
-    → let a = c .before .before .before .before .before .before .args in
+    → let a = to-start (c .before) .args in
     Absent (a .columns .now) (a .n) (a .column .0) (c .before .place-of .result)
 absent c =
-    let e = c .before .before .before .before .wide .ensures .0 in
+    let e = to-wide-from-joined1 c .wide .ensures .0 in
     ⊎-elim (λ w l q. w .2 .left (q ∙ sym e)) (λ w l q. omega arith) (c .if1 .came)
 
-free : (c : tie.Joined1) → c .before .before .before .before .before .before .args .n < 640
+free : (c : tie.Joined1) → to-start (c .before) .args .n < 640
 free c =
-    let s = c .before .before .before .before .before .before in
+    let s = to-start (c .before) in
     let long : length (s .args .columns .now) ≡ 640 = omega arith in
     place-free _ _ _ _ long (s .pre .0) (s .pre .2) (s .pre .3) (c .before .place-of .ensures) (absent c)
 
 returns : tie.Need-returns
 returns c =
-    let s = c .before .before .before .before .before .before .before .before .before in
-    let e = c .before .before .before .before .before .before .before .wide .ensures .0 in
+    let s = to-start (to-place-of-from-slice-known2 c) in
+    let e = to-wide-from-slice-known2 c .wide .ensures .0 in
     let long : length (s .args .columns .now) ≡ 640 = omega arith in
-    element-added _ _ _ _ long (s .pre .0) (s .pre .2) (s .pre .3) (c .before .before .before .before .place-of .ensures) _ _ (s .pre .1) (c .before .before .before .if1 .taken) (c .before .if2 .taken ∙ e)
+    element-added _ _ _ _ long (s .pre .0) (s .pre .2) (s .pre .3) (to-place-of-from-slice-known2 c .place-of .ensures) _ _ (s .pre .1) (c .before .before .before .if1 .taken) (c .before .if2 .taken ∙ e)
 
 insert-column-requires : tie.Need-insert-column-requires
 insert-column-requires c κs =
@@ -40,13 +67,13 @@ insert-element-requires c κs =
 
 returns-2 : tie.Need-returns-2
 returns-2 c =
-    let s = c .before .before .before .before .before .before .before .before .before .before .before .before in
+    let s = to-start (to-place-of-from-slice-known3 c) in
     let long : length (s .args .columns .now) ≡ 640 = omega arith in
-    let c2 = c .before .before in
-    let c4 = c2 .before .before in
-    let c6 = c4 .before .before in
-    rw (c4 .insert-column .ensures, c2 .insert-element .ensures)
-    (element-inserted _ _ _ _ long (s .pre .0) (s .pre .2) (s .pre .3) (c6 .before .place-of .ensures) _ _ (s .pre .1) (absent c6))
+    let after-insert-element = c .before .before in
+    let after-insert-column = after-insert-element .before .before in
+    let joined1 = after-insert-column .before .before in
+    rw (after-insert-column .insert-column .ensures, after-insert-element .insert-element .ensures)
+    (element-inserted _ _ _ _ long (s .pre .0) (s .pre .2) (s .pre .3) (joined1 .before .place-of .ensures) _ _ (s .pre .1) (absent joined1))
 
 pub add-element-spec : {M : Type 1} → statement M
 add-element-spec =

@@ -9,95 +9,136 @@ use borrow.Author.Needs.{needs}
 use Rattle.build_rows.proofs.add_rows.Statement.{statement}
 use Rattle.build_rows.proofs.add_rows.Tie as tie
 
+-- from a place to an earlier one
+abbrev to-start : tie.After-start-rows → tie.Start
+to-start c =
+    let after-slice-known = c .before .before .before in
+    after-slice-known .before .before
+
+abbrev to-start-rows : tie.After-columns → tie.After-start-rows
+to-start-rows c =
+    let after-slice-known3 = c .before .before .before in
+    after-slice-known3 .before .before
+
+abbrev to-add-varying-rows : tie.After-slice-known5 → tie.After-add-varying-rows
+to-add-varying-rows c =
+    let after-words2 = c .before .before .before in
+    after-words2 .before
+
+abbrev to-columns : tie.After-enum-told → tie.After-columns
+to-columns c =
+    let after-add-varying-rows = to-add-varying-rows (c .before .before) in
+    after-add-varying-rows .before
+
+abbrev to-v : tie.After-columns2 → tie.After-v
+to-v c =
+    let after-filled = c .before .before .before in
+    after-filled .before .before
+
+abbrev to-slice-known5 : tie.After-add-fixed-rows → tie.After-slice-known5
+to-slice-known5 c =
+    let after-v = to-v (c .before) in
+    after-v .before .before
+
+abbrev to-add-fixed-rows : tie.After-slice-known7 → tie.After-add-fixed-rows
+to-add-fixed-rows c =
+    let after-words3 = c .before .before .before in
+    after-words3 .before
+
+abbrev to-slice-known7 : tie.After-write-tables → tie.After-slice-known7
+to-slice-known7 c =
+    let after-f = c .before .before .before in
+    after-f .before .before
+
 add-varying-rows-requires : tie.Need-add-varying-rows-requires
 add-varying-rows-requires c κs =
-    let c5 = c .before .before .before .before .before in
-    let c10 = c5 .before .before .before .before .before in
-    (c10 .pre .0, record { setAt = _; sets = _; tables = c10 .pre .1 }, c10 .pre .2, omega (arith, c5 .start-rows .kept .0, c10 .pre .3), c10 .pre .4, c5 .start-rows .ensures .0 _)
+    let after-start-rows = to-start-rows c in
+    let start = to-start after-start-rows in
+    (start .pre .0, record { setAt = _; sets = _; tables = start .pre .1 }, start .pre .2, omega (arith, after-start-rows .start-rows .kept .0, start .pre .3), start .pre .4, after-start-rows .start-rows .ensures .0 _)
 
 add-fixed-rows-requires : tie.Need-add-fixed-rows-requires
 add-fixed-rows-requires c κs =
-    let c5 = c .before .before .before .before .before in
-    let c11 = c5 .before .before .before .before .before .before in
-    let c17 = c11 .before .before .before .before .before .before in
-    let c22 = c17 .before .before .before .before .before in
-    (c22 .pre .0, c22 .pre .1, c22 .pre .2, omega (arith, c17 .start-rows .kept .0, c11 .add-varying-rows .kept .1 .1 .1 .1 .1 .1 .1 .1 .1 .1 .1 .0, c22 .pre .3), omega (arith, c11 .add-varying-rows .kept .1 .1 .1 .1 .1 .1 .1 .1 .1 .1 .1 .1 .0, c22 .pre .4), record { rows = _; held = c11 .add-varying-rows .ensures .done _ (c5 .v .given .1) .held })
+    let after-v = to-v c in
+    let after-add-varying-rows = to-add-varying-rows (after-v .before .before) in
+    let after-start-rows = to-start-rows (after-add-varying-rows .before) in
+    let start = to-start after-start-rows in
+    (start .pre .0, start .pre .1, start .pre .2, omega (arith, after-start-rows .start-rows .kept .0, after-add-varying-rows .add-varying-rows .kept .1 .1 .1 .1 .1 .1 .1 .1 .1 .1 .1 .0, start .pre .3), omega (arith, after-add-varying-rows .add-varying-rows .kept .1 .1 .1 .1 .1 .1 .1 .1 .1 .1 .1 .1 .0, start .pre .4), record { rows = _; held = after-add-varying-rows .add-varying-rows .ensures .done _ (after-v .v .given .1) .held })
 
 write-tables-requires : tie.Need-write-tables-requires
 write-tables-requires c κs =
-    let c2 = c .before .before in
-    let c8 = c2 .before .before .before .before .before .before in
-    let c14 = c8 .before .before .before .before .before .before in
-    let c20 = c14 .before .before .before .before .before .before in
-    let c26 = c20 .before .before .before .before .before .before in
-    let c31 = c26 .before .before .before .before .before in
-    let v = c20 .add-varying-rows .ensures .done _ (c14 .v .given .1) in
-    let a = c8 .add-fixed-rows .ensures (programmeOf (c31 .args .sentinel) (networkOf (c31 .args .s .now) (c31 .args .c)) .programme .varying) (v .held) in
-    let t = c31 .pre .0 in
-    (few (c31 .args .sentinel) _ (c31 .args .c) _ _ _ _ _ (c31 .pre .0) _ _ _ _ (c31 .pre .1) _ (c31 .pre .2) _ _ _ _ _ _ v _ a (c2 .f .given .1), omega (arith, t .sections .fixed, t .sections .inside), omega (arith, c26 .start-rows .kept .0, c20 .add-varying-rows .kept .1 .1 .1 .1 .1 .1 .1 .1 .1 .1 .1 .0, c8 .add-fixed-rows .kept .1 .1 .1 .1 .1 .1 .1 .1 .1 .1 .1 .1 .1 .0, c31 .pre .3), varying-most (c31 .args .sentinel) _ (c31 .args .c) _ _ _ _ _ (c31 .pre .0) _ _ _ _ (c31 .pre .1) _ (c31 .pre .2) _ _ _ _ _ _ v _ a (c2 .f .given .1), placed _ _ _ _ _ _ _ t)
+    let after-f = c .before .before in
+    let after-add-fixed-rows = to-add-fixed-rows (after-f .before .before) in
+    let after-v = to-v (after-add-fixed-rows .before) in
+    let after-add-varying-rows = to-add-varying-rows (after-v .before .before) in
+    let after-start-rows = to-start-rows (after-add-varying-rows .before) in
+    let start = to-start after-start-rows in
+    let v = after-add-varying-rows .add-varying-rows .ensures .done _ (after-v .v .given .1) in
+    let a = after-add-fixed-rows .add-fixed-rows .ensures (programmeOf (start .args .sentinel) (networkOf (start .args .s .now) (start .args .c)) .programme .varying) (v .held) in
+    let t = start .pre .0 in
+    (few (start .args .sentinel) _ (start .args .c) _ _ _ _ _ (start .pre .0) _ _ _ _ (start .pre .1) _ (start .pre .2) _ _ _ _ _ _ v _ a (after-f .f .given .1), omega (arith, t .sections .fixed, t .sections .inside), omega (arith, after-start-rows .start-rows .kept .0, after-add-varying-rows .add-varying-rows .kept .1 .1 .1 .1 .1 .1 .1 .1 .1 .1 .1 .0, after-add-fixed-rows .add-fixed-rows .kept .1 .1 .1 .1 .1 .1 .1 .1 .1 .1 .1 .1 .1 .0, start .pre .3), varying-most (start .args .sentinel) _ (start .args .c) _ _ _ _ _ (start .pre .0) _ _ _ _ (start .pre .1) _ (start .pre .2) _ _ _ _ _ _ v _ a (after-f .f .given .1), placed _ _ _ _ _ _ _ t)
 
 same-length : tie.Need-same-length
 same-length c =
-    c .before .before .before .before .before .before .add-varying-rows .kept .1 .1 .1 .1 .1 .1 .1 .1 .1 .1 .1 .0 ∙ c .before .before .before .before .before .before .before .before .before .before .before .before .start-rows .kept .0
+    to-add-varying-rows (c .before .before) .add-varying-rows .kept .1 .1 .1 .1 .1 .1 .1 .1 .1 .1 .1 .0 ∙ to-start-rows (to-columns c) .start-rows .kept .0
 
 same-length-2 : tie.Need-same-length-2
 same-length-2 c =
-    c .before .before .before .before .before .before .add-varying-rows .kept .1 .1 .1 .1 .1 .1 .1 .1 .1 .1 .1 .1 .0
+    to-add-varying-rows (c .before .before) .add-varying-rows .kept .1 .1 .1 .1 .1 .1 .1 .1 .1 .1 .1 .1 .0
 
 returns : tie.Need-returns
 returns c =
-    let c6 = c .before .before .before .before .before .before in
-    let c17 = c6 .before .before .before .before .before .before .before .before .before .before .before in
-    varying-refused (c17 .args .sentinel) _ (c17 .args .c) _ _ _ _ _ (c17 .pre .0) _ _ (c6 .add-varying-rows .ensures .full (c .enum-told .given .1))
+    let after-add-varying-rows = to-add-varying-rows (c .before .before) in
+    let start = to-start (to-start-rows (after-add-varying-rows .before)) in
+    varying-refused (start .args .sentinel) _ (start .args .c) _ _ _ _ _ (start .pre .0) _ _ (after-add-varying-rows .add-varying-rows .ensures .full (c .enum-told .given .1))
 
 same-length-3 : tie.Need-same-length-3
 same-length-3 c =
-    let c6 = c .before .before .before .before .before .before in
-    let c18 = c6 .before .before .before .before .before .before .before .before .before .before .before .before in
-    let c24 = c18 .before .before .before .before .before .before in
-    c6 .add-fixed-rows .kept .1 .1 .1 .1 .1 .1 .1 .1 .1 .1 .1 .1 .1 .0 ∙ c18 .add-varying-rows .kept .1 .1 .1 .1 .1 .1 .1 .1 .1 .1 .1 .0 ∙ c24 .start-rows .kept .0
+    let after-add-fixed-rows = to-add-fixed-rows (c .before .before) in
+    let after-add-varying-rows = to-add-varying-rows (to-slice-known5 after-add-fixed-rows) in
+    let after-start-rows = to-start-rows (after-add-varying-rows .before) in
+    after-add-fixed-rows .add-fixed-rows .kept .1 .1 .1 .1 .1 .1 .1 .1 .1 .1 .1 .1 .1 .0 ∙ after-add-varying-rows .add-varying-rows .kept .1 .1 .1 .1 .1 .1 .1 .1 .1 .1 .1 .0 ∙ after-start-rows .start-rows .kept .0
 
 same-length-4 : tie.Need-same-length-4
 same-length-4 c =
-    let c6 = c .before .before .before .before .before .before in
-    let c18 = c6 .before .before .before .before .before .before .before .before .before .before .before .before in
-    c6 .add-fixed-rows .kept .1 .1 .1 .1 .1 .1 .1 .1 .1 .1 .1 .1 .1 .1 .0 ∙ c18 .add-varying-rows .kept .1 .1 .1 .1 .1 .1 .1 .1 .1 .1 .1 .1 .0
+    let after-add-fixed-rows = to-add-fixed-rows (c .before .before) in
+    let after-add-varying-rows = to-add-varying-rows (to-slice-known5 after-add-fixed-rows) in
+    after-add-fixed-rows .add-fixed-rows .kept .1 .1 .1 .1 .1 .1 .1 .1 .1 .1 .1 .1 .1 .1 .0 ∙ after-add-varying-rows .add-varying-rows .kept .1 .1 .1 .1 .1 .1 .1 .1 .1 .1 .1 .1 .0
 
 returns-2 : tie.Need-returns-2
 returns-2 c =
-    let c6 = c .before .before .before .before .before .before in
-    let c12 = c6 .before .before .before .before .before .before in
-    let c18 = c12 .before .before .before .before .before .before in
-    let c29 = c18 .before .before .before .before .before .before .before .before .before .before .before in
-    let v = c18 .add-varying-rows .ensures .done _ (c12 .v .given .1) in
-    fixed-refused (c29 .args .sentinel) _ (c29 .args .c) _ _ _ _ _ (c29 .pre .0) _ _ (c6 .add-fixed-rows .ensures (programmeOf (c29 .args .sentinel) (networkOf (c29 .args .s .now) (c29 .args .c)) .programme .varying) (v .held) .full (c .enum-told2 .given .1))
+    let after-add-fixed-rows = to-add-fixed-rows (c .before .before) in
+    let after-v = to-v (after-add-fixed-rows .before) in
+    let after-add-varying-rows = to-add-varying-rows (after-v .before .before) in
+    let start = to-start (to-start-rows (after-add-varying-rows .before)) in
+    let v = after-add-varying-rows .add-varying-rows .ensures .done _ (after-v .v .given .1) in
+    fixed-refused (start .args .sentinel) _ (start .args .c) _ _ _ _ _ (start .pre .0) _ _ (after-add-fixed-rows .add-fixed-rows .ensures (programmeOf (start .args .sentinel) (networkOf (start .args .s .now) (start .args .c)) .programme .varying) (v .held) .full (c .enum-told2 .given .1))
 
 same-length-5 : tie.Need-same-length-5
 same-length-5 c =
-    let c2 = c .before .before in
-    let c11 = c2 .before .before .before .before .before .before .before .before .before in
-    let c23 = c11 .before .before .before .before .before .before .before .before .before .before .before .before in
-    let c29 = c23 .before .before .before .before .before .before in
-    c2 .write-tables .kept .1 .1 .1 .1 .1 .0 ∙ c11 .add-fixed-rows .kept .1 .1 .1 .1 .1 .1 .1 .1 .1 .1 .1 .1 .1 .0 ∙ c23 .add-varying-rows .kept .1 .1 .1 .1 .1 .1 .1 .1 .1 .1 .1 .0 ∙ c29 .start-rows .kept .0
+    let after-write-tables = c .before .before in
+    let after-add-fixed-rows = to-add-fixed-rows (to-slice-known7 after-write-tables) in
+    let after-add-varying-rows = to-add-varying-rows (to-slice-known5 after-add-fixed-rows) in
+    let after-start-rows = to-start-rows (after-add-varying-rows .before) in
+    after-write-tables .write-tables .kept .1 .1 .1 .1 .1 .0 ∙ after-add-fixed-rows .add-fixed-rows .kept .1 .1 .1 .1 .1 .1 .1 .1 .1 .1 .1 .1 .1 .0 ∙ after-add-varying-rows .add-varying-rows .kept .1 .1 .1 .1 .1 .1 .1 .1 .1 .1 .1 .0 ∙ after-start-rows .start-rows .kept .0
 
 same-length-6 : tie.Need-same-length-6
 same-length-6 c =
-    let c11 = c .before .before .before .before .before .before .before .before .before .before .before in
-    let c23 = c11 .before .before .before .before .before .before .before .before .before .before .before .before in
-    c11 .add-fixed-rows .kept .1 .1 .1 .1 .1 .1 .1 .1 .1 .1 .1 .1 .1 .1 .0 ∙ c23 .add-varying-rows .kept .1 .1 .1 .1 .1 .1 .1 .1 .1 .1 .1 .1 .0
+    let after-add-fixed-rows = to-add-fixed-rows (to-slice-known7 (c .before .before)) in
+    let after-add-varying-rows = to-add-varying-rows (to-slice-known5 after-add-fixed-rows) in
+    after-add-fixed-rows .add-fixed-rows .kept .1 .1 .1 .1 .1 .1 .1 .1 .1 .1 .1 .1 .1 .1 .0 ∙ after-add-varying-rows .add-varying-rows .kept .1 .1 .1 .1 .1 .1 .1 .1 .1 .1 .1 .1 .0
 
 returns-3 : tie.Need-returns-3
 returns-3 c =
-    let c2 = c .before .before in
-    let c5 = c2 .before .before .before in
-    let c11 = c5 .before .before .before .before .before .before in
-    let c17 = c11 .before .before .before .before .before .before in
-    let c23 = c17 .before .before .before .before .before .before in
-    let c29 = c23 .before .before .before .before .before .before in
-    let c34 = c29 .before .before .before .before .before in
-    let v = c23 .add-varying-rows .ensures .done _ (c17 .v .given .1) in
-    let a = c11 .add-fixed-rows .ensures (programmeOf (c34 .args .sentinel) (networkOf (c34 .args .s .now) (c34 .args .c)) .programme .varying) (v .held) in
-    all-made (c34 .args .sentinel) _ (c34 .args .c) _ _ _ _ _ (c34 .pre .0) _ _ _ _ (c34 .pre .1) _ (c34 .pre .2) _ _ _ _ _ _ v _ a (c5 .f .given .1) _ (omega (arith, c29 .start-rows .kept .0, c23 .add-varying-rows .kept .1 .1 .1 .1 .1 .1 .1 .1 .1 .1 .1 .0, c11 .add-fixed-rows .kept .1 .1 .1 .1 .1 .1 .1 .1 .1 .1 .1 .1 .1 .0, c34 .pre .3)) (c2 .write-tables .ensures)
+    let after-write-tables = c .before .before in
+    let after-f = after-write-tables .before .before .before in
+    let after-add-fixed-rows = to-add-fixed-rows (after-f .before .before) in
+    let after-v = to-v (after-add-fixed-rows .before) in
+    let after-add-varying-rows = to-add-varying-rows (after-v .before .before) in
+    let after-start-rows = to-start-rows (after-add-varying-rows .before) in
+    let start = to-start after-start-rows in
+    let v = after-add-varying-rows .add-varying-rows .ensures .done _ (after-v .v .given .1) in
+    let a = after-add-fixed-rows .add-fixed-rows .ensures (programmeOf (start .args .sentinel) (networkOf (start .args .s .now) (start .args .c)) .programme .varying) (v .held) in
+    all-made (start .args .sentinel) _ (start .args .c) _ _ _ _ _ (start .pre .0) _ _ _ _ (start .pre .1) _ (start .pre .2) _ _ _ _ _ _ v _ a (after-f .f .given .1) _ (omega (arith, after-start-rows .start-rows .kept .0, after-add-varying-rows .add-varying-rows .kept .1 .1 .1 .1 .1 .1 .1 .1 .1 .1 .1 .0, after-add-fixed-rows .add-fixed-rows .kept .1 .1 .1 .1 .1 .1 .1 .1 .1 .1 .1 .1 .1 .0, start .pre .3)) (after-write-tables .write-tables .ensures)
 
 pub add-rows-spec : {M : Type 1} → statement M
 add-rows-spec =

@@ -10,28 +10,44 @@ use borrow.Author.Needs.{needs}
 use Rattle.build_set_rows.proofs.add_bounded_row.Statement.{statement}
 use Rattle.build_set_rows.proofs.add_bounded_row.Tie as tie
 
+-- from a place to an earlier one
+abbrev to-start : tie.After-bounded-row-arg2 → tie.Start
+to-start c =
+    let after-slice-known2 = c .before .before .before in
+    after-slice-known2 .before .before .before
+
+abbrev to-bounded-row : tie.After-high → tie.After-bounded-row
+to-bounded-row c =
+    let after-add-fixed-row-arg = c .before .before .before in
+    after-add-fixed-row-arg .before .before .before
+
+abbrev to-add-fixed-row : tie.After-slice-known5 → tie.After-add-fixed-row
+to-add-fixed-row c =
+    let after-words = c .before .before .before in
+    after-words .before
+
 bounded-row-requires : tie.Need-bounded-row-requires
 bounded-row-requires c κs =
-    let c6 = c .before .before .before .before .before .before in
-    (c6 .pre .0, c6 .pre .1, c6 .pre .2, lent-room _ _ _ (c6 .pre .5) (c6 .pre .4) .1)
+    let start = to-start c in
+    (start .pre .0, start .pre .1, start .pre .2, lent-room _ _ _ (start .pre .5) (start .pre .4) .1)
 
 add-fixed-row-requires : tie.Need-add-fixed-row-requires
 add-fixed-row-requires c κs =
-    let c6 = c .before .before .before .before .before .before in
-    let c13 = c6 .before .before .before .before .before .before .before in
-    let few = held-few _ _ _ _ (c13 .pre .5 .held) in
-    let g = c6 .bounded-row .ensures in
-    (c13 .pre .3, lent-long (c13 .args .numbers .now) (c6 .bounded-row .last .1 .1 .1 .1 .1 .1 .1 .1 .1 .1 .1 .1 .0) (2048 + c13 .args .f .elements) (c6 .bounded-row .kept .1 .1 .1 .1 .1 .1 .1 .1 .1 .1 .1 .1 .0) (c13 .pre .4), g .few, few .0, few .1, g .rising)
+    let after-bounded-row = to-bounded-row c in
+    let start = to-start (after-bounded-row .before) in
+    let few = held-few _ _ _ _ (start .pre .5 .held) in
+    let g = after-bounded-row .bounded-row .ensures in
+    (start .pre .3, lent-long (start .args .numbers .now) (after-bounded-row .bounded-row .last .1 .1 .1 .1 .1 .1 .1 .1 .1 .1 .1 .1 .0) (2048 + start .args .f .elements) (after-bounded-row .bounded-row .kept .1 .1 .1 .1 .1 .1 .1 .1 .1 .1 .1 .1 .0) (start .pre .4), g .few, few .0, few .1, g .rising)
 
 returns : tie.Need-returns
 unfolding zero64 ofBits
 returns c =
-    let c4 = c .before .before .before .before in
-    let c5 = c4 .before in
-    let c11 = c5 .before .before .before .before .before .before in
-    let c18 = c11 .before .before .before .before .before .before .before in
-    let room = lent-room _ _ _ (c18 .pre .5) (c18 .pre .4) in
-    lent-row _ _ _ _ _ refl (room .0) _ _ _ _ _ _ _ _ _ _ refl (c5 .high .ensures) (c11 .bounded-row .ensures .is) (c4 .add-fixed-row .ensures)
+    let after-add-fixed-row = to-add-fixed-row c in
+    let after-high = after-add-fixed-row .before in
+    let after-bounded-row = to-bounded-row after-high in
+    let start = to-start (after-bounded-row .before) in
+    let room = lent-room _ _ _ (start .pre .5) (start .pre .4) in
+    lent-row _ _ _ _ _ refl (room .0) _ _ _ _ _ _ _ _ _ _ refl (after-high .high .ensures) (after-bounded-row .bounded-row .ensures .is) (after-add-fixed-row .add-fixed-row .ensures)
 
 pub add-bounded-row-spec : {M : Type 1} → statement M
 add-bounded-row-spec =

@@ -17,105 +17,155 @@ min-requires : tie.Need-min-requires
 min-requires c κs =
     let p = node-stands _ _ _ _ _ _ (c .before .before .before .pre .0 .sections) _ (c .before .before .before .pre .1) in (p .within, p .min)
 
+-- from a place to an earlier one
+abbrev to-start : tie.After-min → tie.Start
+to-start c =
+    let after-shared-slice-known = c .before .before .before in
+    after-shared-slice-known .before
+
+abbrev to-narrow16 : tie.After-add-bounded-row-arg3 → tie.After-narrow16
+to-narrow16 c =
+    let after-lesser = c .before .before .before in
+    after-lesser .before
+
+abbrev to-lesser : tie.After-add-bounded-row → tie.After-lesser
+to-lesser c =
+    let after-add-bounded-row-arg = c .before .before .before in
+    after-add-bounded-row-arg .before
+
+abbrev to-add-bounded-row : tie.After-slice-known4 → tie.After-add-bounded-row
+to-add-bounded-row c =
+    let after-words = c .before .before .before in
+    after-words .before
+
+abbrev to-slice-known4-from-then1 : tie.Then1 → tie.After-slice-known4
+to-slice-known4-from-then1 c =
+    let at-match-keys2 = c .before .before .before in
+    at-match-keys2 .before
+
+abbrev to-greater : tie.After-add-bounded-row2 → tie.After-greater
+to-greater c =
+    let after-add-bounded-row-arg4 = c .before .before .before in
+    after-add-bounded-row-arg4 .before
+
+abbrev to-slice-known4-from-add-bounded-row2 : tie.After-add-bounded-row2 → tie.After-slice-known4
+to-slice-known4-from-add-bounded-row2 c =
+    let after-greater = to-greater c in
+    let after-r = after-greater .before .before .before in
+    after-r .before .before
+
+abbrev to-r : tie.After-add-bounded-row-arg6 → tie.After-r
+to-r c =
+    let after-greater = c .before .before .before in
+    after-greater .before .before .before
+
+abbrev to-add-bounded-row2 : tie.After-slice-known6 → tie.After-add-bounded-row2
+to-add-bounded-row2 c =
+    let after-words2 = c .before .before .before in
+    after-words2 .before
+
 max-requires : tie.Need-max-requires
 max-requires c κs =
-    let p = node-stands _ _ _ _ _ _ (c .before .before .before .before .pre .0 .sections) _ (c .before .before .before .before .pre .1) in (p .within, p .max)
+    let start = to-start c in
+    let p = node-stands _ _ _ _ _ _ (start .pre .0 .sections) _ (start .pre .1) in (p .within, p .max)
 
 add-narrow16 : tie.Need-add-narrow16
 add-narrow16 c =
-    let u = set-column-under _ _ _ _ _ _ _ (c .before .before .before .before .before .pre .0) _ _ (c .before .before .before .before .before .pre .2) (c .before .before .before .before .before .pre .3) in omega arith
+    let start = to-start (c .before) in
+    let u = set-column-under _ _ _ _ _ _ _ (start .pre .0) _ _ (start .pre .2) (start .pre .3) in omega arith
 
 narrow16-requires : tie.Need-narrow16-requires
 narrow16-requires c κs =
-    let u = set-column-under _ _ _ _ _ _ _ (c .before .before .before .before .before .pre .0) _ _ (c .before .before .before .before .before .pre .2) (c .before .before .before .before .before .pre .3) in omega arith
+    let start = to-start (c .before) in
+    let u = set-column-under _ _ _ _ _ _ _ (start .pre .0) _ _ (start .pre .2) (start .pre .3) in omega arith
 
 add-bounded-row-requires : tie.Need-add-bounded-row-requires
 add-bounded-row-requires c κs =
-    let c4 = c .before .before .before .before in
-    let c10 = c4 .before .before .before .before .before .before in
-    let u = set-column-under _ _ _ _ _ _ _ (c10 .pre .0) _ _ (c10 .pre .2) (c10 .pre .3) in
-    (c10 .pre .0, c10 .pre .1, omega (arith, c4 .narrow16 .ensures), c10 .pre .4, c10 .pre .5, c10 .pre .6)
+    let after-narrow16 = to-narrow16 c in
+    let start = to-start (after-narrow16 .before .before) in
+    let u = set-column-under _ _ _ _ _ _ _ (start .pre .0) _ _ (start .pre .2) (start .pre .3) in
+    (start .pre .0, start .pre .1, omega (arith, after-narrow16 .narrow16 .ensures), start .pre .4, start .pre .5, start .pre .6)
 
 same-length : tie.Need-same-length
 same-length c =
-    c .before .before .before .before .before .before .before .before .add-bounded-row .kept .1 .1 .1 .1 .1 .1 .1 .1 .1 .1 .1 .1 .0
+    to-add-bounded-row (to-slice-known4-from-then1 c) .add-bounded-row .kept .1 .1 .1 .1 .1 .1 .1 .1 .1 .1 .1 .1 .0
 
 same-length-2 : tie.Need-same-length-2
 same-length-2 c =
-    c .before .before .before .before .before .before .before .before .add-bounded-row .kept .1 .1 .1 .1 .1 .1 .1 .1 .1 .1 .1 .1 .1 .0
+    to-add-bounded-row (to-slice-known4-from-then1 c) .add-bounded-row .kept .1 .1 .1 .1 .1 .1 .1 .1 .1 .1 .1 .1 .1 .0
 
 returns : tie.Need-returns
 unfolding columnMap zero64 one64 ofBits
 returns c =
-    let c2 = c .before .before in
-    let c8 = c2 .before .before .before .before .before .before in
-    let c12 = c8 .before .before .before .before in
-    let c13 = c12 .before in
-    let c14 = c13 .before in
-    let c15 = c14 .before in
-    let c19 = c15 .before .before .before .before in
-    upper-only _ (columnMap _) _ _ (nodeAt (c19 .args .s .now) (20 * c19 .args .node .0)) _ (c13 .narrow16 .ensures ∙ ap (λ (j : ℕ). j + c19 .args .set) (c19 .pre .2)) _ _ _ _ (upper-is _ _ _ (c14 .max .ensures) (c12 .lesser .ensures)) _ _ _ (c8 .add-bounded-row .ensures) _ (c2 .r .given .1) (ap (λ (v : Float). eq v zero64) (sym (c15 .min .ensures)) ∙ c .if1 .taken)
+    let after-r = c .before .before in
+    let after-add-bounded-row = to-add-bounded-row (after-r .before .before) in
+    let after-lesser = to-lesser after-add-bounded-row in
+    let after-narrow16 = after-lesser .before in
+    let after-max = after-narrow16 .before in
+    let after-min = after-max .before in
+    let start = to-start after-min in
+    upper-only _ (columnMap _) _ _ (nodeAt (start .args .s .now) (20 * start .args .node .0)) _ (after-narrow16 .narrow16 .ensures ∙ ap (λ (j : ℕ). j + start .args .set) (start .pre .2)) _ _ _ _ (upper-is _ _ _ (after-max .max .ensures) (after-lesser .lesser .ensures)) _ _ _ (after-add-bounded-row .add-bounded-row .ensures) _ (after-r .r .given .1) (ap (λ (v : Float). eq v zero64) (sym (after-min .min .ensures)) ∙ c .if1 .taken)
 
 add-bounded-row-requires-2 : tie.Need-add-bounded-row-requires-2
 add-bounded-row-requires-2 c κs =
-    let c6 = c .before .before .before .before .before .before in
-    let c12 = c6 .before .before .before .before .before .before in
-    let c17 = c12 .before .before .before .before .before in
-    let c23 = c17 .before .before .before .before .before .before in
-    let u = set-column-under _ _ _ _ _ _ _ (c23 .pre .0) _ _ (c23 .pre .2) (c23 .pre .3) in
-    let h = c23 .pre .6 in (
-      c23 .pre .0,
-      c23 .pre .1,
-      omega (arith, c17 .narrow16 .ensures),
-      omega (arith, c12 .add-bounded-row .kept .1 .1 .1 .1 .1 .1 .1 .1 .1 .1 .1 .1 .0, c23 .pre .4),
-      omega (arith, c12 .add-bounded-row .kept .1 .1 .1 .1 .1 .1 .1 .1 .1 .1 .1 .1 .1 .0, c23 .pre .5),
-      record { rows = _; held = c12 .add-bounded-row .ensures (h .rows) (h .held) .held _ (c6 .r .given .1) },
+    let after-r = to-r c in
+    let after-add-bounded-row = to-add-bounded-row (after-r .before .before) in
+    let after-narrow16 = to-narrow16 (after-add-bounded-row .before) in
+    let start = to-start (after-narrow16 .before .before) in
+    let u = set-column-under _ _ _ _ _ _ _ (start .pre .0) _ _ (start .pre .2) (start .pre .3) in
+    let h = start .pre .6 in (
+      start .pre .0,
+      start .pre .1,
+      omega (arith, after-narrow16 .narrow16 .ensures),
+      omega (arith, after-add-bounded-row .add-bounded-row .kept .1 .1 .1 .1 .1 .1 .1 .1 .1 .1 .1 .1 .0, start .pre .4),
+      omega (arith, after-add-bounded-row .add-bounded-row .kept .1 .1 .1 .1 .1 .1 .1 .1 .1 .1 .1 .1 .1 .0, start .pre .5),
+      record { rows = _; held = after-add-bounded-row .add-bounded-row .ensures (h .rows) (h .held) .held _ (after-r .r .given .1) },
     )
 
 same-length-3 : tie.Need-same-length-3
 same-length-3 c =
-    c .before .before .before .before .before .before .add-bounded-row .kept .1 .1 .1 .1 .1 .1 .1 .1 .1 .1 .1 .1 .0
+    to-add-bounded-row (c .before .before) .add-bounded-row .kept .1 .1 .1 .1 .1 .1 .1 .1 .1 .1 .1 .1 .0
 
 same-length-4 : tie.Need-same-length-4
 same-length-4 c =
-    c .before .before .before .before .before .before .add-bounded-row .kept .1 .1 .1 .1 .1 .1 .1 .1 .1 .1 .1 .1 .1 .0
+    to-add-bounded-row (c .before .before) .add-bounded-row .kept .1 .1 .1 .1 .1 .1 .1 .1 .1 .1 .1 .1 .1 .0
 
 returns-2 : tie.Need-returns-2
 unfolding columnMap zero64 one64 ofBits
 returns-2 c =
-    let c6 = c .before .before .before .before .before .before in
-    let c10 = c6 .before .before .before .before in
-    let c11 = c10 .before in
-    let c12 = c11 .before in
-    let c17 = c12 .before .before .before .before .before in
-    upper-over _ (columnMap _) _ _ (nodeAt (c17 .args .s .now) (20 * c17 .args .node .0)) _ (c11 .narrow16 .ensures ∙ ap (λ (j : ℕ). j + c17 .args .set) (c17 .pre .2)) _ _ _ _ (upper-is _ _ _ (c12 .max .ensures) (c10 .lesser .ensures)) _ _ _ (c6 .add-bounded-row .ensures) (c .enum-told .given .1)
+    let after-add-bounded-row = to-add-bounded-row (c .before .before) in
+    let after-lesser = to-lesser after-add-bounded-row in
+    let after-narrow16 = after-lesser .before in
+    let after-max = after-narrow16 .before in
+    let start = to-start (after-max .before) in
+    upper-over _ (columnMap _) _ _ (nodeAt (start .args .s .now) (20 * start .args .node .0)) _ (after-narrow16 .narrow16 .ensures ∙ ap (λ (j : ℕ). j + start .args .set) (start .pre .2)) _ _ _ _ (upper-is _ _ _ (after-max .max .ensures) (after-lesser .lesser .ensures)) _ _ _ (after-add-bounded-row .add-bounded-row .ensures) (c .enum-told .given .1)
 
 same-length-5 : tie.Need-same-length-5
 same-length-5 c =
-    let c4 = c .before .before .before .before in
-    let c17 = c4 .before .before .before .before .before .before .before .before .before .before .before .before .before in
-    c4 .add-bounded-row2 .kept .1 .1 .1 .1 .1 .1 .1 .1 .1 .1 .1 .1 .0 ∙ c17 .add-bounded-row .kept .1 .1 .1 .1 .1 .1 .1 .1 .1 .1 .1 .1 .0
+    let after-add-bounded-row2 = to-add-bounded-row2 c in
+    let after-add-bounded-row = to-add-bounded-row (to-slice-known4-from-add-bounded-row2 after-add-bounded-row2) in
+    after-add-bounded-row2 .add-bounded-row2 .kept .1 .1 .1 .1 .1 .1 .1 .1 .1 .1 .1 .1 .0 ∙ after-add-bounded-row .add-bounded-row .kept .1 .1 .1 .1 .1 .1 .1 .1 .1 .1 .1 .1 .0
 
 same-length-6 : tie.Need-same-length-6
 same-length-6 c =
-    let c4 = c .before .before .before .before in
-    let c17 = c4 .before .before .before .before .before .before .before .before .before .before .before .before .before in
-    c4 .add-bounded-row2 .kept .1 .1 .1 .1 .1 .1 .1 .1 .1 .1 .1 .1 .1 .0 ∙ c17 .add-bounded-row .kept .1 .1 .1 .1 .1 .1 .1 .1 .1 .1 .1 .1 .1 .0
+    let after-add-bounded-row2 = to-add-bounded-row2 c in
+    let after-add-bounded-row = to-add-bounded-row (to-slice-known4-from-add-bounded-row2 after-add-bounded-row2) in
+    after-add-bounded-row2 .add-bounded-row2 .kept .1 .1 .1 .1 .1 .1 .1 .1 .1 .1 .1 .1 .1 .0 ∙ after-add-bounded-row .add-bounded-row .kept .1 .1 .1 .1 .1 .1 .1 .1 .1 .1 .1 .1 .1 .0
 
 returns-3 : tie.Need-returns-3
 unfolding columnMap zero64 one64 ofBits
 returns-3 c =
-    let c4 = c .before .before .before .before in
-    let c8 = c4 .before .before .before .before in
-    let c9 = c8 .before in
-    let c11 = c9 .before .before in
-    let c17 = c11 .before .before .before .before .before .before in
-    let c21 = c17 .before .before .before .before in
-    let c22 = c21 .before in
-    let c23 = c22 .before in
-    let c24 = c23 .before in
-    let c28 = c24 .before .before .before .before in
-    both-rows _ (columnMap _) _ _ (nodeAt (c28 .args .s .now) (20 * c28 .args .node .0)) _ (c22 .narrow16 .ensures ∙ ap (λ (j : ℕ). j + c28 .args .set) (c28 .pre .2)) _ _ _ _ (upper-is _ _ _ (c23 .max .ensures) (c21 .lesser .ensures)) _ _ _ (c17 .add-bounded-row .ensures) _ (c11 .r .given .1) (ap (λ (v : Float). eq v zero64) (sym (c24 .min .ensures)) ∙ c9 .if1 .left) _ (lower-is _ _ _ (c24 .min .ensures) (c8 .greater .ensures)) _ _ _ (c4 .add-bounded-row2 .ensures)
+    let after-add-bounded-row2 = to-add-bounded-row2 c in
+    let after-greater = to-greater after-add-bounded-row2 in
+    let else1 = after-greater .before in
+    let after-r = else1 .before .before in
+    let after-add-bounded-row = to-add-bounded-row (after-r .before .before) in
+    let after-lesser = to-lesser after-add-bounded-row in
+    let after-narrow16 = after-lesser .before in
+    let after-max = after-narrow16 .before in
+    let after-min = after-max .before in
+    let start = to-start after-min in
+    both-rows _ (columnMap _) _ _ (nodeAt (start .args .s .now) (20 * start .args .node .0)) _ (after-narrow16 .narrow16 .ensures ∙ ap (λ (j : ℕ). j + start .args .set) (start .pre .2)) _ _ _ _ (upper-is _ _ _ (after-max .max .ensures) (after-lesser .lesser .ensures)) _ _ _ (after-add-bounded-row .add-bounded-row .ensures) _ (after-r .r .given .1) (ap (λ (v : Float). eq v zero64) (sym (after-min .min .ensures)) ∙ else1 .if1 .left) _ (lower-is _ _ _ (after-min .min .ensures) (after-greater .greater .ensures)) _ _ _ (after-add-bounded-row2 .add-bounded-row2 .ensures)
 
 pub add-bounded-rows-spec : {M : Type 1} → statement M
 add-bounded-rows-spec =

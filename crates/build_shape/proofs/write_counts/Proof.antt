@@ -11,41 +11,57 @@ slice-write-words-2 : tie.Need-slice-write-words-2
 slice-write-words-2 c =
     simp length-set (omega (arith, c .before .before .before .pre .0))
 
+-- from a place to an earlier one
+abbrev to-start : tie.After-narrow162 → tie.Start
+to-start c =
+    let after-slice-known = c .before .before .before in
+    after-slice-known .before
+
+abbrev to-narrow162 : tie.After-narrow166 → tie.After-narrow162
+to-narrow162 c =
+    let after-narrow164 = c .before .before .before in
+    after-narrow164 .before .before
+
+abbrev to-narrow166 : tie.After-narrow1610 → tie.After-narrow166
+to-narrow166 c =
+    let after-narrow167 = c .before .before .before in
+    after-narrow167 .before
+
 slice-write-words-3 : tie.Need-slice-write-words-3
 slice-write-words-3 c =
-    simp length-set (omega (arith, c .before .before .before .before .pre .0))
+    simp length-set (omega (arith, to-start c .pre .0))
 
 slice-write-words-4 : tie.Need-slice-write-words-4
 slice-write-words-4 c =
-    simp length-set (omega (arith, c .before .before .before .before .before .pre .0))
+    simp length-set (omega (arith, to-start (c .before) .pre .0))
 
 slice-write-words-5 : tie.Need-slice-write-words-5
 slice-write-words-5 c =
-    simp length-set (omega (arith, c .before .before .before .before .before .before .pre .0))
+    simp length-set (omega (arith, to-start (c .before .before) .pre .0))
 
 slice-write-words-6 : tie.Need-slice-write-words-6
 slice-write-words-6 c =
-    simp length-set (omega (arith, c .before .before .before .before .before .before .before .pre .0))
+    simp length-set (omega (arith, to-start (c .before .before .before) .pre .0))
 
 slice-write-words-7 : tie.Need-slice-write-words-7
 slice-write-words-7 c =
-    simp length-set (omega (arith, c .before .before .before .before .before .before .before .before .before .pre .0))
+    simp length-set (omega (arith, to-start (to-narrow162 c) .pre .0))
 
 slice-write-words-8 : tie.Need-slice-write-words-8
 slice-write-words-8 c =
-    simp length-set (omega (arith, c .before .before .before .before .before .before .before .before .before .before .pre .0))
+    simp length-set (omega (arith, to-start (to-narrow162 (c .before)) .pre .0))
 
 slice-write-words-9 : tie.Need-slice-write-words-9
 slice-write-words-9 c =
-    simp length-set (omega (arith, c .before .before .before .before .before .before .before .before .before .before .before .pre .0))
+    simp length-set (omega (arith, to-start (to-narrow162 (c .before .before)) .pre .0))
 
 slice-write-words-10 : tie.Need-slice-write-words-10
 slice-write-words-10 c =
-    simp length-set (omega (arith, c .before .before .before .before .before .before .before .before .before .before .before .before .pre .0))
+    simp length-set (omega (arith, to-start (to-narrow162 (c .before .before .before)) .pre .0))
 
 slice-write-words-11 : tie.Need-slice-write-words-11
 slice-write-words-11 c =
-    simp length-set (omega (arith, c .before .before .before .before .before .before .before .before .before .before .before .before .before .pre .0))
+    simp length-set (omega (arith, to-start (to-narrow162 (to-narrow166 c)) .pre .0))
 
 same-length : tie.Need-same-length
 same-length c =
@@ -54,17 +70,17 @@ same-length c =
 returns : tie.Need-returns
 unfolding counts
 returns c =
-    let c1 = c .before in
-    let c2 = c1 .before in
-    let c3 = c2 .before in
-    let c4 = c3 .before in
-    let c6 = c4 .before .before in
-    let c7 = c6 .before in
-    let c8 = c7 .before in
-    let c9 = c8 .before in
-    let c10 = c9 .before in
-    let c11 = c10 .before in
-    rw (c11 .sentinel-word .ensures, c10 .narrow16 .ensures, c9 .narrow162 .ensures, c8 .narrow163 .ensures, c7 .narrow164 .ensures, c6 .narrow165 .ensures, c4 .narrow166 .ensures, c3 .narrow167 .ensures, c2 .narrow168 .ensures, c1 .narrow169 .ensures, c .narrow1610 .ensures)
+    let after-narrow169 = c .before in
+    let after-narrow168 = after-narrow169 .before in
+    let after-narrow167 = after-narrow168 .before in
+    let after-narrow166 = after-narrow167 .before in
+    let after-narrow165 = after-narrow166 .before .before in
+    let after-narrow164 = after-narrow165 .before in
+    let after-narrow163 = after-narrow164 .before in
+    let after-narrow162 = after-narrow163 .before in
+    let after-narrow16 = after-narrow162 .before in
+    let after-sentinel-word = after-narrow16 .before in
+    rw (after-sentinel-word .sentinel-word .ensures, after-narrow16 .narrow16 .ensures, after-narrow162 .narrow162 .ensures, after-narrow163 .narrow163 .ensures, after-narrow164 .narrow164 .ensures, after-narrow165 .narrow165 .ensures, after-narrow166 .narrow166 .ensures, after-narrow167 .narrow167 .ensures, after-narrow168 .narrow168 .ensures, after-narrow169 .narrow169 .ensures, c .narrow1610 .ensures)
 
 pub write-counts-spec : {M : Type 1} → statement M
 write-counts-spec =

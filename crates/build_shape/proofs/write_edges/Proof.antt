@@ -15,44 +15,63 @@ Inv-loop s nodes edges edge-to-col words₀ i₀ words i = EdgesWritten s edge-t
 abbrev μ-loop : tie.MeasureT-loop
 μ-loop s nodes edges edge-to-col words₀ i₀ words i = edges - i
 
+-- from a place to an earlier one
+abbrev to-start : tie.After-narrow16 Inv-loop μ-loop → tie.Start Inv-loop μ-loop
+to-start c =
+    let after-slice-known = c .before .before .before in
+    after-slice-known .before .before
+
+abbrev to-loop : tie.After-to-node-index Inv-loop μ-loop → tie.At-loop Inv-loop μ-loop
+to-loop c =
+    let in-loop = c .before .before .before in
+    in-loop .before
+
+abbrev to-in-loop : tie.After-words Inv-loop μ-loop → tie.In-loop Inv-loop μ-loop
+to-in-loop c =
+    let after-narrow16 = c .before .before .before in
+    after-narrow16 .before
+
 loop-holds : tie.Need-loop-holds Inv-loop μ-loop
 loop-holds c =
     edges-none _ _ _ _ _
 
 from-node-index-requires : tie.Need-from-node-index-requires Inv-loop μ-loop
 from-node-index-requires c κs =
-    omega (arith, c .narrow16 .ensures, c .before .before .before .before .before .pre .2)
+    omega (arith, c .narrow16 .ensures, to-start c .pre .2)
 
 to-node-index-requires : tie.Need-to-node-index-requires Inv-loop μ-loop
 to-node-index-requires c κs =
-    omega (arith, c .before .narrow16 .ensures, c .before .before .before .before .before .before .pre .2)
+    omega (arith, c .before .narrow16 .ensures, to-start (c .before) .pre .2)
 
 slice-write-words : tie.Need-slice-write-words Inv-loop μ-loop
 slice-write-words c =
-    omega (arith, c .before .before .before .before .loop .inv .long, c .before .before .before .before .before .before .before .pre .1, c .before .before .before .before .before .before .before .pre .3)
+    let start = to-start (c .before .before) in
+    omega (arith, to-loop c .loop .inv .long, start .pre .1, start .pre .3)
 
 slice-write-words-2 : tie.Need-slice-write-words-2 Inv-loop μ-loop
 slice-write-words-2 c =
-    simp length-set (omega (arith, c .before .before .before .before .loop .inv .long, c .before .before .before .before .before .before .before .pre .1, c .before .before .before .before .before .before .before .pre .3))
+    let start = to-start (c .before .before) in
+    simp length-set (omega (arith, to-loop c .loop .inv .long, start .pre .1, start .pre .3))
 
 sub-words : tie.Need-sub-words Inv-loop μ-loop
 sub-words c =
-    c .before .before .before .before .before .before .before .before .pre .4 (c .before .before .before .before .before .loop .i) (c .before .before .before .before .loop-test .taken)
+    to-start (c .before .before .before) .pre .4 (to-loop (c .before) .loop .i) (to-in-loop c .loop-test .taken)
 
 slice-write-words-3 : tie.Need-slice-write-words-3 Inv-loop μ-loop
 slice-write-words-3 c =
-    simp length-set (omega (arith, c .before .before .before .before .before .loop .inv .long, c .before .before .before .before .before .before .before .before .pre .1, c .before .before .before .before .before .before .before .before .pre .3))
+    let start = to-start (c .before .before .before) in
+    simp length-set (omega (arith, to-loop (c .before) .loop .inv .long, start .pre .1, start .pre .3))
 
 loop-again : tie.Need-loop-again Inv-loop μ-loop
 loop-again c =
-    let c1 = c .before in
-    let c2 = c1 .before in
-    let c3 = c2 .before in
-    let c4 = c3 .before in
-    let c5 = c4 .before in
-    let c8 = c5 .before .before .before in
-    let e = c3 .narrow16 .ensures in
-    edges-more _ _ _ _ _ _ _ _ _ _ (c4 .loop-test .taken) (c2 .from-node-index .ensures ∙ ap (λ (k : ℕ). edgeAt (c8 .args .s .now) (20 * c8 .args .nodes + 6 * k) .from) e) (c1 .to-node-index .ensures ∙ ap (λ (k : ℕ). edgeAt (c8 .args .s .now) (20 * c8 .args .nodes + 6 * k) .to) e) refl (c5 .loop .inv)
+    let after-to-node-index = c .before in
+    let after-from-node-index = after-to-node-index .before in
+    let after-narrow16 = after-from-node-index .before in
+    let in-loop = after-narrow16 .before in
+    let at-loop = in-loop .before in
+    let start = at-loop .before .before .before in
+    let e = after-narrow16 .narrow16 .ensures in
+    edges-more _ _ _ _ _ _ _ _ _ _ (in-loop .loop-test .taken) (after-from-node-index .from-node-index .ensures ∙ ap (λ (k : ℕ). edgeAt (start .args .s .now) (20 * start .args .nodes + 6 * k) .from) e) (after-to-node-index .to-node-index .ensures ∙ ap (λ (k : ℕ). edgeAt (start .args .s .now) (20 * start .args .nodes + 6 * k) .to) e) refl (at-loop .loop .inv)
 
 same-length : tie.Need-same-length Inv-loop μ-loop
 same-length c =

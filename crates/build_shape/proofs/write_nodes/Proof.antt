@@ -16,57 +16,69 @@ Inv-loop s nodes words₀ i₀ words i = NodesWritten s words₀ nodes words i
 abbrev μ-loop : tie.MeasureT-loop
 μ-loop s nodes words₀ i₀ words i = nodes - i
 
+-- from a place to an earlier one
+abbrev to-start : tie.After-narrow16 Inv-loop μ-loop → tie.Start Inv-loop μ-loop
+to-start c =
+    let after-slice-known = c .before .before .before in
+    after-slice-known .before .before
+
+abbrev to-loop : tie.After-word Inv-loop μ-loop → tie.At-loop Inv-loop μ-loop
+to-loop c =
+    let in-loop = c .before .before .before in
+    in-loop .before
+
 loop-holds : tie.Need-loop-holds Inv-loop μ-loop
 loop-holds c =
     nodes-none _ _ _
 
 kind-requires : tie.Need-kind-requires Inv-loop μ-loop
 kind-requires c κs =
-    omega (arith, c .narrow16 .ensures, c .before .before .before .before .before .pre .1)
+    omega (arith, c .narrow16 .ensures, to-start c .pre .1)
 
 slice-write-words : tie.Need-slice-write-words Inv-loop μ-loop
 slice-write-words c =
-    omega (arith, c .before .before .before .before .loop .inv .long, c .before .before .before .before .before .before .before .pre .0, c .before .before .before .before .before .before .before .pre .2)
+    let start = to-start (c .before .before) in
+    omega (arith, to-loop c .loop .inv .long, start .pre .0, start .pre .2)
 
 is-constant-requires : tie.Need-is-constant-requires Inv-loop μ-loop
 is-constant-requires c κs =
-    omega (arith, c .before .before .narrow16 .ensures, c .before .before .before .before .before .before .before .pre .1)
+    omega (arith, c .before .before .narrow16 .ensures, to-start (c .before .before) .pre .1)
 
 slice-write-words-2 : tie.Need-slice-write-words-2 Inv-loop μ-loop
 slice-write-words-2 c =
-    let c6 = c .before .before .before .before .before .before in
-    let c9 = c6 .before .before .before in
-    simp length-set (omega (arith, c6 .loop .inv .long, c9 .pre .0, c9 .pre .2))
+    let at-loop = to-loop (c .before .before) in
+    let start = at-loop .before .before .before in
+    simp length-set (omega (arith, at-loop .loop .inv .long, start .pre .0, start .pre .2))
 
 loop-again : tie.Need-loop-again Inv-loop μ-loop
 loop-again c =
-    let c1 = c .before in
-    let c2 = c1 .before in
-    let c3 = c2 .before in
-    let c4 = c3 .before in
-    let c5 = c4 .before in
-    let c6 = c5 .before in
-    let c9 = c6 .before .before .before in
-    let e = c4 .narrow16 .ensures in
-    nodes-more _ _ _ _ _ _ _ (c5 .loop-test .taken) (c2 .word .ensures ∙ c3 .kind .ensures ∙ ap (λ (k : ℕ). nodeAt (c9 .args .s .now) (20 * k) .kind) e) (flag-yes _ (sym (c1 .is-constant .ensures ∙ ap (λ (k : ℕ). nodeAt (c9 .args .s .now) (20 * k) .constant) e) ∙ c .if1 .taken)) (c6 .loop .inv)
+    let after-is-constant = c .before in
+    let after-word = after-is-constant .before in
+    let after-kind = after-word .before in
+    let after-narrow16 = after-kind .before in
+    let in-loop = after-narrow16 .before in
+    let at-loop = in-loop .before in
+    let start = at-loop .before .before .before in
+    let e = after-narrow16 .narrow16 .ensures in
+    nodes-more _ _ _ _ _ _ _ (in-loop .loop-test .taken) (after-word .word .ensures ∙ after-kind .kind .ensures ∙ ap (λ (k : ℕ). nodeAt (start .args .s .now) (20 * k) .kind) e) (flag-yes _ (sym (after-is-constant .is-constant .ensures ∙ ap (λ (k : ℕ). nodeAt (start .args .s .now) (20 * k) .constant) e) ∙ c .if1 .taken)) (at-loop .loop .inv)
 
 slice-write-words-3 : tie.Need-slice-write-words-3 Inv-loop μ-loop
 slice-write-words-3 c =
-    let c6 = c .before .before .before .before .before .before in
-    let c9 = c6 .before .before .before in
-    simp length-set (omega (arith, c6 .loop .inv .long, c9 .pre .0, c9 .pre .2))
+    let at-loop = to-loop (c .before .before) in
+    let start = at-loop .before .before .before in
+    simp length-set (omega (arith, at-loop .loop .inv .long, start .pre .0, start .pre .2))
 
 loop-again-2 : tie.Need-loop-again-2 Inv-loop μ-loop
 loop-again-2 c =
-    let c1 = c .before in
-    let c2 = c1 .before in
-    let c3 = c2 .before in
-    let c4 = c3 .before in
-    let c5 = c4 .before in
-    let c6 = c5 .before in
-    let c9 = c6 .before .before .before in
-    let e = c4 .narrow16 .ensures in
-    nodes-more _ _ _ _ _ _ _ (c5 .loop-test .taken) (c2 .word .ensures ∙ c3 .kind .ensures ∙ ap (λ (k : ℕ). nodeAt (c9 .args .s .now) (20 * k) .kind) e) (flag-no _ (sym (c1 .is-constant .ensures ∙ ap (λ (k : ℕ). nodeAt (c9 .args .s .now) (20 * k) .constant) e) ∙ c .if1 .left)) (c6 .loop .inv)
+    let after-is-constant = c .before in
+    let after-word = after-is-constant .before in
+    let after-kind = after-word .before in
+    let after-narrow16 = after-kind .before in
+    let in-loop = after-narrow16 .before in
+    let at-loop = in-loop .before in
+    let start = at-loop .before .before .before in
+    let e = after-narrow16 .narrow16 .ensures in
+    nodes-more _ _ _ _ _ _ _ (in-loop .loop-test .taken) (after-word .word .ensures ∙ after-kind .kind .ensures ∙ ap (λ (k : ℕ). nodeAt (start .args .s .now) (20 * k) .kind) e) (flag-no _ (sym (after-is-constant .is-constant .ensures ∙ ap (λ (k : ℕ). nodeAt (start .args .s .now) (20 * k) .constant) e) ∙ c .if1 .left)) (at-loop .loop .inv)
 
 same-length : tie.Need-same-length Inv-loop μ-loop
 same-length c =

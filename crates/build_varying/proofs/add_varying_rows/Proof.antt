@@ -8,112 +8,154 @@ use borrow.Author.Needs.{needs}
 use Rattle.build_varying.proofs.add_varying_rows.Statement.{statement}
 use Rattle.build_varying.proofs.add_varying_rows.Tie as tie
 
+-- from a place to an earlier one
+abbrev to-start : tie.After-create-node-constraints → tie.Start
+to-start c =
+    let after-create-node-constraints-arg = c .before .before .before in
+    let after-shared-slice-known = after-create-node-constraints-arg .before .before .before in
+    after-shared-slice-known .before
+
+abbrev to-create-node-constraints : tie.After-slice-known4 → tie.After-create-node-constraints
+to-create-node-constraints c =
+    let after-words = c .before .before .before in
+    after-words .before
+
+abbrev to-n : tie.After-create-aggregated-node-constraints-arg3 → tie.After-n
+to-n c =
+    let after-filled = c .before .before .before in
+    after-filled .before .before
+
+abbrev to-slice-known4 : tie.After-create-aggregated-node-constraints → tie.After-slice-known4
+to-slice-known4 c =
+    let after-n = to-n (c .before) in
+    after-n .before .before
+
+abbrev to-create-aggregated-node-constraints : tie.After-slice-known6 → tie.After-create-aggregated-node-constraints
+to-create-aggregated-node-constraints c =
+    let after-words2 = c .before .before .before in
+    after-words2 .before
+
+abbrev to-a : tie.After-create-virtual-storage-constraints-arg3 → tie.After-a
+to-a c =
+    let after-known-told2 = c .before .before .before in
+    after-known-told2 .before
+
+abbrev to-slice-known6 : tie.After-create-virtual-storage-constraints → tie.After-slice-known6
+to-slice-known6 c =
+    let after-a = to-a (c .before) in
+    after-a .before .before
+
+abbrev to-create-virtual-storage-constraints : tie.After-slice-known8 → tie.After-create-virtual-storage-constraints
+to-create-virtual-storage-constraints c =
+    let after-words3 = c .before .before .before in
+    after-words3 .before
+
 create-aggregated-node-constraints-requires : tie.Need-create-aggregated-node-constraints-requires
 create-aggregated-node-constraints-requires c κs =
-    let c5 = c .before .before .before .before .before in
-    let c11 = c5 .before .before .before .before .before .before in
-    let c18 = c11 .before .before .before .before .before .before .before in
-    let h = c11 .create-node-constraints .ensures .done _ (c5 .n .given .1) in
-    (c18 .pre .0, omega (arith, c11 .create-node-constraints .kept .1 .1 .1 .1 .1 .1 .1 .1 .1 .1 .1 .0, c18 .pre .3), omega (arith, c11 .create-node-constraints .kept .1 .1 .1 .1 .1 .1 .1 .1 .1 .1 .1 .1 .0, c18 .pre .4), nodes-holding (c18 .args .sentinel) (networkOf (c18 .args .s .now) (c18 .args .c)) _ _ _ h)
+    let after-n = to-n c in
+    let after-create-node-constraints = to-create-node-constraints (after-n .before .before) in
+    let start = to-start after-create-node-constraints in
+    let h = after-create-node-constraints .create-node-constraints .ensures .done _ (after-n .n .given .1) in
+    (start .pre .0, omega (arith, after-create-node-constraints .create-node-constraints .kept .1 .1 .1 .1 .1 .1 .1 .1 .1 .1 .1 .0, start .pre .3), omega (arith, after-create-node-constraints .create-node-constraints .kept .1 .1 .1 .1 .1 .1 .1 .1 .1 .1 .1 .1 .0, start .pre .4), nodes-holding (start .args .sentinel) (networkOf (start .args .s .now) (start .args .c)) _ _ _ h)
 
 create-virtual-storage-constraints-requires : tie.Need-create-virtual-storage-constraints-requires
 create-virtual-storage-constraints-requires c κs =
-    let c4 = c .before .before .before .before in
-    let c10 = c4 .before .before .before .before .before .before in
-    let c16 = c10 .before .before .before .before .before .before in
-    let c22 = c16 .before .before .before .before .before .before in
-    let c29 = c22 .before .before .before .before .before .before .before in
-    let h = c22 .create-node-constraints .ensures .done _ (c16 .n .given .1) in
-    let g = c10 .create-aggregated-node-constraints .ensures (rows₁ (c29 .args .sentinel) (networkOf (c29 .args .s .now) (c29 .args .c))) (h .held) in
-    (c29 .pre .0, omega (arith, c22 .create-node-constraints .kept .1 .1 .1 .1 .1 .1 .1 .1 .1 .1 .1 .0, c10 .create-aggregated-node-constraints .kept .1 .1 .1 .1 .1 .1 .1 .1 .0, c29 .pre .3), omega (arith, c22 .create-node-constraints .kept .1 .1 .1 .1 .1 .1 .1 .1 .1 .1 .1 .1 .0, c10 .create-aggregated-node-constraints .kept .1 .1 .1 .1 .1 .1 .1 .1 .1 .0, c29 .pre .4), aggregates-holding (c29 .args .sentinel) (networkOf (c29 .args .s .now) (c29 .args .c)) _ _ _ _ _ g _ (c4 .a .given .1))
+    let after-a = to-a c in
+    let after-create-aggregated-node-constraints = to-create-aggregated-node-constraints (after-a .before .before) in
+    let after-n = to-n (after-create-aggregated-node-constraints .before) in
+    let after-create-node-constraints = to-create-node-constraints (after-n .before .before) in
+    let start = to-start after-create-node-constraints in
+    let h = after-create-node-constraints .create-node-constraints .ensures .done _ (after-n .n .given .1) in
+    let g = after-create-aggregated-node-constraints .create-aggregated-node-constraints .ensures (rows₁ (start .args .sentinel) (networkOf (start .args .s .now) (start .args .c))) (h .held) in
+    (start .pre .0, omega (arith, after-create-node-constraints .create-node-constraints .kept .1 .1 .1 .1 .1 .1 .1 .1 .1 .1 .1 .0, after-create-aggregated-node-constraints .create-aggregated-node-constraints .kept .1 .1 .1 .1 .1 .1 .1 .1 .0, start .pre .3), omega (arith, after-create-node-constraints .create-node-constraints .kept .1 .1 .1 .1 .1 .1 .1 .1 .1 .1 .1 .1 .0, after-create-aggregated-node-constraints .create-aggregated-node-constraints .kept .1 .1 .1 .1 .1 .1 .1 .1 .1 .0, start .pre .4), aggregates-holding (start .args .sentinel) (networkOf (start .args .s .now) (start .args .c)) _ _ _ _ _ g _ (after-a .a .given .1))
 
 same-length : tie.Need-same-length
 same-length c =
-    c .before .before .before .before .before .before .create-node-constraints .kept .1 .1 .1 .1 .1 .1 .1 .1 .1 .1 .1 .0
+    to-create-node-constraints (c .before .before) .create-node-constraints .kept .1 .1 .1 .1 .1 .1 .1 .1 .1 .1 .1 .0
 
 same-length-2 : tie.Need-same-length-2
 same-length-2 c =
-    c .before .before .before .before .before .before .create-node-constraints .kept .1 .1 .1 .1 .1 .1 .1 .1 .1 .1 .1 .1 .0
+    to-create-node-constraints (c .before .before) .create-node-constraints .kept .1 .1 .1 .1 .1 .1 .1 .1 .1 .1 .1 .1 .0
 
 returns : tie.Need-returns
 returns c =
-    full-only _ _ _ _ (nodes-full _ _ (c .before .before .before .before .before .before .create-node-constraints .ensures .full (c .enum-told .given .1)))
+    full-only _ _ _ _ (nodes-full _ _ (to-create-node-constraints (c .before .before) .create-node-constraints .ensures .full (c .enum-told .given .1)))
 
 same-length-3 : tie.Need-same-length-3
 same-length-3 c =
-    let c6 = c .before .before .before .before .before .before in
-    let c18 = c6 .before .before .before .before .before .before .before .before .before .before .before .before in
-    c6 .create-aggregated-node-constraints .kept .1 .1 .1 .1 .1 .1 .1 .1 .0 ∙ c18 .create-node-constraints .kept .1 .1 .1 .1 .1 .1 .1 .1 .1 .1 .1 .0
+    let after-create-aggregated-node-constraints = to-create-aggregated-node-constraints (c .before .before) in
+    let after-create-node-constraints = to-create-node-constraints (to-slice-known4 after-create-aggregated-node-constraints) in
+    after-create-aggregated-node-constraints .create-aggregated-node-constraints .kept .1 .1 .1 .1 .1 .1 .1 .1 .0 ∙ after-create-node-constraints .create-node-constraints .kept .1 .1 .1 .1 .1 .1 .1 .1 .1 .1 .1 .0
 
 same-length-4 : tie.Need-same-length-4
 same-length-4 c =
-    let c6 = c .before .before .before .before .before .before in
-    let c18 = c6 .before .before .before .before .before .before .before .before .before .before .before .before in
-    c6 .create-aggregated-node-constraints .kept .1 .1 .1 .1 .1 .1 .1 .1 .1 .0 ∙ c18 .create-node-constraints .kept .1 .1 .1 .1 .1 .1 .1 .1 .1 .1 .1 .1 .0
+    let after-create-aggregated-node-constraints = to-create-aggregated-node-constraints (c .before .before) in
+    let after-create-node-constraints = to-create-node-constraints (to-slice-known4 after-create-aggregated-node-constraints) in
+    after-create-aggregated-node-constraints .create-aggregated-node-constraints .kept .1 .1 .1 .1 .1 .1 .1 .1 .1 .0 ∙ after-create-node-constraints .create-node-constraints .kept .1 .1 .1 .1 .1 .1 .1 .1 .1 .1 .1 .1 .0
 
 returns-2 : tie.Need-returns-2
 returns-2 c =
-    let c6 = c .before .before .before .before .before .before in
-    let c12 = c6 .before .before .before .before .before .before in
-    let c18 = c12 .before .before .before .before .before .before in
-    let c25 = c18 .before .before .before .before .before .before .before in
-    let h = c18 .create-node-constraints .ensures .done _ (c12 .n .given .1) in
-    full-only _ _ _ _ (aggregates-full (c25 .args .sentinel) (networkOf (c25 .args .s .now) (c25 .args .c)) (c6 .create-aggregated-node-constraints .ensures (rows₁ (c25 .args .sentinel) (networkOf (c25 .args .s .now) (c25 .args .c))) (h .held) .full (c .enum-told2 .given .1)))
+    let after-create-aggregated-node-constraints = to-create-aggregated-node-constraints (c .before .before) in
+    let after-n = to-n (after-create-aggregated-node-constraints .before) in
+    let after-create-node-constraints = to-create-node-constraints (after-n .before .before) in
+    let start = to-start after-create-node-constraints in
+    let h = after-create-node-constraints .create-node-constraints .ensures .done _ (after-n .n .given .1) in
+    full-only _ _ _ _ (aggregates-full (start .args .sentinel) (networkOf (start .args .s .now) (start .args .c)) (after-create-aggregated-node-constraints .create-aggregated-node-constraints .ensures (rows₁ (start .args .sentinel) (networkOf (start .args .s .now) (start .args .c))) (h .held) .full (c .enum-told2 .given .1)))
 
 same-length-5 : tie.Need-same-length-5
 same-length-5 c =
-    let c6 = c .before .before .before .before .before .before in
-    let c17 = c6 .before .before .before .before .before .before .before .before .before .before .before in
-    let c29 = c17 .before .before .before .before .before .before .before .before .before .before .before .before in
-    c6 .create-virtual-storage-constraints .kept .1 .1 .1 .1 .1 .1 .1 .1 .0 ∙ c17 .create-aggregated-node-constraints .kept .1 .1 .1 .1 .1 .1 .1 .1 .0 ∙ c29 .create-node-constraints .kept .1 .1 .1 .1 .1 .1 .1 .1 .1 .1 .1 .0
+    let after-create-virtual-storage-constraints = to-create-virtual-storage-constraints (c .before .before) in
+    let after-create-aggregated-node-constraints = to-create-aggregated-node-constraints (to-slice-known6 after-create-virtual-storage-constraints) in
+    let after-create-node-constraints = to-create-node-constraints (to-slice-known4 after-create-aggregated-node-constraints) in
+    after-create-virtual-storage-constraints .create-virtual-storage-constraints .kept .1 .1 .1 .1 .1 .1 .1 .1 .0 ∙ after-create-aggregated-node-constraints .create-aggregated-node-constraints .kept .1 .1 .1 .1 .1 .1 .1 .1 .0 ∙ after-create-node-constraints .create-node-constraints .kept .1 .1 .1 .1 .1 .1 .1 .1 .1 .1 .1 .0
 
 same-length-6 : tie.Need-same-length-6
 same-length-6 c =
-    let c6 = c .before .before .before .before .before .before in
-    let c17 = c6 .before .before .before .before .before .before .before .before .before .before .before in
-    let c29 = c17 .before .before .before .before .before .before .before .before .before .before .before .before in
-    c6 .create-virtual-storage-constraints .kept .1 .1 .1 .1 .1 .1 .1 .1 .1 .0 ∙ c17 .create-aggregated-node-constraints .kept .1 .1 .1 .1 .1 .1 .1 .1 .1 .0 ∙ c29 .create-node-constraints .kept .1 .1 .1 .1 .1 .1 .1 .1 .1 .1 .1 .1 .0
+    let after-create-virtual-storage-constraints = to-create-virtual-storage-constraints (c .before .before) in
+    let after-create-aggregated-node-constraints = to-create-aggregated-node-constraints (to-slice-known6 after-create-virtual-storage-constraints) in
+    let after-create-node-constraints = to-create-node-constraints (to-slice-known4 after-create-aggregated-node-constraints) in
+    after-create-virtual-storage-constraints .create-virtual-storage-constraints .kept .1 .1 .1 .1 .1 .1 .1 .1 .1 .0 ∙ after-create-aggregated-node-constraints .create-aggregated-node-constraints .kept .1 .1 .1 .1 .1 .1 .1 .1 .1 .0 ∙ after-create-node-constraints .create-node-constraints .kept .1 .1 .1 .1 .1 .1 .1 .1 .1 .1 .1 .1 .0
 
 returns-3 : tie.Need-returns-3
 returns-3 c =
-    let c6 = c .before .before .before .before .before .before in
-    let c11 = c6 .before .before .before .before .before in
-    let c17 = c11 .before .before .before .before .before .before in
-    let c23 = c17 .before .before .before .before .before .before in
-    let c29 = c23 .before .before .before .before .before .before in
-    let c36 = c29 .before .before .before .before .before .before .before in
-    let h = c29 .create-node-constraints .ensures .done _ (c23 .n .given .1) in
-    let g = c17 .create-aggregated-node-constraints .ensures (rows₁ (c36 .args .sentinel) (networkOf (c36 .args .s .now) (c36 .args .c))) (h .held) in
-    full-only _ _ _ _ (virtual-storages-full (c36 .args .sentinel) (networkOf (c36 .args .s .now) (c36 .args .c)) (c6 .create-virtual-storage-constraints .ensures (rows₂ (c36 .args .sentinel) (networkOf (c36 .args .s .now) (c36 .args .c))) (g .held _ (c11 .a .given .1)) .full (c .enum-told3 .given .1)))
+    let after-create-virtual-storage-constraints = to-create-virtual-storage-constraints (c .before .before) in
+    let after-a = to-a (after-create-virtual-storage-constraints .before) in
+    let after-create-aggregated-node-constraints = to-create-aggregated-node-constraints (after-a .before .before) in
+    let after-n = to-n (after-create-aggregated-node-constraints .before) in
+    let after-create-node-constraints = to-create-node-constraints (after-n .before .before) in
+    let start = to-start after-create-node-constraints in
+    let h = after-create-node-constraints .create-node-constraints .ensures .done _ (after-n .n .given .1) in
+    let g = after-create-aggregated-node-constraints .create-aggregated-node-constraints .ensures (rows₁ (start .args .sentinel) (networkOf (start .args .s .now) (start .args .c))) (h .held) in
+    full-only _ _ _ _ (virtual-storages-full (start .args .sentinel) (networkOf (start .args .s .now) (start .args .c)) (after-create-virtual-storage-constraints .create-virtual-storage-constraints .ensures (rows₂ (start .args .sentinel) (networkOf (start .args .s .now) (start .args .c))) (g .held _ (after-a .a .given .1)) .full (c .enum-told3 .given .1)))
 
 same-length-7 : tie.Need-same-length-7
 same-length-7 c =
-    let c7 = c .before .before .before .before .before .before .before in
-    let c18 = c7 .before .before .before .before .before .before .before .before .before .before .before in
-    let c30 = c18 .before .before .before .before .before .before .before .before .before .before .before .before in
-    c7 .create-virtual-storage-constraints .kept .1 .1 .1 .1 .1 .1 .1 .1 .0 ∙ c18 .create-aggregated-node-constraints .kept .1 .1 .1 .1 .1 .1 .1 .1 .0 ∙ c30 .create-node-constraints .kept .1 .1 .1 .1 .1 .1 .1 .1 .1 .1 .1 .0
+    let after-create-virtual-storage-constraints = to-create-virtual-storage-constraints (c .before .before .before) in
+    let after-create-aggregated-node-constraints = to-create-aggregated-node-constraints (to-slice-known6 after-create-virtual-storage-constraints) in
+    let after-create-node-constraints = to-create-node-constraints (to-slice-known4 after-create-aggregated-node-constraints) in
+    after-create-virtual-storage-constraints .create-virtual-storage-constraints .kept .1 .1 .1 .1 .1 .1 .1 .1 .0 ∙ after-create-aggregated-node-constraints .create-aggregated-node-constraints .kept .1 .1 .1 .1 .1 .1 .1 .1 .0 ∙ after-create-node-constraints .create-node-constraints .kept .1 .1 .1 .1 .1 .1 .1 .1 .1 .1 .1 .0
 
 same-length-8 : tie.Need-same-length-8
 same-length-8 c =
-    let c7 = c .before .before .before .before .before .before .before in
-    let c18 = c7 .before .before .before .before .before .before .before .before .before .before .before in
-    let c30 = c18 .before .before .before .before .before .before .before .before .before .before .before .before in
-    c7 .create-virtual-storage-constraints .kept .1 .1 .1 .1 .1 .1 .1 .1 .1 .0 ∙ c18 .create-aggregated-node-constraints .kept .1 .1 .1 .1 .1 .1 .1 .1 .1 .0 ∙ c30 .create-node-constraints .kept .1 .1 .1 .1 .1 .1 .1 .1 .1 .1 .1 .1 .0
+    let after-create-virtual-storage-constraints = to-create-virtual-storage-constraints (c .before .before .before) in
+    let after-create-aggregated-node-constraints = to-create-aggregated-node-constraints (to-slice-known6 after-create-virtual-storage-constraints) in
+    let after-create-node-constraints = to-create-node-constraints (to-slice-known4 after-create-aggregated-node-constraints) in
+    after-create-virtual-storage-constraints .create-virtual-storage-constraints .kept .1 .1 .1 .1 .1 .1 .1 .1 .1 .0 ∙ after-create-aggregated-node-constraints .create-aggregated-node-constraints .kept .1 .1 .1 .1 .1 .1 .1 .1 .1 .0 ∙ after-create-node-constraints .create-node-constraints .kept .1 .1 .1 .1 .1 .1 .1 .1 .1 .1 .1 .1 .0
 
 returns-4 : tie.Need-returns-4
 returns-4 c =
-    let c1 = c .before in
-    let c7 = c1 .before .before .before .before .before .before in
-    let c12 = c7 .before .before .before .before .before in
-    let c18 = c12 .before .before .before .before .before .before in
-    let c24 = c18 .before .before .before .before .before .before in
-    let c30 = c24 .before .before .before .before .before .before in
-    let c37 = c30 .before .before .before .before .before .before .before in
-    let c₀ = c37 .args .c in
-    let h = c30 .create-node-constraints .ensures .done _ (c24 .n .given .1) in
-    let g = c18 .create-aggregated-node-constraints .ensures (rows₁ (c37 .args .sentinel) (networkOf (c37 .args .s .now) (c37 .args .c))) (h .held) in
-    let v = c7 .create-virtual-storage-constraints .ensures (rows₂ (c37 .args .sentinel) (networkOf (c37 .args .s .now) (c37 .args .c))) (g .held _ (c12 .a .given .1)) in
-    all-laid (c37 .args .sentinel) (networkOf (c37 .args .s .now) (c37 .args .c)) (c₀ .aggregates) (c₀ .«virtual_storages») (sym (aggregate-count _ (c₀ .nodes) (c₀ .edges) (c₀ .aggregates) (c₀ .«virtual_storages»))) (sym (virtual-storage-count _ (c₀ .nodes) (c₀ .edges) (c₀ .aggregates) (c₀ .«virtual_storages»))) _ _ _ _ _ _ _ _ _ _ _ (omega (arith, h .counted, asks-few _ _ _ _ _ _ _ _ _ (c37 .pre .0) (c37 .pre .1))) (omega (arith, c30 .create-node-constraints .kept .1 .1 .1 .1 .1 .1 .1 .1 .1 .1 .1 .0, c37 .pre .3)) (omega (arith, c30 .create-node-constraints .kept .1 .1 .1 .1 .1 .1 .1 .1 .1 .1 .1 .0, c18 .create-aggregated-node-constraints .kept .1 .1 .1 .1 .1 .1 .1 .1 .0, c37 .pre .3)) (omega (arith, c30 .create-node-constraints .kept .1 .1 .1 .1 .1 .1 .1 .1 .1 .1 .1 .0, c18 .create-aggregated-node-constraints .kept .1 .1 .1 .1 .1 .1 .1 .1 .0, c7 .create-virtual-storage-constraints .kept .1 .1 .1 .1 .1 .1 .1 .1 .0, c37 .pre .3)) (c37 .pre .0 .sections .few-aggregates) h g (c12 .a .given .1) v (c1 .v .given .1)
+    let after-v = c .before in
+    let after-create-virtual-storage-constraints = to-create-virtual-storage-constraints (after-v .before .before) in
+    let after-a = to-a (after-create-virtual-storage-constraints .before) in
+    let after-create-aggregated-node-constraints = to-create-aggregated-node-constraints (after-a .before .before) in
+    let after-n = to-n (after-create-aggregated-node-constraints .before) in
+    let after-create-node-constraints = to-create-node-constraints (after-n .before .before) in
+    let start = to-start after-create-node-constraints in
+    let c₀ = start .args .c in
+    let h = after-create-node-constraints .create-node-constraints .ensures .done _ (after-n .n .given .1) in
+    let g = after-create-aggregated-node-constraints .create-aggregated-node-constraints .ensures (rows₁ (start .args .sentinel) (networkOf (start .args .s .now) (start .args .c))) (h .held) in
+    let v = after-create-virtual-storage-constraints .create-virtual-storage-constraints .ensures (rows₂ (start .args .sentinel) (networkOf (start .args .s .now) (start .args .c))) (g .held _ (after-a .a .given .1)) in
+    all-laid (start .args .sentinel) (networkOf (start .args .s .now) (start .args .c)) (c₀ .aggregates) (c₀ .«virtual_storages») (sym (aggregate-count _ (c₀ .nodes) (c₀ .edges) (c₀ .aggregates) (c₀ .«virtual_storages»))) (sym (virtual-storage-count _ (c₀ .nodes) (c₀ .edges) (c₀ .aggregates) (c₀ .«virtual_storages»))) _ _ _ _ _ _ _ _ _ _ _ (omega (arith, h .counted, asks-few _ _ _ _ _ _ _ _ _ (start .pre .0) (start .pre .1))) (omega (arith, after-create-node-constraints .create-node-constraints .kept .1 .1 .1 .1 .1 .1 .1 .1 .1 .1 .1 .0, start .pre .3)) (omega (arith, after-create-node-constraints .create-node-constraints .kept .1 .1 .1 .1 .1 .1 .1 .1 .1 .1 .1 .0, after-create-aggregated-node-constraints .create-aggregated-node-constraints .kept .1 .1 .1 .1 .1 .1 .1 .1 .0, start .pre .3)) (omega (arith, after-create-node-constraints .create-node-constraints .kept .1 .1 .1 .1 .1 .1 .1 .1 .1 .1 .1 .0, after-create-aggregated-node-constraints .create-aggregated-node-constraints .kept .1 .1 .1 .1 .1 .1 .1 .1 .0, after-create-virtual-storage-constraints .create-virtual-storage-constraints .kept .1 .1 .1 .1 .1 .1 .1 .1 .0, start .pre .3)) (start .pre .0 .sections .few-aggregates) h g (after-a .a .given .1) v (after-v .v .given .1)
 
 pub add-varying-rows-spec : {M : Type 1} → statement M
 add-varying-rows-spec =

@@ -30,6 +30,42 @@ Inv-loop s c first-in next-in first-out next-out edge-to-col sentinel words₀ n
 abbrev μ-loop : tie.MeasureT-loop
 μ-loop s c first-in next-in first-out next-out edge-to-col sentinel words₀ numbers₀ columns₀ at₀ filled₀ i₀ words numbers columns at filled i = c .«virtual_storages» - i
 
+-- from a place to an earlier one
+abbrev to-start : tie.At-loop Inv-loop μ-loop → tie.Start Inv-loop μ-loop
+to-start c =
+    let after-shared-slice-known = c .before .before .before in
+    after-shared-slice-known .before
+
+abbrev to-loop : tie.After-add-virtual-storage-row-arg3 Inv-loop μ-loop → tie.At-loop Inv-loop μ-loop
+to-loop c =
+    let then1 = c .before .before .before in
+    then1 .before .before
+
+abbrev to-then1 : tie.After-add-virtual-storage-row Inv-loop μ-loop → tie.Then1 Inv-loop μ-loop
+to-then1 c =
+    let after-add-virtual-storage-row-arg = c .before .before .before in
+    after-add-virtual-storage-row-arg .before
+
+abbrev to-add-virtual-storage-row : tie.After-slice-known4 Inv-loop μ-loop → tie.After-add-virtual-storage-row Inv-loop μ-loop
+to-add-virtual-storage-row c =
+    let after-words = c .before .before .before in
+    after-words .before
+
+abbrev to-add-virtual-storage-row-arg3 : tie.After-slice-known4 Inv-loop μ-loop → tie.After-add-virtual-storage-row-arg3 Inv-loop μ-loop
+to-add-virtual-storage-row-arg3 c =
+    let after-add-virtual-storage-row = to-add-virtual-storage-row c in
+    after-add-virtual-storage-row .before
+
+abbrev to-slice-known4 : tie.After-put-virtual-storage-arg Inv-loop μ-loop → tie.After-slice-known4 Inv-loop μ-loop
+to-slice-known4 c =
+    let after-r = c .before .before .before in
+    after-r .before .before
+
+abbrev to-put-virtual-storage-arg : tie.After-slice-known5 Inv-loop μ-loop → tie.After-put-virtual-storage-arg Inv-loop μ-loop
+to-put-virtual-storage-arg c =
+    let after-row-word = c .before .before .before in
+    after-row-word .before
+
 loop-holds : tie.Need-loop-holds Inv-loop μ-loop
 unfolding recordsEnd
 loop-holds c =
@@ -38,113 +74,113 @@ loop-holds c =
 
 add-virtual-storage-row-requires : tie.Need-add-virtual-storage-row-requires Inv-loop μ-loop
 add-virtual-storage-row-requires c κs =
-    let t = c .before .before .before .before .before .before .before .before .before in
-    let l = c .before .before .before .before .before .loop in
+    let t = to-start (to-loop c) in
+    let l = to-loop c .loop in
     let lt = c .before .before .before .if1 .taken in
     let a = l .inv .0 (t .pre .3 .rows) (t .pre .3 .held) in
     (t .pre .0, virtual-storage-check _ (t .args .c) (t .pre .0 .sections) _ _ lt (l .inv .1), omega (arith, l .inv .3, t .pre .1), omega (arith, l .inv .4, t .pre .2), record { rows = _; held = a .held })
 
 same-length : tie.Need-same-length Inv-loop μ-loop
 same-length c =
-    c .before .before .before .before .before .before .add-virtual-storage-row .kept .1 .1 .1 .1 .1 .1 .1 .1 .1 .0 ∙ c .before .before .before .before .before .before .before .before .before .before .before .before .loop .inv .3
+    to-add-virtual-storage-row (c .before .before) .add-virtual-storage-row .kept .1 .1 .1 .1 .1 .1 .1 .1 .1 .0 ∙ to-loop (to-add-virtual-storage-row-arg3 (c .before .before)) .loop .inv .3
 
 same-length-2 : tie.Need-same-length-2 Inv-loop μ-loop
 same-length-2 c =
-    c .before .before .before .before .before .before .add-virtual-storage-row .kept .1 .1 .1 .1 .1 .1 .1 .1 .1 .1 .0 ∙ c .before .before .before .before .before .before .before .before .before .before .before .before .loop .inv .4
+    to-add-virtual-storage-row (c .before .before) .add-virtual-storage-row .kept .1 .1 .1 .1 .1 .1 .1 .1 .1 .1 .0 ∙ to-loop (to-add-virtual-storage-row-arg3 (c .before .before)) .loop .inv .4
 
 returns : tie.Need-returns Inv-loop μ-loop
 returns c =
-    let c6 = c .before .before .before .before .before .before in
-    let c10 = c6 .before .before .before .before in
-    let c12 = c10 .before .before in
-    let c16 = c12 .before .before .before .before in
-    let t = c16 in
-    let l = c12 .loop in
-    let lt = c10 .if1 .taken in
+    let after-add-virtual-storage-row = to-add-virtual-storage-row (c .before .before) in
+    let then1 = to-then1 after-add-virtual-storage-row in
+    let at-loop = then1 .before .before in
+    let start = to-start at-loop in
+    let t = start in
+    let l = at-loop .loop in
+    let lt = then1 .if1 .taken in
     λ rows held.
     let a = l .inv .0 rows held in
-    asked-full _ _ _ _ _ _ _ (omega arith) _ _ _ _ _ _ _ _ (asked-under _ (t .args .c) (t .pre .0 .sections) _ _ lt (l .inv .1)) (asked-row _ (t .args .c) (t .pre .0 .sections) _ _ lt (l .inv .1)) a (c6 .add-virtual-storage-row .ensures _ (a .held)) _ (c .enum-told .given .1)
+    asked-full _ _ _ _ _ _ _ (omega arith) _ _ _ _ _ _ _ _ (asked-under _ (t .args .c) (t .pre .0 .sections) _ _ lt (l .inv .1)) (asked-row _ (t .args .c) (t .pre .0 .sections) _ _ lt (l .inv .1)) a (after-add-virtual-storage-row .add-virtual-storage-row .ensures _ (a .held)) _ (c .enum-told .given .1)
 
 active-period-requires : tie.Need-active-period-requires Inv-loop μ-loop
 active-period-requires c κs =
-    let t = c .before .before .before .before .before .before .before .before .before .before .before .before .before .before .before .before .before in
-    let l = c .before .before .before .before .before .before .before .before .before .before .before .before .before .loop in
-    let lt = c .before .before .before .before .before .before .before .before .before .before .before .if1 .taken in
+    let t = to-start (to-loop (to-add-virtual-storage-row-arg3 (c .before .before .before))) in
+    let l = to-loop (to-add-virtual-storage-row-arg3 (c .before .before .before)) .loop in
+    let lt = to-then1 (to-add-virtual-storage-row (c .before .before .before)) .if1 .taken in
     fields-within _ _ _ (virtual-storage-check _ (t .args .c) (t .pre .0 .sections) _ _ lt (l .inv .1))
 
 mul-put-virtual-storage : tie.Need-mul-put-virtual-storage Inv-loop μ-loop
 mul-put-virtual-storage c =
-    let few = c .before .before .before .before .before .before .before .before .before .before .before .before .before .before .before .before .before .before .before .pre .0 .sections .few-virtual-storages in
-    let lt = c .before .before .before .before .before .before .before .before .before .before .before .before .before .if1 .taken in
+    let few = to-start (to-loop (to-add-virtual-storage-row-arg3 (to-slice-known4 c))) .pre .0 .sections .few-virtual-storages in
+    let lt = to-then1 (to-add-virtual-storage-row (to-slice-known4 c)) .if1 .taken in
     search needs
 
 add-put-virtual-storage : tie.Need-add-put-virtual-storage Inv-loop μ-loop
 add-put-virtual-storage c =
-    let few = c .before .before .before .before .before .before .before .before .before .before .before .before .before .before .before .before .before .before .before .pre .0 .sections .few-virtual-storages in
-    let lt = c .before .before .before .before .before .before .before .before .before .before .before .before .before .if1 .taken in
+    let few = to-start (to-loop (to-add-virtual-storage-row-arg3 (to-slice-known4 c))) .pre .0 .sections .few-virtual-storages in
+    let lt = to-then1 (to-add-virtual-storage-row (to-slice-known4 c)) .if1 .taken in
     search needs
 
 row-word-requires : tie.Need-row-word-requires Inv-loop μ-loop
 row-word-requires c κs =
-    let c3 = c .before .before .before in
-    let c9 = c3 .before .before .before .before .before .before in
-    let c13 = c9 .before .before .before .before in
-    let c15 = c13 .before .before in
-    let c19 = c15 .before .before .before .before in
-    let t = c19 in
-    let l = c15 .loop in
-    let lt = c13 .if1 .taken in
+    let after-r = c .before .before .before in
+    let after-add-virtual-storage-row = to-add-virtual-storage-row (after-r .before .before) in
+    let then1 = to-then1 after-add-virtual-storage-row in
+    let at-loop = then1 .before .before in
+    let start = to-start at-loop in
+    let t = start in
+    let l = at-loop .loop in
+    let lt = then1 .if1 .taken in
     let a = l .inv .0 (t .pre .3 .rows) (t .pre .3 .held) in
-    place-fits _ _ _ _ _ _ _ (omega arith) _ _ _ _ _ _ _ _ (asked-under _ (t .args .c) (t .pre .0 .sections) _ _ lt (l .inv .1)) (asked-row _ (t .args .c) (t .pre .0 .sections) _ _ lt (l .inv .1)) a (c9 .add-virtual-storage-row .ensures _ (a .held)) _ _ (c3 .r .given .1)
+    place-fits _ _ _ _ _ _ _ (omega arith) _ _ _ _ _ _ _ _ (asked-under _ (t .args .c) (t .pre .0 .sections) _ _ lt (l .inv .1)) (asked-row _ (t .args .c) (t .pre .0 .sections) _ _ lt (l .inv .1)) a (after-add-virtual-storage-row .add-virtual-storage-row .ensures _ (a .held)) _ _ (after-r .r .given .1)
 
 put-virtual-storage-requires : tie.Need-put-virtual-storage-requires Inv-loop μ-loop
 put-virtual-storage-requires c κs =
-    let t = c .before .before .before .before .before .before .before .before .before .before .before .before .before .before .before .before .before .before .before .before in
-    let l = c .before .before .before .before .before .before .before .before .before .before .before .before .before .before .before .before .loop in
-    let lt = c .before .before .before .before .before .before .before .before .before .before .before .before .before .before .if1 .taken in
-    let call = c .before .before .before .before .before .before .before .before .before .before .add-virtual-storage-row in
+    let t = to-start (to-loop (to-add-virtual-storage-row-arg3 (to-slice-known4 (c .before)))) in
+    let l = to-loop (to-add-virtual-storage-row-arg3 (to-slice-known4 (c .before))) .loop in
+    let lt = to-then1 (to-add-virtual-storage-row (to-slice-known4 (c .before))) .if1 .taken in
+    let call = to-add-virtual-storage-row (to-slice-known4 (c .before)) .add-virtual-storage-row in
     omega (arith, call .kept .1 .1 .1 .1 .1 .1 .1 .1 .1 .0, l .inv .3, t .pre .1, t .pre .0 .sections .few-virtual-storages, lt)
 
 virtual-storage-end-requires : tie.Need-virtual-storage-end-requires Inv-loop μ-loop
 virtual-storage-end-requires c κs =
-    let t = c .before .before .before .before .before .before .before .before .before .before .before .before .before .before .before .before .before .before .before .before .before .before .before in
-    let l = c .before .before .before .before .before .before .before .before .before .before .before .before .before .before .before .before .before .before .before .loop in
-    let lt = c .before .before .before .before .before .before .before .before .before .before .before .before .before .before .before .before .before .if1 .taken in
+    let t = to-start (to-loop (to-add-virtual-storage-row-arg3 (to-slice-known4 (to-put-virtual-storage-arg c)))) in
+    let l = to-loop (to-add-virtual-storage-row-arg3 (to-slice-known4 (to-put-virtual-storage-arg c))) .loop in
+    let lt = to-then1 (to-add-virtual-storage-row (to-slice-known4 (to-put-virtual-storage-arg c))) .if1 .taken in
     fields-within _ _ _ (virtual-storage-check _ (t .args .c) (t .pre .0 .sections) _ _ lt (l .inv .1))
 
 add-i : tie.Need-add-i Inv-loop μ-loop
 add-i c =
-    let few = c .before .before .before .before .before .before .before .before .before .before .before .before .before .before .before .before .before .before .before .before .before .before .before .before .pre .0 .sections .few-virtual-storages in
-    let lt = c .before .before .before .before .before .before .before .before .before .before .before .before .before .before .before .before .before .before .if1 .taken in
+    let few = to-start (to-loop (to-add-virtual-storage-row-arg3 (to-slice-known4 (to-put-virtual-storage-arg (c .before))))) .pre .0 .sections .few-virtual-storages in
+    let lt = to-then1 (to-add-virtual-storage-row (to-slice-known4 (to-put-virtual-storage-arg (c .before)))) .if1 .taken in
     search needs
 
 loop-less : tie.Need-loop-less Inv-loop μ-loop
 loop-less c =
-    omega (arith, c .before .before .before .before .before .before .before .before .before .before .before .before .before .before .before .before .before .before .if1 .taken)
+    omega (arith, to-then1 (to-add-virtual-storage-row (to-slice-known4 (to-put-virtual-storage-arg (c .before)))) .if1 .taken)
 
 loop-again : tie.Need-loop-again Inv-loop μ-loop
 loop-again c =
-    let c3 = c .before .before .before in
-    let c4 = c3 .before in
-    let c6 = c4 .before .before in
-    let c8 = c6 .before .before in
-    let c14 = c8 .before .before .before .before .before .before in
-    let c18 = c14 .before .before .before .before in
-    let c20 = c18 .before .before in
-    let c24 = c20 .before .before .before .before in
-    let t = c24 in
-    let l = c20 .loop in
-    let lt = c18 .if1 .taken in
-    let call = c14 .add-virtual-storage-row in (
+    let after-put-virtual-storage = c .before .before .before in
+    let after-row-word = after-put-virtual-storage .before in
+    let after-active-period = after-row-word .before .before in
+    let after-r = after-active-period .before .before in
+    let after-add-virtual-storage-row = to-add-virtual-storage-row (after-r .before .before) in
+    let then1 = to-then1 after-add-virtual-storage-row in
+    let at-loop = then1 .before .before in
+    let start = to-start at-loop in
+    let t = start in
+    let l = at-loop .loop in
+    let lt = then1 .if1 .taken in
+    let call = after-add-virtual-storage-row .add-virtual-storage-row in (
       (λ rows held.
           let a = l .inv .0 rows held in
-          asked-more _ _ _ _ _ _ _ (omega arith) _ _ _ _ _ _ _ _ (asked-under _ (t .args .c) (t .pre .0 .sections) _ _ lt (l .inv .1)) (asked-row _ (t .args .c) (t .pre .0 .sections) _ _ lt (l .inv .1)) a (call .ensures _ (a .held)) _ _ (c8 .r .given .1) _ _ _ refl (virtual-storage-wide _)
+          asked-more _ _ _ _ _ _ _ (omega arith) _ _ _ _ _ _ _ _ (asked-under _ (t .args .c) (t .pre .0 .sections) _ _ lt (l .inv .1)) (asked-row _ (t .args .c) (t .pre .0 .sections) _ _ lt (l .inv .1)) a (call .ensures _ (a .held)) _ _ (after-r .r .given .1) _ _ _ refl (virtual-storage-wide _)
           (omega (arith, call .kept .1 .1 .1 .1 .1 .1 .1 .1 .1 .0, l .inv .3, t .pre .1, t .pre .0 .sections .few-virtual-storages, lt))
           (table-more _ (t .args .c) (t .pre .0 .sections) _ _ lt (l .inv .1) _)
-          (entry-same _ _ _ _ _ _ _ (c3 .put-virtual-storage .ensures) (c4 .row-word .ensures) (c6 .active-period .ensures))),
+          (entry-same _ _ _ _ _ _ _ (after-put-virtual-storage .put-virtual-storage .ensures) (after-row-word .row-word .ensures) (after-active-period .active-period .ensures))),
       virtual-storage-next _ (t .args .c) (t .pre .0 .sections) _ _ lt (l .inv .1) _ (c .virtual-storage-end .ensures),
       omega arith,
-      c3 .put-virtual-storage .kept .0 ∙ call .kept .1 .1 .1 .1 .1 .1 .1 .1 .1 .0 ∙ l .inv .3,
+      after-put-virtual-storage .put-virtual-storage .kept .0 ∙ call .kept .1 .1 .1 .1 .1 .1 .1 .1 .1 .0 ∙ l .inv .3,
       call .kept .1 .1 .1 .1 .1 .1 .1 .1 .1 .1 .0 ∙ l .inv .4,
     )
 
@@ -158,7 +194,7 @@ same-length-4 c =
 
 returns-2 : tie.Need-returns-2 Inv-loop μ-loop
 returns-2 c =
-    let t = c .before .before .before .before .before .before in
+    let t = to-start (c .before .before) in
     let l = c .before .before .loop in
     λ rows held. asked-all _ _ _ _ _ _ _ _ _ _ _ _ (omega (arith, asked-count _ (t .args .c) (t .pre .0 .sections), c .if1 .left)) (omega (arith, l .inv .2, c .if1 .left)) (l .inv .0 rows held)
 

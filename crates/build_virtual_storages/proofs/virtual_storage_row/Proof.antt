@@ -16,6 +16,27 @@ Inv-loop s c first-in next-in first-out next-out edge-to-col at columns₀ eleme
 abbrev μ-loop : tie.MeasureT-loop
 μ-loop s c first-in next-in first-out next-out edge-to-col at columns₀ elements₀ parts n₀ k₀ columns elements n k = parts - k
 
+-- from a place to an earlier one
+abbrev to-start : tie.At-loop Inv-loop μ-loop → tie.Start Inv-loop μ-loop
+to-start c =
+    let after-shared-slice-known = c .before .before .before in
+    after-shared-slice-known .before
+
+abbrev to-in-loop : tie.After-add-node-arg2 Inv-loop μ-loop → tie.In-loop Inv-loop μ-loop
+to-in-loop c =
+    let after-part-node = c .before .before .before in
+    after-part-node .before
+
+abbrev to-loop : tie.After-add-node-arg2 Inv-loop μ-loop → tie.At-loop Inv-loop μ-loop
+to-loop c =
+    let in-loop = to-in-loop c in
+    in-loop .before
+
+abbrev to-part-count : tie.After-add-node-arg2 Inv-loop μ-loop → tie.After-part-count Inv-loop μ-loop
+to-part-count c =
+    let at-loop = to-loop c in
+    at-loop .before
+
 part-count-requires : tie.Need-part-count-requires Inv-loop μ-loop
 part-count-requires c κs =
     fields-within _ _ _ (c .before .before .pre .1)
@@ -26,35 +47,35 @@ loop-holds c =
 
 part-node-requires : tie.Need-part-node-requires Inv-loop μ-loop
 part-node-requires c κs =
-    (virtual-storage-within _ _ _ (c .before .before .before .before .before .pre .1), omega (arith, c .before .before .part-count .ensures .0, c .loop-test .taken))
+    (virtual-storage-within _ _ _ (to-start (c .before) .pre .1), omega (arith, c .before .before .part-count .ensures .0, c .loop-test .taken))
 
 part-factor-requires : tie.Need-part-factor-requires Inv-loop μ-loop
 part-factor-requires c κs =
-    let t = c .before .before .before .before .before .before in
+    let t = to-start (c .before .before) in
     let l = c .before .before .loop in
     let lt : l .k < byte (t .args .s .now) (t .args .at + 7) = omega (arith, c .before .before .before .part-count .ensures .0, c .before .loop-test .taken) in
     (virtual-storage-within _ _ _ (t .pre .1), lt, part-told _ _ _ (t .pre .1) _ lt .factor)
 
 add-node-requires : tie.Need-add-node-requires Inv-loop μ-loop
 add-node-requires c κs =
-    let t = c .before .before .before .before .before .before .before .before .before in
-    let l = c .before .before .before .before .before .loop in
-    let lt : l .k < byte (t .args .s .now) (t .args .at + 7) = omega (arith, c .before .before .before .before .before .before .part-count .ensures .0, c .before .before .before .before .loop-test .taken) in
+    let t = to-start (to-loop c) in
+    let l = to-loop c .loop in
+    let lt : l .k < byte (t .args .s .now) (t .args .at + 7) = omega (arith, to-part-count c .part-count .ensures .0, to-in-loop c .loop-test .taken) in
     (t .pre .0, omega (arith, c .before .before .before .part-node .ensures, part-told _ _ _ (t .pre .1) _ lt .node), l .inv .0 .few, omega (arith, l .inv .1, t .pre .2), l .inv .0 .rising)
 
 loop-again : tie.Need-loop-again Inv-loop μ-loop
 loop-again c =
-    let c2 = c .before .before in
-    let c5 = c2 .before .before .before in
-    let c6 = c5 .before in
-    let c7 = c6 .before in
-    let c8 = c7 .before in
-    let c9 = c8 .before in
-    let c12 = c9 .before .before .before in
-    let t = c12 in
-    let l = c8 .loop in
-    let lt : l .k < byte (t .args .s .now) (t .args .at + 7) = omega (arith, c9 .part-count .ensures .0, c7 .loop-test .taken) in
-    (parts-more _ (t .args .c) _ _ _ _ _ (l .inv .0) _ _ _ _ _ lt (c6 .part-node .ensures) (c5 .part-factor .ensures) (c2 .add-node .ensures), c2 .add-node .kept .1 .1 .1 .1 .1 .1 .1 .1 .1 .1 .0 ∙ l .inv .1)
+    let after-add-node = c .before .before in
+    let after-part-factor = after-add-node .before .before .before in
+    let after-part-node = after-part-factor .before in
+    let in-loop = after-part-node .before in
+    let at-loop = in-loop .before in
+    let after-part-count = at-loop .before in
+    let start = after-part-count .before .before .before in
+    let t = start in
+    let l = at-loop .loop in
+    let lt : l .k < byte (t .args .s .now) (t .args .at + 7) = omega (arith, after-part-count .part-count .ensures .0, in-loop .loop-test .taken) in
+    (parts-more _ (t .args .c) _ _ _ _ _ (l .inv .0) _ _ _ _ _ lt (after-part-node .part-node .ensures) (after-part-factor .part-factor .ensures) (after-add-node .add-node .ensures), after-add-node .add-node .kept .1 .1 .1 .1 .1 .1 .1 .1 .1 .1 .0 ∙ l .inv .1)
 
 same-length : tie.Need-same-length Inv-loop μ-loop
 same-length c =
@@ -62,7 +83,7 @@ same-length c =
 
 returns : tie.Need-returns Inv-loop μ-loop
 returns c =
-    parts-all _ (c .before .before .before .before .before .args .c) _ _ _ _ _ (c .before .loop .inv .0) (omega (arith, c .before .before .part-count .ensures .0, c .loop-test .left))
+    parts-all _ (to-start (c .before) .args .c) _ _ _ _ _ (c .before .loop .inv .0) (omega (arith, c .before .before .part-count .ensures .0, c .loop-test .left))
 
 pub virtual-storage-row-spec : {M : Type 1} → statement M
 virtual-storage-row-spec =

@@ -10,80 +10,163 @@ use borrow.Author.Needs.{needs}
 use Rattle.builder.proofs.build.Statement.{statement}
 use Rattle.builder.proofs.build.Tie as tie
 
+-- from a place to an earlier one
+abbrev to-start : tie.After-build-has-room → tie.Start
+to-start c =
+    let after-slice-known9 = c .before .before .before in
+    let after-slice-known6 = after-slice-known9 .before .before .before in
+    let after-slice-known3 = after-slice-known6 .before .before .before in
+    let after-shared-slice-known = after-slice-known3 .before .before .before in
+    after-shared-slice-known .before
+
+abbrev to-assemble : tie.After-slice-known13 → tie.After-assemble
+to-assemble c =
+    let after-words = c .before .before .before in
+    after-words .before
+
+abbrev to-a : tie.After-write-columns-arg3 → tie.After-a
+to-a c =
+    let after-known-told = c .before .before .before in
+    after-known-told .before
+
+abbrev to-write-columns : tie.After-write-rows → tie.After-write-columns
+to-write-columns c =
+    let after-write-rows-arg = c .before .before .before in
+    let after-slice-known15 = after-write-rows-arg .before .before .before in
+    let after-col-lower = after-slice-known15 .before .before .before in
+    after-col-lower .before
+
+abbrev to-write-rows : tie.After-write-matrix → tie.After-write-rows
+to-write-rows c =
+    let after-write-matrix-arg3 = c .before .before .before in
+    let after-slice-known18 = after-write-matrix-arg3 .before .before .before in
+    let after-row-lower = after-slice-known18 .before .before .before in
+    after-row-lower .before
+
+abbrev to-write-matrix : tie.After-write-shape → tie.After-write-matrix
+to-write-matrix c =
+    let after-slice-known21 = c .before .before .before in
+    let after-columns = after-slice-known21 .before .before .before in
+    after-columns .before .before .before
+
+abbrev to-write-shape : tie.After-clear → tie.After-write-shape
+to-write-shape c =
+    let after-slice-known22 = c .before .before .before in
+    after-slice-known22 .before .before
+
+abbrev to-slice-known13 : tie.After-clear → tie.After-slice-known13
+to-slice-known13 c =
+    let after-write-shape = to-write-shape c in
+    let after-write-matrix = to-write-matrix after-write-shape in
+    let after-write-rows = to-write-rows after-write-matrix in
+    let after-write-columns = to-write-columns after-write-rows in
+    let after-a = to-a (after-write-columns .before) in
+    after-a .before .before
+
+abbrev to-a2 : tie.After-clear2 → tie.After-a2
+to-a2 c =
+    let after-known-told2 = c .before .before .before in
+    after-known-told2 .before
+
+abbrev to-write-columns-arg3 : tie.After-write-rows-arg3 → tie.After-write-columns-arg3
+to-write-columns-arg3 c =
+    let after-slice-known16 = c .before .before .before in
+    let after-col-upper = after-slice-known16 .before .before .before in
+    let after-write-columns = after-col-upper .before .before .before in
+    after-write-columns .before
+
+abbrev to-write-rows-arg3 : tie.After-write-matrix-arg5 → tie.After-write-rows-arg3
+to-write-rows-arg3 c =
+    let after-write-matrix-arg2 = c .before .before .before in
+    let after-row-upper = after-write-matrix-arg2 .before .before .before in
+    let after-write-rows = after-row-upper .before .before .before in
+    after-write-rows .before
+
+abbrev to-write-matrix-arg5 : tie.After-write-shape-arg2 → tie.After-write-matrix-arg5
+to-write-matrix-arg5 c =
+    let after-row-starts = c .before .before .before in
+    let after-slice-known19 = after-row-starts .before .before .before in
+    after-slice-known19 .before .before .before
+
+abbrev to-clear : tie.After-slice-known24 → tie.After-clear
+to-clear c =
+    let after-words2 = c .before .before .before in
+    after-words2 .before
+
 returns : tie.Need-returns
 returns c =
-    let c1 = c .before in
-    let c14 = c1 .before .before .before .before .before .before .before .before .before .before .before .before .before in
-    let old : Store = record { colLower = c14 .args .col-lower .now; colUpper = c14 .args .col-upper .now; colObjCoef = c14 .args .col-obj-coef .now; rowLower = c14 .args .row-lower .now; rowUpper = c14 .args .row-upper .now; elements = c14 .args .elements .now; columns = c14 .args .columns .now; rowStarts = c14 .args .row-starts .now; shape = c14 .args .shape .now } in
-    let told = c1 .build-has-room .ensures old (c14 .args .words .now) (c14 .args .numbers .now) (lengths old) refl refl in
-    short (c14 .args .sentinel) (c14 .args .file .now) old (c14 .args .words .now) (c14 .args .numbers .now) (sym told ∙ not-true (c1 .build-has-room .result) (c .if1 .taken))
+    let after-build-has-room = c .before in
+    let start = to-start after-build-has-room in
+    let old : Store = record { colLower = start .args .col-lower .now; colUpper = start .args .col-upper .now; colObjCoef = start .args .col-obj-coef .now; rowLower = start .args .row-lower .now; rowUpper = start .args .row-upper .now; elements = start .args .elements .now; columns = start .args .columns .now; rowStarts = start .args .row-starts .now; shape = start .args .shape .now } in
+    let told = after-build-has-room .build-has-room .ensures old (start .args .words .now) (start .args .numbers .now) (lengths old) refl refl in
+    short (start .args .sentinel) (start .args .file .now) old (start .args .words .now) (start .args .numbers .now) (sym told ∙ not-true (after-build-has-room .build-has-room .result) (c .if1 .taken))
 
 assemble-requires : tie.Need-assemble-requires
 assemble-requires c κs =
-    let c2 = c .before .before in
-    let c3 = c2 .before in
-    let c16 = c3 .before .before .before .before .before .before .before .before .before .before .before .before .before in
-    let old : Store = record { colLower = c16 .args .col-lower .now; colUpper = c16 .args .col-upper .now; colObjCoef = c16 .args .col-obj-coef .now; rowLower = c16 .args .row-lower .now; rowUpper = c16 .args .row-upper .now; elements = c16 .args .elements .now; columns = c16 .args .columns .now; rowStarts = c16 .args .row-starts .now; shape = c16 .args .shape .now } in
-    let told = c3 .build-has-room .ensures old (c16 .args .words .now) (c16 .args .numbers .now) (lengths old) refl refl in
-    let ok = sym told ∙ not-false (c3 .build-has-room .result) (c2 .if1 .left) in
-    let h = room old (c16 .args .words .now) (c16 .args .numbers .now) ok in
+    let else1 = c .before .before in
+    let after-build-has-room = else1 .before in
+    let start = to-start after-build-has-room in
+    let old : Store = record { colLower = start .args .col-lower .now; colUpper = start .args .col-upper .now; colObjCoef = start .args .col-obj-coef .now; rowLower = start .args .row-lower .now; rowUpper = start .args .row-upper .now; elements = start .args .elements .now; columns = start .args .columns .now; rowStarts = start .args .row-starts .now; shape = start .args .shape .now } in
+    let told = after-build-has-room .build-has-room .ensures old (start .args .words .now) (start .args .numbers .now) (lengths old) refl refl in
+    let ok = sym told ∙ not-false (after-build-has-room .build-has-room .result) (else1 .if1 .left) in
+    let h = room old (start .args .words .now) (start .args .numbers .now) ok in
     (h .words-room, h .numbers-room)
 
 write-columns-requires : tie.Need-write-columns-requires
 write-columns-requires c κs =
-    let c4 = c .before .before .before .before in
-    let c10 = c4 .before .before .before .before .before .before in
-    let c13 = c10 .before .before .before in
-    let c14 = c13 .before in
-    let c27 = c14 .before .before .before .before .before .before .before .before .before .before .before .before .before in
-    let old : Store = record { colLower = c27 .args .col-lower .now; colUpper = c27 .args .col-upper .now; colObjCoef = c27 .args .col-obj-coef .now; rowLower = c27 .args .row-lower .now; rowUpper = c27 .args .row-upper .now; elements = c27 .args .elements .now; columns = c27 .args .columns .now; rowStarts = c27 .args .row-starts .now; shape = c27 .args .shape .now } in
-    let told = c14 .build-has-room .ensures old (c27 .args .words .now) (c27 .args .numbers .now) (lengths old) refl refl in
-    let ok = sym told ∙ not-false (c14 .build-has-room .result) (c13 .if1 .left) in
-    let h = room old (c27 .args .words .now) (c27 .args .numbers .now) ok in
-    let few = c10 .assemble .ensures .made _ (c4 .a .given .1) .laid .few in
+    let after-a = to-a c in
+    let after-assemble = to-assemble (after-a .before .before) in
+    let else1 = after-assemble .before .before .before in
+    let after-build-has-room = else1 .before in
+    let start = to-start after-build-has-room in
+    let old : Store = record { colLower = start .args .col-lower .now; colUpper = start .args .col-upper .now; colObjCoef = start .args .col-obj-coef .now; rowLower = start .args .row-lower .now; rowUpper = start .args .row-upper .now; elements = start .args .elements .now; columns = start .args .columns .now; rowStarts = start .args .row-starts .now; shape = start .args .shape .now } in
+    let told = after-build-has-room .build-has-room .ensures old (start .args .words .now) (start .args .numbers .now) (lengths old) refl refl in
+    let ok = sym told ∙ not-false (after-build-has-room .build-has-room .result) (else1 .if1 .left) in
+    let h = room old (start .args .words .now) (start .args .numbers .now) ok in
+    let few = after-assemble .assemble .ensures .made _ (after-a .a .given .1) .laid .few in
     (few, h .store .colLower, h .store .colUpper, h .store .colObjCoef)
 
 write-rows-requires : tie.Need-write-rows-requires
 write-rows-requires c κs =
-    let c14 = c .before .before .before .before .before .before .before .before .before .before .before .before .before .before in
-    let c20 = c14 .before .before .before .before .before .before in
-    let c23 = c20 .before .before .before in
-    let c24 = c23 .before in
-    let c37 = c24 .before .before .before .before .before .before .before .before .before .before .before .before .before in
-    let old : Store = record { colLower = c37 .args .col-lower .now; colUpper = c37 .args .col-upper .now; colObjCoef = c37 .args .col-obj-coef .now; rowLower = c37 .args .row-lower .now; rowUpper = c37 .args .row-upper .now; elements = c37 .args .elements .now; columns = c37 .args .columns .now; rowStarts = c37 .args .row-starts .now; shape = c37 .args .shape .now } in
-    let told = c24 .build-has-room .ensures old (c37 .args .words .now) (c37 .args .numbers .now) (lengths old) refl refl in
-    let ok = sym told ∙ not-false (c24 .build-has-room .result) (c23 .if1 .left) in
-    let h = room old (c37 .args .words .now) (c37 .args .numbers .now) ok in
-    let few = c20 .assemble .ensures .made _ (c14 .a .given .1) .laid .few in
-    (few, omega (arith, c20 .assemble .kept .1 .1 .1 .0, h .numbers-room), h .store .rowLower, h .store .rowUpper)
+    let after-a = to-a (to-write-columns-arg3 c) in
+    let after-assemble = to-assemble (after-a .before .before) in
+    let else1 = after-assemble .before .before .before in
+    let after-build-has-room = else1 .before in
+    let start = to-start after-build-has-room in
+    let old : Store = record { colLower = start .args .col-lower .now; colUpper = start .args .col-upper .now; colObjCoef = start .args .col-obj-coef .now; rowLower = start .args .row-lower .now; rowUpper = start .args .row-upper .now; elements = start .args .elements .now; columns = start .args .columns .now; rowStarts = start .args .row-starts .now; shape = start .args .shape .now } in
+    let told = after-build-has-room .build-has-room .ensures old (start .args .words .now) (start .args .numbers .now) (lengths old) refl refl in
+    let ok = sym told ∙ not-false (after-build-has-room .build-has-room .result) (else1 .if1 .left) in
+    let h = room old (start .args .words .now) (start .args .numbers .now) ok in
+    let few = after-assemble .assemble .ensures .made _ (after-a .a .given .1) .laid .few in
+    (few, omega (arith, after-assemble .assemble .kept .1 .1 .1 .0, h .numbers-room), h .store .rowLower, h .store .rowUpper)
 
 write-matrix-requires : tie.Need-write-matrix-requires
 write-matrix-requires c κs =
-    let c24 = c .before .before .before .before .before .before .before .before .before .before .before .before .before .before .before .before .before .before .before .before .before .before .before .before in
-    let c30 = c24 .before .before .before .before .before .before in
-    let c33 = c30 .before .before .before in
-    let c34 = c33 .before in
-    let c47 = c34 .before .before .before .before .before .before .before .before .before .before .before .before .before in
-    let old : Store = record { colLower = c47 .args .col-lower .now; colUpper = c47 .args .col-upper .now; colObjCoef = c47 .args .col-obj-coef .now; rowLower = c47 .args .row-lower .now; rowUpper = c47 .args .row-upper .now; elements = c47 .args .elements .now; columns = c47 .args .columns .now; rowStarts = c47 .args .row-starts .now; shape = c47 .args .shape .now } in
-    let told = c34 .build-has-room .ensures old (c47 .args .words .now) (c47 .args .numbers .now) (lengths old) refl refl in
-    let ok = sym told ∙ not-false (c34 .build-has-room .result) (c33 .if1 .left) in
-    let h = room old (c47 .args .words .now) (c47 .args .numbers .now) ok in
-    let laid = c30 .assemble .ensures .made _ (c24 .a .given .1) .laid in
-    (laid .few, row-starts _ _ _ _ _ laid, omega (arith, c30 .assemble .kept .1 .1 .0, h .words-room), omega (arith, c30 .assemble .kept .1 .1 .1 .0, h .numbers-room), h .store .elements, h .store .columns, h .store .rowStarts)
+    let after-a = to-a (to-write-columns-arg3 (to-write-rows-arg3 c)) in
+    let after-assemble = to-assemble (after-a .before .before) in
+    let else1 = after-assemble .before .before .before in
+    let after-build-has-room = else1 .before in
+    let start = to-start after-build-has-room in
+    let old : Store = record { colLower = start .args .col-lower .now; colUpper = start .args .col-upper .now; colObjCoef = start .args .col-obj-coef .now; rowLower = start .args .row-lower .now; rowUpper = start .args .row-upper .now; elements = start .args .elements .now; columns = start .args .columns .now; rowStarts = start .args .row-starts .now; shape = start .args .shape .now } in
+    let told = after-build-has-room .build-has-room .ensures old (start .args .words .now) (start .args .numbers .now) (lengths old) refl refl in
+    let ok = sym told ∙ not-false (after-build-has-room .build-has-room .result) (else1 .if1 .left) in
+    let h = room old (start .args .words .now) (start .args .numbers .now) ok in
+    let laid = after-assemble .assemble .ensures .made _ (after-a .a .given .1) .laid in
+    (laid .few, row-starts _ _ _ _ _ laid, omega (arith, after-assemble .assemble .kept .1 .1 .0, h .words-room), omega (arith, after-assemble .assemble .kept .1 .1 .1 .0, h .numbers-room), h .store .elements, h .store .columns, h .store .rowStarts)
 
 write-shape-requires : tie.Need-write-shape-requires
 write-shape-requires c κs =
-    let c33 = c .before .before .before .before .before .before .before .before .before .before .before .before .before .before .before .before .before .before .before .before .before .before .before .before .before .before .before .before .before .before .before .before .before in
-    let c39 = c33 .before .before .before .before .before .before in
-    let c42 = c39 .before .before .before in
-    let c43 = c42 .before in
-    let c56 = c43 .before .before .before .before .before .before .before .before .before .before .before .before .before in
-    let old : Store = record { colLower = c56 .args .col-lower .now; colUpper = c56 .args .col-upper .now; colObjCoef = c56 .args .col-obj-coef .now; rowLower = c56 .args .row-lower .now; rowUpper = c56 .args .row-upper .now; elements = c56 .args .elements .now; columns = c56 .args .columns .now; rowStarts = c56 .args .row-starts .now; shape = c56 .args .shape .now } in
-    let told = c43 .build-has-room .ensures old (c56 .args .words .now) (c56 .args .numbers .now) (lengths old) refl refl in
-    let ok = sym told ∙ not-false (c43 .build-has-room .result) (c42 .if1 .left) in
-    let h = room old (c56 .args .words .now) (c56 .args .numbers .now) ok in
-    let few = c39 .assemble .ensures .made _ (c33 .a .given .1) .laid .few in
-    (few, omega (arith, c39 .assemble .kept .1 .1 .0, h .words-room), h .store .shape)
+    let after-a = to-a (to-write-columns-arg3 (to-write-rows-arg3 (to-write-matrix-arg5 c))) in
+    let after-assemble = to-assemble (after-a .before .before) in
+    let else1 = after-assemble .before .before .before in
+    let after-build-has-room = else1 .before in
+    let start = to-start after-build-has-room in
+    let old : Store = record { colLower = start .args .col-lower .now; colUpper = start .args .col-upper .now; colObjCoef = start .args .col-obj-coef .now; rowLower = start .args .row-lower .now; rowUpper = start .args .row-upper .now; elements = start .args .elements .now; columns = start .args .columns .now; rowStarts = start .args .row-starts .now; shape = start .args .shape .now } in
+    let told = after-build-has-room .build-has-room .ensures old (start .args .words .now) (start .args .numbers .now) (lengths old) refl refl in
+    let ok = sym told ∙ not-false (after-build-has-room .build-has-room .result) (else1 .if1 .left) in
+    let h = room old (start .args .words .now) (start .args .numbers .now) ok in
+    let few = after-assemble .assemble .ensures .made _ (after-a .a .given .1) .laid .few in
+    (few, omega (arith, after-assemble .assemble .kept .1 .1 .0, h .words-room), h .store .shape)
 
 clear-requires-2 : tie.Need-clear-requires-2
 clear-requires-2 c κs =
@@ -91,85 +174,85 @@ clear-requires-2 c κs =
 
 same-length : tie.Need-same-length
 same-length c =
-    let c38 = c .before .before .before .before .before .before .before .before .before .before .before .before .before .before .before .before .before .before .before .before .before .before .before .before .before .before .before .before .before .before .before .before .before .before .before .before .before .before in
-    c38 .write-columns .kept .1 .1 .0
+    let after-write-columns = to-write-columns (to-write-rows (to-write-matrix (to-write-shape (to-clear c)))) in
+    after-write-columns .write-columns .kept .1 .1 .0
 
 same-length-2 : tie.Need-same-length-2
 same-length-2 c =
-    let c38 = c .before .before .before .before .before .before .before .before .before .before .before .before .before .before .before .before .before .before .before .before .before .before .before .before .before .before .before .before .before .before .before .before .before .before .before .before .before .before in
-    c38 .write-columns .kept .1 .1 .1 .0
+    let after-write-columns = to-write-columns (to-write-rows (to-write-matrix (to-write-shape (to-clear c)))) in
+    after-write-columns .write-columns .kept .1 .1 .1 .0
 
 same-length-3 : tie.Need-same-length-3
 same-length-3 c =
-    let c38 = c .before .before .before .before .before .before .before .before .before .before .before .before .before .before .before .before .before .before .before .before .before .before .before .before .before .before .before .before .before .before .before .before .before .before .before .before .before .before in
-    c38 .write-columns .kept .1 .1 .1 .1 .0
+    let after-write-columns = to-write-columns (to-write-rows (to-write-matrix (to-write-shape (to-clear c)))) in
+    after-write-columns .write-columns .kept .1 .1 .1 .1 .0
 
 same-length-4 : tie.Need-same-length-4
 same-length-4 c =
-    c .before .before .before .before .before .before .before .before .before .before .before .before .before .before .before .before .before .before .before .before .before .before .before .before .before .before .before .before .write-rows .kept .1 .1 .0
+    to-write-rows (to-write-matrix (to-write-shape (to-clear c))) .write-rows .kept .1 .1 .0
 
 same-length-5 : tie.Need-same-length-5
 same-length-5 c =
-    c .before .before .before .before .before .before .before .before .before .before .before .before .before .before .before .before .before .before .before .before .before .before .before .before .before .before .before .before .write-rows .kept .1 .1 .1 .0
+    to-write-rows (to-write-matrix (to-write-shape (to-clear c))) .write-rows .kept .1 .1 .1 .0
 
 same-length-6 : tie.Need-same-length-6
 same-length-6 c =
-    c .before .before .before .before .before .before .before .before .before .before .before .before .before .before .before .before .before .before .write-matrix .kept .1 .1 .1 .0
+    to-write-matrix (to-write-shape (to-clear c)) .write-matrix .kept .1 .1 .1 .0
 
 same-length-7 : tie.Need-same-length-7
 same-length-7 c =
-    c .before .before .before .before .before .before .before .before .before .before .before .before .before .before .before .before .before .before .write-matrix .kept .1 .1 .1 .1 .0
+    to-write-matrix (to-write-shape (to-clear c)) .write-matrix .kept .1 .1 .1 .1 .0
 
 same-length-8 : tie.Need-same-length-8
 same-length-8 c =
-    c .before .before .before .before .before .before .before .before .before .before .before .before .before .before .before .before .before .before .write-matrix .kept .1 .1 .1 .1 .1 .0
+    to-write-matrix (to-write-shape (to-clear c)) .write-matrix .kept .1 .1 .1 .1 .1 .0
 
 same-length-9 : tie.Need-same-length-9
 same-length-9 c =
-    c .before .before .before .before .before .before .before .before .before .write-shape .kept .1 .1 .0
+    to-write-shape (to-clear c) .write-shape .kept .1 .1 .0
 
 same-length-10 : tie.Need-same-length-10
 same-length-10 c =
-    let c4 = c .before .before .before .before in
-    let c49 = c4 .before .before .before .before .before .before .before .before .before .before .before .before .before .before .before .before .before .before .before .before .before .before .before .before .before .before .before .before .before .before .before .before .before .before .before .before .before .before .before .before .before .before .before .before .before in
-    c4 .clear .kept .0 ∙ c49 .assemble .kept .1 .1 .0
+    let after-clear = to-clear c in
+    let after-assemble = to-assemble (to-slice-known13 after-clear) in
+    after-clear .clear .kept .0 ∙ after-assemble .assemble .kept .1 .1 .0
 
 same-length-11 : tie.Need-same-length-11
 same-length-11 c =
-    let c4 = c .before .before .before .before in
-    let c49 = c4 .before .before .before .before .before .before .before .before .before .before .before .before .before .before .before .before .before .before .before .before .before .before .before .before .before .before .before .before .before .before .before .before .before .before .before .before .before .before .before .before .before .before .before .before .before in
-    c4 .clear .kept .1 .0 ∙ c49 .assemble .kept .1 .1 .1 .0
+    let after-clear = to-clear c in
+    let after-assemble = to-assemble (to-slice-known13 after-clear) in
+    after-clear .clear .kept .1 .0 ∙ after-assemble .assemble .kept .1 .1 .1 .0
 
 returns-2 : tie.Need-returns-2
 returns-2 c =
-    let c4 = c .before .before .before .before in
-    let c9 = c4 .before .before .before .before .before in
-    let c18 = c9 .before .before .before .before .before .before .before .before .before in
-    let c28 = c18 .before .before .before .before .before .before .before .before .before .before in
-    let c38 = c28 .before .before .before .before .before .before .before .before .before .before in
-    let c43 = c38 .before .before .before .before .before in
-    let c49 = c43 .before .before .before .before .before .before in
-    let c52 = c49 .before .before .before in
-    let c53 = c52 .before in
-    let c66 = c53 .before .before .before .before .before .before .before .before .before .before .before .before .before in
-    let old : Store = record { colLower = c66 .args .col-lower .now; colUpper = c66 .args .col-upper .now; colObjCoef = c66 .args .col-obj-coef .now; rowLower = c66 .args .row-lower .now; rowUpper = c66 .args .row-upper .now; elements = c66 .args .elements .now; columns = c66 .args .columns .now; rowStarts = c66 .args .row-starts .now; shape = c66 .args .shape .now } in
-    let told = c53 .build-has-room .ensures old (c66 .args .words .now) (c66 .args .numbers .now) (lengths old) refl refl in
-    let ok = sym told ∙ not-false (c53 .build-has-room .result) (c52 .if1 .left) in
-    finish (c66 .args .sentinel) (c66 .args .file .now) old (c66 .args .words .now) (c66 .args .numbers .now) ok _ _ _ (c49 .assemble .ensures) _ (c4 .clear .ensures .0) (c49 .assemble .kept .1 .1 .0) _ (c4 .clear .ensures .1) (c49 .assemble .kept .1 .1 .1 .0) (c43 .a .given .1) (c38 .write-columns .ensures) (c28 .write-rows .ensures) (c18 .write-matrix .ensures) (c9 .write-shape .ensures)
+    let after-clear = to-clear c in
+    let after-write-shape = to-write-shape after-clear in
+    let after-write-matrix = to-write-matrix after-write-shape in
+    let after-write-rows = to-write-rows after-write-matrix in
+    let after-write-columns = to-write-columns after-write-rows in
+    let after-a = to-a (after-write-columns .before) in
+    let after-assemble = to-assemble (after-a .before .before) in
+    let else1 = after-assemble .before .before .before in
+    let after-build-has-room = else1 .before in
+    let start = to-start after-build-has-room in
+    let old : Store = record { colLower = start .args .col-lower .now; colUpper = start .args .col-upper .now; colObjCoef = start .args .col-obj-coef .now; rowLower = start .args .row-lower .now; rowUpper = start .args .row-upper .now; elements = start .args .elements .now; columns = start .args .columns .now; rowStarts = start .args .row-starts .now; shape = start .args .shape .now } in
+    let told = after-build-has-room .build-has-room .ensures old (start .args .words .now) (start .args .numbers .now) (lengths old) refl refl in
+    let ok = sym told ∙ not-false (after-build-has-room .build-has-room .result) (else1 .if1 .left) in
+    finish (start .args .sentinel) (start .args .file .now) old (start .args .words .now) (start .args .numbers .now) ok _ _ _ (after-assemble .assemble .ensures) _ (after-clear .clear .ensures .0) (after-assemble .assemble .kept .1 .1 .0) _ (after-clear .clear .ensures .1) (after-assemble .assemble .kept .1 .1 .1 .0) (after-a .a .given .1) (after-write-columns .write-columns .ensures) (after-write-rows .write-rows .ensures) (after-write-matrix .write-matrix .ensures) (after-write-shape .write-shape .ensures)
 
 returns-3 : tie.Need-returns-3
 returns-3 c =
-    let c2 = c .before .before in
-    let cleared = c2 .before .before in
-    let c8 = cleared .before .before .before .before in
-    let c14 = c8 .before .before .before .before .before .before in
-    let c17 = c14 .before .before .before in
-    let c18 = c17 .before in
-    let c31 = c18 .before .before .before .before .before .before .before .before .before .before .before .before .before in
-    let old : Store = record { colLower = c31 .args .col-lower .now; colUpper = c31 .args .col-upper .now; colObjCoef = c31 .args .col-obj-coef .now; rowLower = c31 .args .row-lower .now; rowUpper = c31 .args .row-upper .now; elements = c31 .args .elements .now; columns = c31 .args .columns .now; rowStarts = c31 .args .row-starts .now; shape = c31 .args .shape .now } in
-    let told = c18 .build-has-room .ensures old (c31 .args .words .now) (c31 .args .numbers .now) (lengths old) refl refl in
-    let ok = sym told ∙ not-false (c18 .build-has-room .result) (c17 .if1 .left) in
-    refuse (c31 .args .sentinel) (c31 .args .file .now) old (c31 .args .words .now) (c31 .args .numbers .now) ok _ _ _ (c14 .assemble .ensures) _ (cleared .clear2 .ensures .0) (c14 .assemble .kept .1 .1 .0) _ (cleared .clear2 .ensures .1) (c14 .assemble .kept .1 .1 .1 .0) (c8 .a2 .given .1)
+    let after-slice-known25 = c .before .before in
+    let cleared = after-slice-known25 .before .before in
+    let after-a2 = to-a2 cleared in
+    let after-assemble = to-assemble (after-a2 .before .before) in
+    let else1 = after-assemble .before .before .before in
+    let after-build-has-room = else1 .before in
+    let start = to-start after-build-has-room in
+    let old : Store = record { colLower = start .args .col-lower .now; colUpper = start .args .col-upper .now; colObjCoef = start .args .col-obj-coef .now; rowLower = start .args .row-lower .now; rowUpper = start .args .row-upper .now; elements = start .args .elements .now; columns = start .args .columns .now; rowStarts = start .args .row-starts .now; shape = start .args .shape .now } in
+    let told = after-build-has-room .build-has-room .ensures old (start .args .words .now) (start .args .numbers .now) (lengths old) refl refl in
+    let ok = sym told ∙ not-false (after-build-has-room .build-has-room .result) (else1 .if1 .left) in
+    refuse (start .args .sentinel) (start .args .file .now) old (start .args .words .now) (start .args .numbers .now) ok _ _ _ (after-assemble .assemble .ensures) _ (cleared .clear2 .ensures .0) (after-assemble .assemble .kept .1 .1 .0) _ (cleared .clear2 .ensures .1) (after-assemble .assemble .kept .1 .1 .1 .0) (after-a2 .a2 .given .1)
 
 pub build-spec : {M : Type 1} → statement M
 build-spec =

@@ -15,25 +15,33 @@ returns c =
     rw (lt-leb (c .before .before .args .at + 1) (length (c .before .before .args .s .now)) (omega arith))
 
 returns-2 : tie.Need-returns-2
+
+-- from a place to an earlier one
+abbrev to-start : tie.After-wide8 → tie.Start
+to-start c =
+    let after-shared-slice-known = c .before .before .before in
+    after-shared-slice-known .before
+
 unfolding byteField between
 returns-2 c =
-    rw (le-leb (c .before .before .before .before .before .args .at + 1) (length (c .before .before .before .before .before .args .s .now)) (omega arith), ← (c .before .wide8 .ensures .0), lt-leb _ _ (c .if2 .taken))
+    let start = to-start (c .before) in
+    rw (le-leb (start .args .at + 1) (length (start .args .s .now)) (omega arith), ← (c .before .wide8 .ensures .0), lt-leb _ _ (c .if2 .taken))
 
 returns-3 : tie.Need-returns-3
 unfolding byteField between
 returns-3 c =
-    let c1 = c .before in
-    let c2 = c1 .before in
-    let c6 = c2 .before .before .before .before in
-    rw (le-leb (c6 .args .at + 1) (length (c6 .args .s .now)) (omega arith), ← (c2 .wide8 .ensures .0), le-leb _ _ (c1 .if2 .left), lt-leb _ _ (c .if3 .taken))
+    let else2 = c .before in
+    let after-wide8 = else2 .before in
+    let start = to-start after-wide8 in
+    rw (le-leb (start .args .at + 1) (length (start .args .s .now)) (omega arith), ← (after-wide8 .wide8 .ensures .0), le-leb _ _ (else2 .if2 .left), lt-leb _ _ (c .if3 .taken))
 
 returns-4 : tie.Need-returns-4
 unfolding byteField between
 returns-4 c =
-    let c1 = c .before in
-    let c2 = c1 .before in
-    let c6 = c2 .before .before .before .before in
-    rw (le-leb (c6 .args .at + 1) (length (c6 .args .s .now)) (omega arith), ← (c2 .wide8 .ensures .0), le-leb _ _ (c1 .if2 .left), le-leb _ _ (c .if3 .left))
+    let else2 = c .before in
+    let after-wide8 = else2 .before in
+    let start = to-start after-wide8 in
+    rw (le-leb (start .args .at + 1) (length (start .args .s .now)) (omega arith), ← (after-wide8 .wide8 .ensures .0), le-leb _ _ (else2 .if2 .left), le-leb _ _ (c .if3 .left))
 
 pub byte-field-spec : {M : Type 1} → statement M
 byte-field-spec =

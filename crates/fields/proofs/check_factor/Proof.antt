@@ -15,20 +15,32 @@ u64-at-requires c κs =
 
 add-t7 : tie.Need-add-t7
 add-t7 c =
-    let c3 = c .before .before .before in
-    let c4 = c3 .before in
-    let c6 = c4 .before .before in
-    omega (arith, leb-true (c6 .args .at + 8) (length (c6 .args .s .now)) (sym (c4 .is-within .ensures) ∙ c3 .if1 .taken))
+    let then1 = c .before .before .before in
+    let after-is-within = then1 .before in
+    let start = after-is-within .before .before in
+    omega (arith, leb-true (start .args .at + 8) (length (start .args .s .now)) (sym (after-is-within .is-within .ensures) ∙ then1 .if1 .taken))
 
 returns : tie.Need-returns
+
+-- from a place to an earlier one
+abbrev to-is-within-from-else2 : tie.Else2 → tie.After-is-within
+to-is-within-from-else2 c =
+    let then1 = c .before .before .before in
+    then1 .before
+
+abbrev to-is-within-from-then2 : tie.Then2 → tie.After-is-within
+to-is-within-from-then2 c =
+    let then1 = c .before .before .before in
+    then1 .before
+
 unfolding checkFactor
 returns c =
-    rw (← (c .before .before .before .before .is-within .ensures), c .before .before .before .if1 .taken, ← (c .before .before .u64-at .ensures), ← (c .before .is-small .ensures), c .if2 .taken)
+    rw (← (to-is-within-from-then2 c .is-within .ensures), c .before .before .before .if1 .taken, ← (c .before .before .u64-at .ensures), ← (c .before .is-small .ensures), c .if2 .taken)
 
 returns-2 : tie.Need-returns-2
 unfolding checkFactor
 returns-2 c =
-    rw (← (c .before .before .before .before .is-within .ensures), c .before .before .before .if1 .taken, ← (c .before .before .u64-at .ensures), ← (c .before .is-small .ensures), c .if2 .left)
+    rw (← (to-is-within-from-else2 c .is-within .ensures), c .before .before .before .if1 .taken, ← (c .before .before .u64-at .ensures), ← (c .before .is-small .ensures), c .if2 .left)
 
 returns-3 : tie.Need-returns-3
 unfolding checkFactor

@@ -11,14 +11,26 @@ u16-at-requires c κs =
     leb-true _ _ (sym (c .before .is-within .ensures) ∙ c .if1 .taken)
 
 returns : tie.Need-returns
+
+-- from a place to an earlier one
+abbrev to-is-within-from-else2 : tie.Else2 → tie.After-is-within
+to-is-within-from-else2 c =
+    let then1 = c .before .before .before in
+    then1 .before
+
+abbrev to-is-within-from-then2 : tie.Then2 → tie.After-is-within
+to-is-within-from-then2 c =
+    let then1 = c .before .before .before in
+    then1 .before
+
 unfolding nodeField
 returns c =
-    rw (← (c .before .before .before .before .is-within .ensures), c .before .before .before .if1 .taken, ← (c .before .before .u16-at .ensures), ← (c .before .wide16 .ensures .0), lt-ltb _ _ (c .if2 .taken))
+    rw (← (to-is-within-from-then2 c .is-within .ensures), c .before .before .before .if1 .taken, ← (c .before .before .u16-at .ensures), ← (c .before .wide16 .ensures .0), lt-ltb _ _ (c .if2 .taken))
 
 returns-2 : tie.Need-returns-2
 unfolding nodeField
 returns-2 c =
-    rw (← (c .before .before .before .before .is-within .ensures), c .before .before .before .if1 .taken, ← (c .before .before .u16-at .ensures), ← (c .before .wide16 .ensures .0), le-ltb _ _ (c .if2 .left))
+    rw (← (to-is-within-from-else2 c .is-within .ensures), c .before .before .before .if1 .taken, ← (c .before .before .u16-at .ensures), ← (c .before .wide16 .ensures .0), le-ltb _ _ (c .if2 .left))
 
 returns-3 : tie.Need-returns-3
 unfolding nodeField

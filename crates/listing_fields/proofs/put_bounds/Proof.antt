@@ -7,11 +7,18 @@ use Rattle.listing_fields.proofs.put_bounds.Statement.{statement}
 use Rattle.listing_fields.proofs.put_bounds.Tie as tie
 
 returns : tie.Need-returns
+
+-- from a place to an earlier one
+abbrev to-put-double : tie.After-put-double2 → tie.After-put-double
+to-put-double c =
+    let after-out = c .before .before .before in
+    after-out .before
+
 unfolding boundsFields
 returns c =
-    let c2 = c .before .before in
-    let c6 = c2 .before .before .before .before in
-    record { put = put-then (c6 .put-double .ensures .put) (c2 .put-double2 .ensures .put); end = omega (arith, c6 .put-double .ensures .end, c2 .put-double2 .ensures .end) }
+    let after-put-double2 = c .before .before in
+    let after-put-double = to-put-double after-put-double2 in
+    record { put = put-then (after-put-double .put-double .ensures .put) (after-put-double2 .put-double2 .ensures .put); end = omega (arith, after-put-double .put-double .ensures .end, after-put-double2 .put-double2 .ensures .end) }
 
 pub put-bounds-spec : {M : Type 1} → statement M
 put-bounds-spec =

@@ -7,10 +7,19 @@ use Rattle.listing_fields.proofs.put_double.Statement.{statement}
 use Rattle.listing_fields.proofs.put_double.Tie as tie
 
 returns : tie.Need-returns
+
+-- from a place to an earlier one
+abbrev to-put : tie.After-slice-known3 → tie.After-put
+to-put c =
+    let after-bits = c .before .before .before in
+    let after-out = after-bits .before .before .before in
+    after-out .before
+
 unfolding doubleField
 returns c =
+    let after-put = to-put c in
     let d = put-sixteen _ _ (c .before .before .before .bits .ensures) (c .before .before .put-hex .ensures) in
-    record { put = put-then (c .before .before .before .before .before .before .before .put .ensures) (d .put); end = omega (arith, c .before .before .before .before .before .before .before .put .ensures .next, d .end) }
+    record { put = put-then (after-put .put .ensures) (d .put); end = omega (arith, after-put .put .ensures .next, d .end) }
 
 pub put-double-spec : {M : Type 1} → statement M
 put-double-spec =

@@ -7,11 +7,18 @@ use Rattle.listing_fields.proofs.put_head.Statement.{statement}
 use Rattle.listing_fields.proofs.put_head.Tie as tie
 
 returns : tie.Need-returns
+
+-- from a place to an earlier one
+abbrev to-put : tie.After-put-number → tie.After-put
+to-put c =
+    let after-out = c .before .before .before in
+    after-out .before
+
 unfolding headFields
 returns c =
-    let c2 = c .before .before in
-    let c6 = c2 .before .before .before .before in
-    record { put = put-then (c6 .put .ensures) (c2 .put-number .ensures .put); end = omega (arith, c6 .put .ensures .next, c2 .put-number .ensures .end) }
+    let after-put-number = c .before .before in
+    let after-put = to-put after-put-number in
+    record { put = put-then (after-put .put .ensures) (after-put-number .put-number .ensures .put); end = omega (arith, after-put .put .ensures .next, after-put-number .put-number .ensures .end) }
 
 pub put-head-spec : {M : Type 1} → statement M
 put-head-spec =

@@ -7,11 +7,18 @@ use Rattle.listing_fields.proofs.put_letter.Statement.{statement}
 use Rattle.listing_fields.proofs.put_letter.Tie as tie
 
 returns : tie.Need-returns
+
+-- from a place to an earlier one
+abbrev to-put : tie.After-put2 → tie.After-put
+to-put c =
+    let after-out = c .before .before .before in
+    after-out .before
+
 unfolding letterField
 returns c =
-    let c2 = c .before .before in
-    let c6 = c2 .before .before .before .before in
-    record { put = put-then (c6 .put .ensures) (c2 .put2 .ensures); end = omega (arith, c6 .put .ensures .next, c2 .put2 .ensures .next) }
+    let after-put2 = c .before .before in
+    let after-put = to-put after-put2 in
+    record { put = put-then (after-put .put .ensures) (after-put2 .put2 .ensures); end = omega (arith, after-put .put .ensures .next, after-put2 .put2 .ensures .next) }
 
 pub put-letter-spec : {M : Type 1} → statement M
 put-letter-spec =

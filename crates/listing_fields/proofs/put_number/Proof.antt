@@ -7,10 +7,18 @@ use Rattle.listing_fields.proofs.put_number.Statement.{statement}
 use Rattle.listing_fields.proofs.put_number.Tie as tie
 
 returns : tie.Need-returns
+
+-- from a place to an earlier one
+abbrev to-put : tie.After-slice-known3 → tie.After-put
+to-put c =
+    let after-put-decimal-arg = c .before .before .before in
+    after-put-decimal-arg .before .before .before
+
 unfolding numberField
 returns c =
+    let after-put = to-put c in
     let d = put-decimal (c .before .before .put-decimal .ensures) in
-    record { put = put-then (c .before .before .before .before .before .before .put .ensures) (d .put); end = omega (arith, c .before .before .before .before .before .before .put .ensures .next, d .end) }
+    record { put = put-then (after-put .put .ensures) (d .put); end = omega (arith, after-put .put .ensures .next, d .end) }
 
 pub put-number-spec : {M : Type 1} → statement M
 put-number-spec =

@@ -7,18 +7,40 @@ use Rattle.listing_lines.proofs.put_column.Statement.{statement}
 use Rattle.listing_lines.proofs.put_column.Tie as tie
 
 returns : tie.Need-returns
+
+-- from a place to an earlier one
+abbrev to-put-head : tie.After-kind-letter → tie.After-put-head
+to-put-head c =
+    let after-out = c .before .before .before in
+    after-out .before
+
+abbrev to-put-letter : tie.After-put-bounds → tie.After-put-letter
+to-put-letter c =
+    let after-out2 = c .before .before .before in
+    after-out2 .before
+
+abbrev to-put-bounds : tie.After-put-double → tie.After-put-bounds
+to-put-bounds c =
+    let after-out3 = c .before .before .before in
+    after-out3 .before
+
+abbrev to-put-double : tie.After-put → tie.After-put-double
+to-put-double c =
+    let after-out4 = c .before .before .before in
+    after-out4 .before
+
 unfolding columnLine
 returns c =
-    let c2 = c .before .before in
-    let c6 = c2 .before .before .before .before in
-    let c10 = c6 .before .before .before .before in
-    let c14 = c10 .before .before .before .before in
-    let c15 = c14 .before in
-    let c19 = c15 .before .before .before .before in
-    let e = c15 .kind-letter .ensures in
+    let after-put = c .before .before in
+    let after-put-double = to-put-double after-put in
+    let after-put-bounds = to-put-bounds after-put-double in
+    let after-put-letter = to-put-letter after-put-bounds in
+    let after-kind-letter = after-put-letter .before in
+    let after-put-head = to-put-head after-kind-letter in
+    let e = after-kind-letter .kind-letter .ensures in
     record {
-      put = rw (← e) (put-then (c19 .put-head .ensures .put) (put-then (c14 .put-letter .ensures .put) (put-then (c10 .put-bounds .ensures .put) (put-then (c6 .put-double .ensures .put) (c2 .put .ensures)))));
-      end = omega (arith, c19 .put-head .ensures .end, c14 .put-letter .ensures .end, c10 .put-bounds .ensures .end, c6 .put-double .ensures .end, c2 .put .ensures .next);
+      put = rw (← e) (put-then (after-put-head .put-head .ensures .put) (put-then (after-put-letter .put-letter .ensures .put) (put-then (after-put-bounds .put-bounds .ensures .put) (put-then (after-put-double .put-double .ensures .put) (after-put .put .ensures)))));
+      end = omega (arith, after-put-head .put-head .ensures .end, after-put-letter .put-letter .ensures .end, after-put-bounds .put-bounds .ensures .end, after-put-double .put-double .ensures .end, after-put .put .ensures .next);
     }
 
 pub put-column-spec : {M : Type 1} → statement M

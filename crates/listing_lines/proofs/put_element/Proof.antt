@@ -7,11 +7,26 @@ use Rattle.listing_lines.proofs.put_element.Statement.{statement}
 use Rattle.listing_lines.proofs.put_element.Tie as tie
 
 returns : tie.Need-returns
+
+-- from a place to an earlier one
+abbrev to-put-double : tie.After-slice-known4 → tie.After-put-double
+to-put-double c =
+    let after-put-arg = c .before .before .before in
+    after-put-arg .before .before .before
+
+abbrev to-put-head : tie.After-slice-known4 → tie.After-put-head
+to-put-head c =
+    let after-put-double = to-put-double c in
+    let after-out = after-put-double .before .before .before in
+    after-out .before
+
 unfolding elementLine
 returns c =
+    let after-put-double = to-put-double c in
+    let after-put-head = to-put-head c in
     record {
-      put = put-then (c .before .before .before .before .before .before .before .before .before .before .put-head .ensures .put) (put-then (c .before .before .before .before .before .before .put-double .ensures .put) (c .before .before .put .ensures));
-      end = omega (arith, c .before .before .before .before .before .before .before .before .before .before .put-head .ensures .end, c .before .before .before .before .before .before .put-double .ensures .end, c .before .before .put .ensures .next);
+      put = put-then (after-put-head .put-head .ensures .put) (put-then (after-put-double .put-double .ensures .put) (c .before .before .put .ensures));
+      end = omega (arith, after-put-head .put-head .ensures .end, after-put-double .put-double .ensures .end, c .before .before .put .ensures .next);
     }
 
 pub put-element-spec : {M : Type 1} → statement M

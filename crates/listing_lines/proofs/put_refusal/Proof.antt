@@ -7,11 +7,26 @@ use Rattle.listing_lines.proofs.put_refusal.Statement.{statement}
 use Rattle.listing_lines.proofs.put_refusal.Tie as tie
 
 returns : tie.Need-returns
+
+-- from a place to an earlier one
+abbrev to-put-number : tie.After-slice-known4 → tie.After-put-number
+to-put-number c =
+    let after-put-arg = c .before .before .before in
+    after-put-arg .before .before .before
+
+abbrev to-put-head : tie.After-slice-known4 → tie.After-put-head
+to-put-head c =
+    let after-put-number = to-put-number c in
+    let after-out = after-put-number .before .before .before in
+    after-out .before
+
 unfolding refusalLine
 returns c =
+    let after-put-number = to-put-number c in
+    let after-put-head = to-put-head c in
     record {
-      put = put-then (c .before .before .before .before .before .before .before .before .before .before .put-head .ensures .put) (put-then (c .before .before .before .before .before .before .put-number .ensures .put) (c .before .before .put .ensures));
-      end = omega (arith, c .before .before .before .before .before .before .before .before .before .before .put-head .ensures .end, c .before .before .before .before .before .before .put-number .ensures .end, c .before .before .put .ensures .next);
+      put = put-then (after-put-head .put-head .ensures .put) (put-then (after-put-number .put-number .ensures .put) (c .before .before .put .ensures));
+      end = omega (arith, after-put-head .put-head .ensures .end, after-put-number .put-number .ensures .end, c .before .before .put .ensures .next);
     }
 
 pub put-refusal-spec : {M : Type 1} → statement M

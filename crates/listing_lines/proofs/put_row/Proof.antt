@@ -7,18 +7,40 @@ use Rattle.listing_lines.proofs.put_row.Statement.{statement}
 use Rattle.listing_lines.proofs.put_row.Tie as tie
 
 returns : tie.Need-returns
+
+-- from a place to an earlier one
+abbrev to-put-head : tie.After-varying-flag → tie.After-put-head
+to-put-head c =
+    let after-out = c .before .before .before in
+    after-out .before
+
+abbrev to-put-number : tie.After-put-bounds → tie.After-put-number
+to-put-number c =
+    let after-out2 = c .before .before .before in
+    after-out2 .before
+
+abbrev to-put-bounds : tie.After-put-number2 → tie.After-put-bounds
+to-put-bounds c =
+    let after-out3 = c .before .before .before in
+    after-out3 .before
+
+abbrev to-put-number2 : tie.After-put → tie.After-put-number2
+to-put-number2 c =
+    let after-out4 = c .before .before .before in
+    after-out4 .before
+
 unfolding rowLine
 returns c =
-    let c2 = c .before .before in
-    let c6 = c2 .before .before .before .before in
-    let c10 = c6 .before .before .before .before in
-    let c14 = c10 .before .before .before .before in
-    let c15 = c14 .before in
-    let c19 = c15 .before .before .before .before in
-    let e = c15 .varying-flag .ensures in
+    let after-put = c .before .before in
+    let after-put-number2 = to-put-number2 after-put in
+    let after-put-bounds = to-put-bounds after-put-number2 in
+    let after-put-number = to-put-number after-put-bounds in
+    let after-varying-flag = after-put-number .before in
+    let after-put-head = to-put-head after-varying-flag in
+    let e = after-varying-flag .varying-flag .ensures in
     record {
-      put = rw (← e) (put-then (c19 .put-head .ensures .put) (put-then (c14 .put-number .ensures .put) (put-then (c10 .put-bounds .ensures .put) (put-then (c6 .put-number2 .ensures .put) (c2 .put .ensures)))));
-      end = omega (arith, c19 .put-head .ensures .end, c14 .put-number .ensures .end, c10 .put-bounds .ensures .end, c6 .put-number2 .ensures .end, c2 .put .ensures .next);
+      put = rw (← e) (put-then (after-put-head .put-head .ensures .put) (put-then (after-put-number .put-number .ensures .put) (put-then (after-put-bounds .put-bounds .ensures .put) (put-then (after-put-number2 .put-number2 .ensures .put) (after-put .put .ensures)))));
+      end = omega (arith, after-put-head .put-head .ensures .end, after-put-number .put-number .ensures .end, after-put-bounds .put-bounds .ensures .end, after-put-number2 .put-number2 .ensures .end, after-put .put .ensures .next);
     }
 
 pub put-row-spec : {M : Type 1} → statement M

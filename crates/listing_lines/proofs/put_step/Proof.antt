@@ -7,11 +7,19 @@ use Rattle.listing_lines.proofs.put_step.Statement.{statement}
 use Rattle.listing_lines.proofs.put_step.Tie as tie
 
 returns : tie.Need-returns
+
+-- from a place to an earlier one
+abbrev to-put-head : tie.After-slice-known3 → tie.After-put-head
+to-put-head c =
+    let after-put-arg = c .before .before .before in
+    after-put-arg .before .before .before
+
 unfolding stepLine
 returns c =
+    let after-put-head = to-put-head c in
     record {
-      put = put-then (c .before .before .before .before .before .before .put-head .ensures .put) (c .before .before .put .ensures);
-      end = omega (arith, c .before .before .before .before .before .before .put-head .ensures .end, c .before .before .put .ensures .next);
+      put = put-then (after-put-head .put-head .ensures .put) (c .before .before .put .ensures);
+      end = omega (arith, after-put-head .put-head .ensures .end, c .before .before .put .ensures .next);
     }
 
 pub put-step-spec : {M : Type 1} → statement M

@@ -14,14 +14,25 @@ returns c = (simp (c .if1 .taken, min-zero, zero-min), zero-le, zero-le, zero-le
 few : (varying fixed : ℕ) → varying < 65536 → fixed < 65536 → varying + fixed < 131072
 few varying fixed h k = omega arith
 
+-- from a place to an earlier one
+abbrev to-word : tie.After-least3 → tie.After-word
+to-word c =
+    let after-word2 = c .before .before .before in
+    after-word2 .before
+
+abbrev to-start : tie.After-least3 → tie.Start
+to-start c =
+    let after-word = to-word c in
+    after-word .before .before .before
+
 returns-2 : tie.Need-returns-2
 returns-2 c =
-    let varying = c .before .before .before .before .word in
+    let varying = to-word c .word in
     let fixed = c .before .before .before .word2 in
     let counted = c .before .before .least in
     let bounded = c .before .least2 in
     let all = c .least3 in (
-      all .ensures .0 ∙ ap₂ min (counted .ensures .0 ∙ ap₂ (λ (a b : ℕ). min (a + b) (c .before .before .before .before .before .before .before .args .starts - 1)) (varying .ensures .0) (fixed .ensures .0)) (bounded .ensures .0),
+      all .ensures .0 ∙ ap₂ min (counted .ensures .0 ∙ ap₂ (λ (a b : ℕ). min (a + b) (to-start c .args .starts - 1)) (varying .ensures .0) (fixed .ensures .0)) (bounded .ensures .0),
       le-trans (all .ensures .2) (bounded .ensures .1),
       le-trans (all .ensures .2) (bounded .ensures .2),
       le-trans (all .ensures .1) (counted .ensures .2),

@@ -5,13 +5,27 @@ use borrow.Author.Needs.{needs}
 use Rattle.listing_stored.proofs.put_stored_row.Statement.{statement}
 use Rattle.listing_stored.proofs.put_stored_row.Tie as tie
 
+-- from a place to an earlier one
+abbrev to-word : tie.After-slice-known2 → tie.After-word
+to-word c =
+    let after-shared-slice-known5 = c .before .before .before in
+    after-shared-slice-known5 .before .before .before
+
+abbrev to-start : tie.After-slice-known2 → tie.Start
+to-start c =
+    let after-word = to-word c in
+    let after-shared-slice-known = after-word .before .before .before in
+    after-shared-slice-known .before .before
+
 returns : tie.Need-returns
-returns c = (
-  λ s el eu es. put-as
-      (row-text s (c .before .before .before .before .before .before .before .before .before .before .before .args .row-lower .now) (c .before .before .before .before .before .before .before .before .before .before .before .args .row-upper .now) (c .before .before .before .before .before .before .before .before .before .before .before .args .shape .now) (c .before .before .before .before .before .before .before .before .before .before .before .args .row) (c .before .before .before .before .before .before .word .result) (c .before .before .before .before .before .before .before .before .before .before .before .args .elements)
-      (c .before .before .before .before .before .before .before .before .before .before .before .pre .1) (c .before .before .before .before .before .before .before .before .before .before .before .pre .2) (c .before .before .before .before .before .before .word .ensures .0) el eu es) (c .before .before .put-row .ensures .put),
-  c .before .before .put-row .ensures .end,
-)
+returns c =
+    let after-word = to-word c in
+    let start = to-start c in (
+      λ s el eu es. put-as
+          (row-text s (start .args .row-lower .now) (start .args .row-upper .now) (start .args .shape .now) (start .args .row) (after-word .word .result) (start .args .elements)
+          (start .pre .1) (start .pre .2) (after-word .word .ensures .0) el eu es) (c .before .before .put-row .ensures .put),
+      c .before .before .put-row .ensures .end,
+    )
 
 pub put-stored-row-spec : {M : Type 1} → statement M
 put-stored-row-spec =

@@ -27,6 +27,12 @@ Inv-loop s at count here₀ i₀ here i = aggregateEnd s at ≡ recordsEnd (setE
 abbrev μ-loop : tie.MeasureT-loop
 μ-loop s at count here₀ i₀ here i = count - i
 
+-- from a place to an earlier one
+abbrev to-start : tie.After-set-end Inv-loop μ-loop → tie.Start Inv-loop μ-loop
+to-start c =
+    let after-set-count = c .before .before .before in
+    after-set-count .before .before
+
 set-count-requires : tie.Need-set-count-requires Inv-loop μ-loop
 set-count-requires c κs =
     fields-inside (c .before .args .s .now) (c .before .args .at) (c .before .pre)
@@ -41,14 +47,14 @@ loop-holds c =
 
 set-end-requires : tie.Need-set-end-requires Inv-loop μ-loop
 set-end-requires c κs =
-    let c1 = c .before in
-    let c2 = c1 .before in
-    let c4 = c2 .before .before in
-    omega (arith, set-inside (c4 .args .s .now) (c4 .args .at) (c2 .set-count .result) (c1 .loop .i) (c1 .loop .here) (c4 .pre) (c1 .loop .inv) (c .loop-test .taken))
+    let at-loop = c .before in
+    let after-set-count = at-loop .before in
+    let start = after-set-count .before .before in
+    omega (arith, set-inside (start .args .s .now) (start .args .at) (after-set-count .set-count .result) (at-loop .loop .i) (at-loop .loop .here) (start .pre) (at-loop .loop .inv) (c .loop-test .taken))
 
 loop-again : tie.Need-loop-again Inv-loop μ-loop
 loop-again c =
-    c .before .before .loop .inv ∙ end-left _ _ _ _ (c .before .loop-test .taken) ∙ ap (recordsEnd (setEnd (c .before .before .before .before .before .args .s .now)) _) (sym (c .set-end .ensures))
+    c .before .before .loop .inv ∙ end-left _ _ _ _ (c .before .loop-test .taken) ∙ ap (recordsEnd (setEnd (to-start c .args .s .now)) _) (sym (c .set-end .ensures))
 
 returns : tie.Need-returns Inv-loop μ-loop
 returns c =

@@ -24,17 +24,25 @@ add-mark-exclusive : tie.Need-add-mark-exclusive
 add-mark-exclusive c =
     omega (arith, c .before .before .before .pre .few-nodes, c .before .before .before .pre .few-edges)
 
+-- from a place to an earlier one
+abbrev to-start : tie.After-exclusive → tie.Start
+to-start c =
+    let after-shared-slice-known = c .before .before .before in
+    after-shared-slice-known .before
+
 mark-exclusive-requires : tie.Need-mark-exclusive-requires
 mark-exclusive-requires c κs =
-    (fixed-within _ _ _ _ _ _ (c .before .before .before .before .pre), λ k lt. aggregate-more _ _ _ _ (c .before .before .before .before .pre .few-nodes) (aggregate-accepted _ _ _ _ _ _ (c .before .before .before .before .pre) k lt))
+    let start = to-start c in
+    (fixed-within _ _ _ _ _ _ (start .pre), λ k lt. aggregate-more _ _ _ _ (start .pre .few-nodes) (aggregate-accepted _ _ _ _ _ _ (start .pre) k lt))
 
 first-bad-constant-requires : tie.Need-first-bad-constant-requires
 unfolding networkAt
-first-bad-constant-requires c κs = (
-  c .before .before .before .before .before .before .pre .few-nodes,
-  node-accepted _ _ _ _ _ _ (c .before .before .before .before .before .before .pre),
-  λ i lt. ap (λ (marks : List Bool). getD marks i false) (c .before .mark-exclusive .ensures) ∙ exclusive-marked _ 256 i (omega (arith, lt, c .before .before .before .before .before .before .pre .few-nodes)),
-)
+first-bad-constant-requires c κs =
+    let start = to-start (c .before .before) in (
+      start .pre .few-nodes,
+      node-accepted _ _ _ _ _ _ (start .pre),
+      λ i lt. ap (λ (marks : List Bool). getD marks i false) (c .before .mark-exclusive .ensures) ∙ exclusive-marked _ 256 i (omega (arith, lt, start .pre .few-nodes)),
+    )
 
 pub check-constants-spec : {M : Type 1} → statement M
 check-constants-spec =

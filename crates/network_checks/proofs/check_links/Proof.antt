@@ -18,14 +18,22 @@ mark-ends-requires c κs =
     (c .before .before .before .pre .few-nodes, c .before .before .before .pre .few-edges, edge-accepted _ _ _ _ _ _ (c .before .before .before .pre))
 
 first-unconnected-requires : tie.Need-first-unconnected-requires
+
+-- from a place to an earlier one
+abbrev to-start : tie.After-out2 → tie.Start
+to-start c =
+    let after-out = c .before .before .before in
+    after-out .before .before .before
+
 unfolding incoming outgoing networkAt
 first-unconnected-requires c κs =
-    let s = c .before .before .before .before .before .before .args .s .now in
-    let n = c .before .before .before .before .before .before .args .c .nodes in
-    let e = c .before .before .before .before .before .before .args .c .edges in
-    let below : (i : ℕ) → i < n → i < 256 = λ i lt. omega (arith, lt, c .before .before .before .before .before .before .pre .few-nodes) in (
-      c .before .before .before .before .before .before .pre .few-nodes,
-      omega (arith, fixed-within _ _ _ _ _ _ (c .before .before .before .before .before .before .pre)),
+    let start = to-start c in
+    let s = start .args .s .now in
+    let n = start .args .c .nodes in
+    let e = start .args .c .edges in
+    let below : (i : ℕ) → i < n → i < 256 = λ i lt. omega (arith, lt, start .pre .few-nodes) in (
+      start .pre .few-nodes,
+      omega (arith, fixed-within _ _ _ _ _ _ (start .pre)),
       λ i lt. ap (λ (marks : List Bool). getD marks i false) (c .before .before .mark-ends .ensures .0) ∙ ends-marked target (edgesAt s n e) 256 i (below i lt),
       λ i lt. ap (λ (marks : List Bool). getD marks i false) (c .before .before .mark-ends .ensures .1) ∙ ends-marked source (edgesAt s n e) 256 i (below i lt),
     )

@@ -23,59 +23,65 @@ Inv-loop s c exclusive i₀ i =
 abbrev μ-loop : tie.MeasureT-loop
 μ-loop s c exclusive i₀ i = c .nodes - i
 
+-- from a place to an earlier one
+abbrev to-start : tie.Else1 Inv-loop μ-loop → tie.Start Inv-loop μ-loop
+to-start c =
+    let after-shared-slice-known = c .before .before .before in
+    after-shared-slice-known .before
+
 loop-holds : tie.Need-loop-holds Inv-loop μ-loop
 loop-holds c =
     (search needs, rw sub-zero)
 
 is-crossed-requires : tie.Need-is-crossed-requires Inv-loop μ-loop
 is-crossed-requires c κs =
-    let c3 = c .before .before .before in
-    let c5 = c3 .before .before in
-    rw (c .narrow16 .ensures) (c5 .pre .1 _ (c .before .if1 .taken))
+    let at-loop = c .before .before .before in
+    let start = at-loop .before .before in
+    rw (c .narrow16 .ensures) (start .pre .1 _ (c .before .if1 .taken))
 
 returns : tie.Need-returns Inv-loop μ-loop
 returns c =
-    let c1 = c .before in
-    let c3 = c1 .before .before in
-    let c5 = c3 .before .before in
-    let c7 = c5 .before .before in
-    let bad = crossed (networkOf (c7 .args .s .now) (c7 .args .c)) _ _ (sym (rw (c1 .before .narrow16 .ensures) at (c1 .is-crossed .ensures)) ∙ c .if2 .taken) in
-    sym (c5 .loop .inv .1 ∙ refused-here _ (c7 .args .s .now) _ _ _ (c3 .if1 .taken) bad)
+    let after-is-crossed = c .before in
+    let then1 = after-is-crossed .before .before in
+    let at-loop = then1 .before .before in
+    let start = at-loop .before .before in
+    let bad = crossed (networkOf (start .args .s .now) (start .args .c)) _ _ (sym (rw (after-is-crossed .before .narrow16 .ensures) at (after-is-crossed .is-crossed .ensures)) ∙ c .if2 .taken) in
+    sym (at-loop .loop .inv .1 ∙ refused-here _ (start .args .s .now) _ _ _ (then1 .if1 .taken) bad)
 
 is-unbounded-requires : tie.Need-is-unbounded-requires Inv-loop μ-loop
 is-unbounded-requires c κs =
-    let c2 = c .before .before in
-    let c5 = c2 .before .before .before in
-    let c7 = c5 .before .before in
-    (omega (arith, c2 .narrow16 .ensures, c7 .pre .0), rw (c2 .narrow16 .ensures) (c7 .pre .1 _ (c2 .before .if1 .taken)))
+    let after-narrow16 = c .before .before in
+    let at-loop = after-narrow16 .before .before .before in
+    let start = at-loop .before .before in
+    (omega (arith, after-narrow16 .narrow16 .ensures, start .pre .0), rw (after-narrow16 .narrow16 .ensures) (start .pre .1 _ (after-narrow16 .before .if1 .taken)))
 
 returns-2 : tie.Need-returns-2 Inv-loop μ-loop
 returns-2 c =
-    let c1 = c .before in
-    let c2 = c1 .before in
-    let c3 = c2 .before in
-    let c4 = c3 .before in
-    let c5 = c4 .before in
-    let c7 = c5 .before .before in
-    let c9 = c7 .before .before in
-    let bad = unbounded (networkOf (c9 .args .s .now) (c9 .args .c)) _ _ _ (c9 .pre .2 _ (c5 .if1 .taken)) (sym (rw (c4 .narrow16 .ensures) at (c3 .is-crossed .ensures)) ∙ c2 .if2 .left) (sym (rw (c4 .narrow16 .ensures) at (c1 .is-unbounded .ensures)) ∙ c .if3 .taken) in
-    sym (c7 .loop .inv .1 ∙ refused-here _ (c9 .args .s .now) _ _ _ (c5 .if1 .taken) bad)
+    let after-is-unbounded = c .before in
+    let else2 = after-is-unbounded .before in
+    let after-is-crossed = else2 .before in
+    let after-narrow16 = after-is-crossed .before in
+    let then1 = after-narrow16 .before in
+    let at-loop = then1 .before .before in
+    let start = at-loop .before .before in
+    let bad = unbounded (networkOf (start .args .s .now) (start .args .c)) _ _ _ (start .pre .2 _ (then1 .if1 .taken)) (sym (rw (after-narrow16 .narrow16 .ensures) at (after-is-crossed .is-crossed .ensures)) ∙ else2 .if2 .left) (sym (rw (after-narrow16 .narrow16 .ensures) at (after-is-unbounded .is-unbounded .ensures)) ∙ c .if3 .taken) in
+    sym (at-loop .loop .inv .1 ∙ refused-here _ (start .args .s .now) _ _ _ (then1 .if1 .taken) bad)
 
 loop-again : tie.Need-loop-again Inv-loop μ-loop
 loop-again c =
-    let c1 = c .before in
-    let c2 = c1 .before in
-    let c3 = c2 .before in
-    let c4 = c3 .before in
-    let c5 = c4 .before in
-    let c7 = c5 .before .before in
-    let c9 = c7 .before .before in
-    let good = bounded (networkOf (c9 .args .s .now) (c9 .args .c)) _ _ _ (c9 .pre .2 _ (c5 .if1 .taken)) (sym (rw (c4 .narrow16 .ensures) at (c3 .is-crossed .ensures)) ∙ c2 .if2 .left) (sym (rw (c4 .narrow16 .ensures) at (c1 .is-unbounded .ensures)) ∙ c .if3 .left) in
-    (search needs, c7 .loop .inv .1 ∙ refused-later _ (c9 .args .s .now) _ _ (c5 .if1 .taken) good)
+    let after-is-unbounded = c .before in
+    let else2 = after-is-unbounded .before in
+    let after-is-crossed = else2 .before in
+    let after-narrow16 = after-is-crossed .before in
+    let then1 = after-narrow16 .before in
+    let at-loop = then1 .before .before in
+    let start = at-loop .before .before in
+    let good = bounded (networkOf (start .args .s .now) (start .args .c)) _ _ _ (start .pre .2 _ (then1 .if1 .taken)) (sym (rw (after-narrow16 .narrow16 .ensures) at (after-is-crossed .is-crossed .ensures)) ∙ else2 .if2 .left) (sym (rw (after-narrow16 .narrow16 .ensures) at (after-is-unbounded .is-unbounded .ensures)) ∙ c .if3 .left) in
+    (search needs, at-loop .loop .inv .1 ∙ refused-later _ (start .args .s .now) _ _ (then1 .if1 .taken) good)
 
 returns-3 : tie.Need-returns-3 Inv-loop μ-loop
 returns-3 c =
-    sym (c .before .before .loop .inv .1 ∙ refused-none _ (c .before .before .before .before .args .s .now) _ _ (c .if1 .left))
+    sym (c .before .before .loop .inv .1 ∙ refused-none _ (to-start c .args .s .now) _ _ (c .if1 .left))
 
 pub first-bad-constant-spec : {M : Type 1} → statement M
 first-bad-constant-spec =

@@ -22,6 +22,12 @@ Inv-loop s c into out i₀ i =
 abbrev μ-loop : tie.MeasureT-loop
 μ-loop s c into out i₀ i = c .nodes - i
 
+-- from a place to an earlier one
+abbrev to-start : tie.Else1 Inv-loop μ-loop → tie.Start Inv-loop μ-loop
+to-start c =
+    let after-shared-slice-known = c .before .before .before in
+    after-shared-slice-known .before
+
 loop-holds : tie.Need-loop-holds Inv-loop μ-loop
 loop-holds c =
     (search needs, rw sub-zero)
@@ -32,27 +38,27 @@ is-unconnected-requires c κs =
 
 returns : tie.Need-returns Inv-loop μ-loop
 returns c =
-    let c1 = c .before in
-    let c3 = c1 .before .before in
-    let c5 = c3 .before .before in
-    let c7 = c5 .before .before in
-    sym (c5 .loop .inv .1 ∙ refused-here _ (c7 .args .s .now) _ _ _ (c3 .if1 .taken)
-    (unconnected _ _ _ _ _ (c7 .pre .2 _ (c3 .if1 .taken)) (c7 .pre .3 _ (c3 .if1 .taken)) (sym (rw (c1 .before .narrow16 .ensures) at (c1 .is-unconnected .ensures)) ∙ c .if2 .taken)))
+    let after-is-unconnected = c .before in
+    let then1 = after-is-unconnected .before .before in
+    let at-loop = then1 .before .before in
+    let start = at-loop .before .before in
+    sym (at-loop .loop .inv .1 ∙ refused-here _ (start .args .s .now) _ _ _ (then1 .if1 .taken)
+    (unconnected _ _ _ _ _ (start .pre .2 _ (then1 .if1 .taken)) (start .pre .3 _ (then1 .if1 .taken)) (sym (rw (after-is-unconnected .before .narrow16 .ensures) at (after-is-unconnected .is-unconnected .ensures)) ∙ c .if2 .taken)))
 
 loop-again : tie.Need-loop-again Inv-loop μ-loop
 loop-again c =
-    let c1 = c .before in
-    let c3 = c1 .before .before in
-    let c5 = c3 .before .before in
-    let c7 = c5 .before .before in (
+    let after-is-unconnected = c .before in
+    let then1 = after-is-unconnected .before .before in
+    let at-loop = then1 .before .before in
+    let start = at-loop .before .before in (
       search needs,
-      c5 .loop .inv .1 ∙ refused-later _ (c7 .args .s .now) _ _ (c3 .if1 .taken)
-          (connected _ _ _ _ _ (c7 .pre .2 _ (c3 .if1 .taken)) (c7 .pre .3 _ (c3 .if1 .taken)) (sym (rw (c1 .before .narrow16 .ensures) at (c1 .is-unconnected .ensures)) ∙ c .if2 .left)),
+      at-loop .loop .inv .1 ∙ refused-later _ (start .args .s .now) _ _ (then1 .if1 .taken)
+          (connected _ _ _ _ _ (start .pre .2 _ (then1 .if1 .taken)) (start .pre .3 _ (then1 .if1 .taken)) (sym (rw (after-is-unconnected .before .narrow16 .ensures) at (after-is-unconnected .is-unconnected .ensures)) ∙ c .if2 .left)),
     )
 
 returns-2 : tie.Need-returns-2 Inv-loop μ-loop
 returns-2 c =
-    sym (c .before .before .loop .inv .1 ∙ refused-none _ (c .before .before .before .before .args .s .now) _ _ (c .if1 .left))
+    sym (c .before .before .loop .inv .1 ∙ refused-none _ (to-start c .args .s .now) _ _ (c .if1 .left))
 
 pub first-unconnected-spec : {M : Type 1} → statement M
 first-unconnected-spec =

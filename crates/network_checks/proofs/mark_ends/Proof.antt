@@ -24,6 +24,12 @@ Inv-loop s n e into₀ out₀ j₀ into out j =
 abbrev μ-loop : tie.MeasureT-loop
 μ-loop s n e into₀ out₀ j₀ into out j = e - j
 
+-- from a place to an earlier one
+abbrev to-start : tie.After-narrow16 Inv-loop μ-loop → tie.Start Inv-loop μ-loop
+to-start c =
+    let after-shared-slice-known = c .before .before .before in
+    after-shared-slice-known .before
+
 loop-holds : tie.Need-loop-holds Inv-loop μ-loop
 loop-holds c =
     (search needs, rw (sub-zero, add-zero), rw (sub-zero, add-zero))
@@ -34,47 +40,47 @@ narrow16-requires c κs =
 
 to-node-index-requires : tie.Need-to-node-index-requires Inv-loop μ-loop
 to-node-index-requires c κs =
-    omega (arith, c .narrow16 .ensures, c .before .before .before .before .pre .2 (c .before .before .loop .j) (c .before .loop-test .taken) .within)
+    omega (arith, c .narrow16 .ensures, to-start c .pre .2 (c .before .before .loop .j) (c .before .loop-test .taken) .within)
 
 from-node-index-requires : tie.Need-from-node-index-requires Inv-loop μ-loop
 from-node-index-requires c κs =
-    omega (arith, c .before .narrow16 .ensures, c .before .before .before .before .before .pre .2 (c .before .before .before .loop .j) (c .before .before .loop-test .taken) .within)
+    omega (arith, c .before .narrow16 .ensures, to-start (c .before) .pre .2 (c .before .before .before .loop .j) (c .before .before .loop-test .taken) .within)
 
 element-write-into : tie.Need-element-write-into Inv-loop μ-loop
 element-write-into c =
-    let c1 = c .before in
-    let c3 = c1 .before .before in
-    let c4 = c3 .before in
-    let c5 = c4 .before in
-    let c6 = c5 .before in
-    let c8 = c6 .before .before in
-    let q = end-read (c8 .args .s .now) (c8 .args .n) _ _ target _ _ (c4 .narrow16 .ensures) (c1 .wide16 .ensures .0) (c3 .to-node-index .ensures) in
-    omega (arith, q, c8 .pre .2 (c6 .loop .j) (c5 .loop-test .taken) .to)
+    let after-wide16 = c .before in
+    let after-to-node-index = after-wide16 .before .before in
+    let after-narrow16 = after-to-node-index .before in
+    let in-loop = after-narrow16 .before in
+    let at-loop = in-loop .before in
+    let start = at-loop .before .before in
+    let q = end-read (start .args .s .now) (start .args .n) _ _ target _ _ (after-narrow16 .narrow16 .ensures) (after-wide16 .wide16 .ensures .0) (after-to-node-index .to-node-index .ensures) in
+    omega (arith, q, start .pre .2 (at-loop .loop .j) (in-loop .loop-test .taken) .to)
 
 element-write-out : tie.Need-element-write-out Inv-loop μ-loop
 element-write-out c =
-    let c2 = c .before .before in
-    let c4 = c2 .before .before in
-    let c5 = c4 .before in
-    let c6 = c5 .before in
-    let c8 = c6 .before .before in
-    let q = end-read (c8 .args .s .now) (c8 .args .n) _ _ source _ _ (c4 .narrow16 .ensures) (c .wide162 .ensures .0) (c2 .from-node-index .ensures) in
-    omega (arith, q, c8 .pre .2 (c6 .loop .j) (c5 .loop-test .taken) .from)
+    let after-from-node-index = c .before .before in
+    let after-narrow16 = after-from-node-index .before .before in
+    let in-loop = after-narrow16 .before in
+    let at-loop = in-loop .before in
+    let start = at-loop .before .before in
+    let q = end-read (start .args .s .now) (start .args .n) _ _ source _ _ (after-narrow16 .narrow16 .ensures) (c .wide162 .ensures .0) (after-from-node-index .from-node-index .ensures) in
+    omega (arith, q, start .pre .2 (at-loop .loop .j) (in-loop .loop-test .taken) .from)
 
 loop-again : tie.Need-loop-again Inv-loop μ-loop
 loop-again c =
-    let c1 = c .before in
-    let c2 = c1 .before in
-    let c3 = c2 .before in
-    let c4 = c3 .before in
-    let c5 = c4 .before in
-    let c6 = c5 .before in
-    let c8 = c6 .before .before in
-    let t = end-read (c8 .args .s .now) (c8 .args .n) _ _ target _ _ (c4 .narrow16 .ensures) (c1 .wide16 .ensures .0) (c3 .to-node-index .ensures) in
-    let f = end-read (c8 .args .s .now) (c8 .args .n) _ _ source _ _ (c4 .narrow16 .ensures) (c .wide162 .ensures .0) (c2 .from-node-index .ensures) in (
+    let after-wide16 = c .before in
+    let after-from-node-index = after-wide16 .before in
+    let after-to-node-index = after-from-node-index .before in
+    let after-narrow16 = after-to-node-index .before in
+    let in-loop = after-narrow16 .before in
+    let at-loop = in-loop .before in
+    let start = at-loop .before .before in
+    let t = end-read (start .args .s .now) (start .args .n) _ _ target _ _ (after-narrow16 .narrow16 .ensures) (after-wide16 .wide16 .ensures .0) (after-to-node-index .to-node-index .ensures) in
+    let f = end-read (start .args .s .now) (start .args .n) _ _ source _ _ (after-narrow16 .narrow16 .ensures) (c .wide162 .ensures .0) (after-from-node-index .from-node-index .ensures) in (
       search needs,
-      c6 .loop .inv .1 ∙ mark-edge (c8 .args .s .now) (c8 .args .n) _ _ target (c6 .loop .into) _ (c5 .loop-test .taken) t,
-      c6 .loop .inv .2 ∙ mark-edge (c8 .args .s .now) (c8 .args .n) _ _ source (c6 .loop .out) _ (c5 .loop-test .taken) f,
+      at-loop .loop .inv .1 ∙ mark-edge (start .args .s .now) (start .args .n) _ _ target (at-loop .loop .into) _ (in-loop .loop-test .taken) t,
+      at-loop .loop .inv .2 ∙ mark-edge (start .args .s .now) (start .args .n) _ _ source (at-loop .loop .out) _ (in-loop .loop-test .taken) f,
     )
 
 returns : tie.Need-returns Inv-loop μ-loop

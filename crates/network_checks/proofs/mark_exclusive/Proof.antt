@@ -21,6 +21,27 @@ Inv-loop s start a marks₀ at₀ k₀ marks at k =
 abbrev μ-loop : tie.MeasureT-loop
 μ-loop s start a marks₀ at₀ k₀ marks at k = a - k
 
+-- from a place to an earlier one
+abbrev to-start : tie.After-is-exclusive Inv-loop μ-loop → tie.Start Inv-loop μ-loop
+to-start c =
+    let after-shared-slice-known = c .before .before .before in
+    after-shared-slice-known .before
+
+abbrev to-loop-from-aggregate-end : tie.After-aggregate-end Inv-loop μ-loop → tie.At-loop Inv-loop μ-loop
+to-loop-from-aggregate-end c =
+    let in-loop = c .before .before .before in
+    in-loop .before
+
+abbrev to-in-loop : tie.After-mark-sets Inv-loop μ-loop → tie.In-loop Inv-loop μ-loop
+to-in-loop c =
+    let after-is-exclusive = c .before .before .before in
+    after-is-exclusive .before
+
+abbrev to-loop-from-mark-sets : tie.After-mark-sets Inv-loop μ-loop → tie.At-loop Inv-loop μ-loop
+to-loop-from-mark-sets c =
+    let in-loop = to-in-loop c in
+    in-loop .before
+
 loop-holds : tie.Need-loop-holds Inv-loop μ-loop
 unfolding recordsEnd
 loop-holds c =
@@ -32,30 +53,35 @@ is-exclusive-requires c κs =
 
 mark-sets-requires : tie.Need-mark-sets-requires Inv-loop μ-loop
 mark-sets-requires c κs =
-    let c3 = c .before .before .before in
-    let c4 = c3 .before in
-    let c6 = c4 .before .before in
-    subst (AggregatePassed (c6 .args .s .now) 256) (sym (c4 .loop .inv .1)) (c6 .pre .1 _ (c3 .loop-test .taken))
+    let in-loop = c .before .before .before in
+    let at-loop = in-loop .before in
+    let start = at-loop .before .before in
+    subst (AggregatePassed (start .args .s .now) 256) (sym (at-loop .loop .inv .1)) (start .pre .1 _ (in-loop .loop-test .taken))
 
 loop-again : tie.Need-loop-again Inv-loop μ-loop
-loop-again c = (
-  search needs,
-  c .mark-sets .ensures .0 ∙ ap (aggregateEnd (c .before .before .before .before .before .before .before .args .s .now)) (c .before .before .before .before .before .loop .inv .1) ∙ sym (end-more (aggregateEnd (c .before .before .before .before .before .before .before .args .s .now)) _ _),
-  c .before .before .before .before .before .loop .inv .2 ∙ mark-aggregate (c .before .before .before .before .before .before .before .args .s .now) _ _ _ (c .before .before .before .before .before .loop .marks) (c .before .before .before .before .loop-test .taken)
-      ∙ rw (sym (c .before .before .before .is-exclusive .ensures) ∙ c .before .before .if1 .taken, c .mark-sets .ensures .0, c .mark-sets .ensures .1),
-)
+loop-again c =
+    let at-loop = to-loop-from-mark-sets c in
+    let start = to-start (c .before .before .before) in (
+      search needs,
+      c .mark-sets .ensures .0 ∙ ap (aggregateEnd (start .args .s .now)) (at-loop .loop .inv .1) ∙ sym (end-more (aggregateEnd (start .args .s .now)) _ _),
+      at-loop .loop .inv .2 ∙ mark-aggregate (start .args .s .now) _ _ _ (at-loop .loop .marks) (to-in-loop c .loop-test .taken)
+          ∙ rw (sym (c .before .before .before .is-exclusive .ensures) ∙ c .before .before .if1 .taken, c .mark-sets .ensures .0, c .mark-sets .ensures .1),
+    )
 
 aggregate-end-requires : tie.Need-aggregate-end-requires Inv-loop μ-loop
 aggregate-end-requires c κs =
-    subst (AggregatePassed (c .before .before .before .before .before .args .s .now) 256) (sym (c .before .before .before .loop .inv .1)) (c .before .before .before .before .before .pre .1 _ (c .before .before .loop-test .taken)) .within
+    let start = to-start (c .before) in
+    subst (AggregatePassed (start .args .s .now) 256) (sym (c .before .before .before .loop .inv .1)) (start .pre .1 _ (c .before .before .loop-test .taken)) .within
 
 loop-again-2 : tie.Need-loop-again-2 Inv-loop μ-loop
-loop-again-2 c = (
-  search needs,
-  c .aggregate-end .ensures ∙ ap (aggregateEnd (c .before .before .before .before .before .before .args .s .now)) (c .before .before .before .before .loop .inv .1) ∙ sym (end-more (aggregateEnd (c .before .before .before .before .before .before .args .s .now)) _ _),
-  c .before .before .before .before .loop .inv .2 ∙ mark-aggregate (c .before .before .before .before .before .before .args .s .now) _ _ _ (c .before .before .before .before .loop .marks) (c .before .before .before .loop-test .taken)
-      ∙ rw (sym (c .before .before .is-exclusive .ensures) ∙ c .before .if1 .left, c .aggregate-end .ensures),
-)
+loop-again-2 c =
+    let at-loop = to-loop-from-aggregate-end c in
+    let start = to-start (c .before .before) in (
+      search needs,
+      c .aggregate-end .ensures ∙ ap (aggregateEnd (start .args .s .now)) (at-loop .loop .inv .1) ∙ sym (end-more (aggregateEnd (start .args .s .now)) _ _),
+      at-loop .loop .inv .2 ∙ mark-aggregate (start .args .s .now) _ _ _ (at-loop .loop .marks) (c .before .before .before .loop-test .taken)
+          ∙ rw (sym (c .before .before .is-exclusive .ensures) ∙ c .before .if1 .left, c .aggregate-end .ensures),
+    )
 
 returns : tie.Need-returns Inv-loop μ-loop
 unfolding markExclusive

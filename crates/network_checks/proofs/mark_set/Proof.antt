@@ -20,6 +20,17 @@ Inv-loop s at marks₀ size k₀ marks k =
 abbrev μ-loop : tie.MeasureT-loop
 μ-loop s at marks₀ size k₀ marks k = size - k
 
+-- from a place to an earlier one
+abbrev to-start-from-loop : tie.After-loop Inv-loop μ-loop → tie.Start Inv-loop μ-loop
+to-start-from-loop c =
+    let after-shared-slice-known = c .before .before .before in
+    after-shared-slice-known .before
+
+abbrev to-start-from-in-loop : tie.In-loop Inv-loop μ-loop → tie.Start Inv-loop μ-loop
+to-start-from-in-loop c =
+    let after-shared-slice-known = c .before .before .before in
+    after-shared-slice-known .before
+
 set-size-requires : tie.Need-set-size-requires Inv-loop μ-loop
 set-size-requires c κs =
     omega (arith, c .before .pre .within)
@@ -30,24 +41,24 @@ loop-holds c =
 
 member-requires : tie.Need-member-requires Inv-loop μ-loop
 member-requires c κs =
-    (c .before .before .before .before .pre .within, omega arith)
+    (to-start-from-in-loop c .pre .within, omega arith)
 
 element-write-marks : tie.Need-element-write-marks Inv-loop μ-loop
 element-write-marks c =
-    omega (arith, c .wide16 .ensures .0, c .before .member .ensures, c .before .before .before .before .before .before .pre .members (c .before .before .before .loop .k) (omega arith))
+    omega (arith, c .wide16 .ensures .0, c .before .member .ensures, to-start-from-in-loop (c .before .before) .pre .members (c .before .before .before .loop .k) (omega arith))
 
 loop-again : tie.Need-loop-again Inv-loop μ-loop
 loop-again c =
-    let c1 = c .before in
-    let c2 = c1 .before in
-    let c3 = c2 .before in
-    let c6 = c3 .before .before .before in
-    (search needs, c3 .loop .inv .1 ∙ mark-member (c6 .args .s .now) (c6 .args .at) _ _ (c3 .loop .marks) _ (c2 .loop-test .taken) (c .wide16 .ensures .0 ∙ c1 .member .ensures))
+    let after-member = c .before in
+    let in-loop = after-member .before in
+    let at-loop = in-loop .before in
+    let start = at-loop .before .before .before in
+    (search needs, at-loop .loop .inv .1 ∙ mark-member (start .args .s .now) (start .args .at) _ _ (at-loop .loop .marks) _ (in-loop .loop-test .taken) (c .wide16 .ensures .0 ∙ after-member .member .ensures))
 
 returns : tie.Need-returns Inv-loop μ-loop
 unfolding markAll
 returns c =
-    sym (c .before .loop .inv .1 ∙ rw (records-over (λ at. at + 2) _ _ _ (c .loop-test .left) (le16 (c .before .before .before .before .args .s .now))))
+    sym (c .before .loop .inv .1 ∙ rw (records-over (λ at. at + 2) _ _ _ (c .loop-test .left) (le16 (to-start-from-loop c .args .s .now))))
 
 pub mark-set-spec : {M : Type 1} → statement M
 mark-set-spec =

@@ -9,36 +9,36 @@ use Rattle.network_edge.proofs.check_edge.Tie as tie
 
 narrow16-requires : tie.Need-narrow16-requires
 narrow16-requires c κs =
-    let c3 = c .before .before .before in
-    let c5 = c3 .before .before in
-    let c7 = c5 .before .before in
-    omega (arith, node-within _ _ _ _ _ (sym (c7 .node-field .ensures) ∙ c5 .f2 .given .1) .2)
+    let after-node-field2 = c .before .before .before in
+    let after-f2 = after-node-field2 .before .before in
+    let after-node-field = after-f2 .before .before in
+    omega (arith, node-within _ _ _ _ _ (sym (after-node-field .node-field .ensures) ∙ after-f2 .f2 .given .1) .2)
 
 narrow16-requires-2 : tie.Need-narrow16-requires-2
 narrow16-requires-2 c κs =
-    let c2 = c .before .before in
-    omega (arith, node-within _ _ _ _ _ (sym (c2 .before .before .node-field2 .ensures) ∙ c2 .t2 .given .1) .2)
+    let after-t2 = c .before .before in
+    omega (arith, node-within _ _ _ _ _ (sym (after-t2 .before .before .node-field2 .ensures) ∙ after-t2 .t2 .given .1) .2)
 
 bad-edge-requires : tie.Need-bad-edge-requires
 bad-edge-requires c κs =
-    let c3 = c .before .before .before in
-    let c5 = c3 .before .before in
-    let c7 = c5 .before .before in
-    let c9 = c7 .before .before in
-    let h = node-within _ _ _ _ _ (sym (c9 .node-field .ensures) ∙ c7 .f2 .given .1) in
-    let k = node-within _ _ _ _ _ (sym (c5 .node-field2 .ensures) ∙ c3 .t2 .given .1) in
+    let after-t2 = c .before .before .before in
+    let after-node-field2 = after-t2 .before .before in
+    let after-f2 = after-node-field2 .before .before in
+    let after-node-field = after-f2 .before .before in
+    let h = node-within _ _ _ _ _ (sym (after-node-field .node-field .ensures) ∙ after-f2 .f2 .given .1) in
+    let k = node-within _ _ _ _ _ (sym (after-node-field2 .node-field2 .ensures) ∙ after-t2 .t2 .given .1) in
     (search needs, omega (arith, c .before .narrow16 .ensures, h .2), omega (arith, c .narrow162 .ensures, k .2), search needs)
 
 returns : tie.Need-returns
 unfolding checkEdge
 returns c =
-    let c2 = c .before .before in
-    let c3 = c2 .before in
-    let c5 = c3 .before .before in
-    let c7 = c5 .before .before in
-    let c9 = c7 .before .before in
-    let c11 = c9 .before .before in
-    (rw (← (c11 .node-field .ensures), c9 .f2 .given .1, ← (c7 .node-field2 .ensures), c5 .t2 .given .1, ← (c3 .narrow16 .ensures), ← (c2 .narrow162 .ensures), ← (c .before .bad-edge .ensures), c .if1 .taken), tt)
+    let after-narrow162 = c .before .before in
+    let after-narrow16 = after-narrow162 .before in
+    let after-t2 = after-narrow16 .before .before in
+    let after-node-field2 = after-t2 .before .before in
+    let after-f2 = after-node-field2 .before .before in
+    let after-node-field = after-f2 .before .before in
+    (rw (← (after-node-field .node-field .ensures), after-f2 .f2 .given .1, ← (after-node-field2 .node-field2 .ensures), after-t2 .t2 .given .1, ← (after-narrow16 .narrow16 .ensures), ← (after-narrow162 .narrow162 .ensures), ← (c .before .bad-edge .ensures), c .if1 .taken), tt)
 
 returns-2 : tie.Need-returns-2
 unfolding checkEdge
@@ -46,20 +46,32 @@ returns-2 c =
     (rw (← (c .before .before .before .node-field .ensures), c .before .f .given .1), tt)
 
 returns-3 : tie.Need-returns-3
+
+-- from a place to an earlier one
+abbrev to-f2 : tie.After-known-told3 → tie.After-f2
+to-f2 c =
+    let after-node-field2 = c .before .before .before in
+    after-node-field2 .before .before
+
+abbrev to-node-field : tie.After-known-told3 → tie.After-node-field
+to-node-field c =
+    let after-f2 = to-f2 c in
+    after-f2 .before .before
+
 unfolding checkEdge
 returns-3 c =
-    (rw (← (c .before .before .before .before .before .before .before .node-field .ensures), c .before .before .before .before .before .f2 .given .1, ← (c .before .before .before .node-field2 .ensures), c .before .t .given .1), tt)
+    (rw (← (to-node-field c .node-field .ensures), to-f2 c .f2 .given .1, ← (c .before .before .before .node-field2 .ensures), c .before .t .given .1), tt)
 
 returns-4 : tie.Need-returns-4
 unfolding checkEdge
 returns-4 c =
-    let c2 = c .before .before in
-    let c3 = c2 .before in
-    let c5 = c3 .before .before in
-    let c7 = c5 .before .before in
-    let c9 = c7 .before .before in
-    let c11 = c9 .before .before in
-    (rw (← (c11 .node-field .ensures), c9 .f2 .given .1, ← (c7 .node-field2 .ensures), c5 .t2 .given .1, ← (c3 .narrow16 .ensures), ← (c2 .narrow162 .ensures), ← (c .before .bad-edge .ensures), c .if1 .left), omega (arith, node-within _ _ _ _ _ (sym (c7 .node-field2 .ensures) ∙ c5 .t2 .given .1) .0))
+    let after-narrow162 = c .before .before in
+    let after-narrow16 = after-narrow162 .before in
+    let after-t2 = after-narrow16 .before .before in
+    let after-node-field2 = after-t2 .before .before in
+    let after-f2 = after-node-field2 .before .before in
+    let after-node-field = after-f2 .before .before in
+    (rw (← (after-node-field .node-field .ensures), after-f2 .f2 .given .1, ← (after-node-field2 .node-field2 .ensures), after-t2 .t2 .given .1, ← (after-narrow16 .narrow16 .ensures), ← (after-narrow162 .narrow162 .ensures), ← (c .before .bad-edge .ensures), c .if1 .left), omega (arith, node-within _ _ _ _ _ (sym (after-node-field2 .node-field2 .ensures) ∙ after-t2 .t2 .given .1) .0))
 
 pub check-edge-spec : {M : Type 1} → statement M
 check-edge-spec =

@@ -17,32 +17,38 @@ Inv-loop s count start f t pair at₀ i₀ at i =
 abbrev μ-loop : tie.MeasureT-loop
 μ-loop s count start f t pair at₀ i₀ at i = count - i
 
+-- from a place to an earlier one
+abbrev to-loop : tie.Else1 Inv-loop μ-loop → tie.At-loop Inv-loop μ-loop
+to-loop c =
+    let in-loop = c .before .before .before in
+    in-loop .before
+
 loop-holds : tie.Need-loop-holds Inv-loop μ-loop
 loop-holds c =
     (search needs, search needs, rw sub-zero)
 
 returns : tie.Need-returns Inv-loop μ-loop
 returns c =
-    let c1 = c .before in
-    let c2 = c1 .before in
-    let c3 = c2 .before in
-    let c4 = c3 .before in
-    let c5 = c4 .before in
-    let c6 = c5 .before in
-    let c7 = c6 .before in
-    let k = c4 .loop .at + 2 in
-    let h : le16 (c7 .before .args .s .now) k < 65536 = omega (arith, c7 .shared-slice-known .given k, c7 .shared-slice-known .given (k + 1)) in
-    rw (← (c6 .wide16 .ensures .0), ← (c5 .wide162 .ensures .0))
-    (sym (c4 .loop .inv .2 ∙ pair-here _ _ _ _ _ _ (c3 .loop-test .taken) h (c6 .wide16 .ensures .1) (sym (c1 .wide32 .ensures .0 ∙ c2 .u32-at .ensures) ∙ c .if1 .taken)))
+    let after-wide32 = c .before in
+    let after-u32-at = after-wide32 .before in
+    let in-loop = after-u32-at .before in
+    let at-loop = in-loop .before in
+    let after-wide162 = at-loop .before in
+    let after-wide16 = after-wide162 .before in
+    let after-shared-slice-known = after-wide16 .before in
+    let k = at-loop .loop .at + 2 in
+    let h : le16 (after-shared-slice-known .before .args .s .now) k < 65536 = omega (arith, after-shared-slice-known .shared-slice-known .given k, after-shared-slice-known .shared-slice-known .given (k + 1)) in
+    rw (← (after-wide16 .wide16 .ensures .0), ← (after-wide162 .wide162 .ensures .0))
+    (sym (at-loop .loop .inv .2 ∙ pair-here _ _ _ _ _ _ (in-loop .loop-test .taken) h (after-wide16 .wide16 .ensures .1) (sym (after-wide32 .wide32 .ensures .0 ∙ after-u32-at .u32-at .ensures) ∙ c .if1 .taken)))
 
 loop-again : tie.Need-loop-again Inv-loop μ-loop
 loop-again c =
-    (search needs, search needs, c .before .before .before .before .loop .inv .2 ∙ pair-next _ _ _ _ _ _ (c .before .before .before .loop-test .taken) (λ q. c .if1 .left (c .before .wide32 .ensures .0 ∙ c .before .before .u32-at .ensures ∙ q)))
+    (search needs, search needs, to-loop c .loop .inv .2 ∙ pair-next _ _ _ _ _ _ (c .before .before .before .loop-test .taken) (λ q. c .if1 .left (c .before .wide32 .ensures .0 ∙ c .before .before .u32-at .ensures ∙ q)))
 
 returns-2 : tie.Need-returns-2 Inv-loop μ-loop
 returns-2 c =
-    let c2 = c .before .before in
-    rw (← (c2 .before .wide16 .ensures .0), ← (c2 .wide162 .ensures .0)) (sym (c .before .loop .inv .2 ∙ pair-end _ _ _ _ _ _ (c .loop-test .left)))
+    let after-wide162 = c .before .before in
+    rw (← (after-wide162 .before .wide16 .ensures .0), ← (after-wide162 .wide162 .ensures .0)) (sym (c .before .loop .inv .2 ∙ pair-end _ _ _ _ _ _ (c .loop-test .left)))
 
 pub pair-among-spec : {M : Type 1} → statement M
 pair-among-spec =

@@ -15,43 +15,75 @@ returns c =
 returns-2 : tie.Need-returns-2
 unfolding checkNode
 returns-2 c =
-    let c1 = c .before in
-    let c3 = c1 .before .before in
-    let c4 = c3 .before in
-    let c6 = c4 .before .before in
-    let c8 = c6 .before .before in
-    (rw (← (c8 .byte-field .ensures), c6 .k2 .given .1, ← (c4 .most-constant .ensures), ← (c3 .byte-field2 .ensures), c1 .c .given .1), tt)
+    let after-c = c .before in
+    let after-byte-field2 = after-c .before .before in
+    let after-most-constant = after-byte-field2 .before in
+    let after-k2 = after-most-constant .before .before in
+    let after-byte-field = after-k2 .before .before in
+    (rw (← (after-byte-field .byte-field .ensures), after-k2 .k2 .given .1, ← (after-most-constant .most-constant .ensures), ← (after-byte-field2 .byte-field2 .ensures), after-c .c .given .1), tt)
 
 returns-3 : tie.Need-returns-3
 unfolding checkNode
 returns-3 c =
-    let c1 = c .before in
-    let c3 = c1 .before .before in
-    let c5 = c3 .before .before in
-    let c7 = c5 .before .before in
-    let c8 = c7 .before in
-    let c10 = c8 .before .before in
-    let c12 = c10 .before .before in
-    (rw (← (c12 .byte-field .ensures), c10 .k2 .given .1, ← (c8 .most-constant .ensures), ← (c7 .byte-field2 .ensures), c5 .c2 .given .1, ← (c3 .check-bound .ensures), c1 .lo .given .1), tt)
+    let after-lo = c .before in
+    let after-check-bound = after-lo .before .before in
+    let after-c2 = after-check-bound .before .before in
+    let after-byte-field2 = after-c2 .before .before in
+    let after-most-constant = after-byte-field2 .before in
+    let after-k2 = after-most-constant .before .before in
+    let after-byte-field = after-k2 .before .before in
+    (rw (← (after-byte-field .byte-field .ensures), after-k2 .k2 .given .1, ← (after-most-constant .most-constant .ensures), ← (after-byte-field2 .byte-field2 .ensures), after-c2 .c2 .given .1, ← (after-check-bound .check-bound .ensures), after-lo .lo .given .1), tt)
 
 returns-4 : tie.Need-returns-4
 unfolding checkNode
 returns-4 c =
-    let c1 = c .before in
-    let c3 = c1 .before .before in
-    let c4 = c3 .before in
-    let c6 = c4 .before .before in
-    let c8 = c6 .before .before in
-    let c10 = c8 .before .before in
-    let c11 = c10 .before in
-    let c13 = c11 .before .before in
-    let c15 = c13 .before .before in
-    (rw (← (c15 .byte-field .ensures), c13 .k2 .given .1, ← (c11 .most-constant .ensures), ← (c10 .byte-field2 .ensures), c8 .c2 .given .1, ← (c6 .check-bound .ensures), c4 .enum-told .given .1, ← (c3 .check-bound2 .ensures), c1 .hi .given .1), tt)
+    let after-hi = c .before in
+    let after-check-bound2 = after-hi .before .before in
+    let after-enum-told = after-check-bound2 .before in
+    let after-check-bound = after-enum-told .before .before in
+    let after-c2 = after-check-bound .before .before in
+    let after-byte-field2 = after-c2 .before .before in
+    let after-most-constant = after-byte-field2 .before in
+    let after-k2 = after-most-constant .before .before in
+    let after-byte-field = after-k2 .before .before in
+    (rw (← (after-byte-field .byte-field .ensures), after-k2 .k2 .given .1, ← (after-most-constant .most-constant .ensures), ← (after-byte-field2 .byte-field2 .ensures), after-c2 .c2 .given .1, ← (after-check-bound .check-bound .ensures), after-enum-told .enum-told .given .1, ← (after-check-bound2 .check-bound2 .ensures), after-hi .hi .given .1), tt)
 
 returns-5 : tie.Need-returns-5
+
+-- from a place to an earlier one
+abbrev to-check-bound : tie.After-enum-told2 → tie.After-check-bound
+to-check-bound c =
+    let after-enum-told = c .before .before .before in
+    after-enum-told .before .before
+
+abbrev to-c2 : tie.After-enum-told2 → tie.After-c2
+to-c2 c =
+    let after-check-bound = to-check-bound c in
+    after-check-bound .before .before
+
+abbrev to-byte-field2 : tie.After-enum-told2 → tie.After-byte-field2
+to-byte-field2 c =
+    let after-c2 = to-c2 c in
+    after-c2 .before .before
+
+abbrev to-most-constant : tie.After-enum-told2 → tie.After-most-constant
+to-most-constant c =
+    let after-byte-field2 = to-byte-field2 c in
+    after-byte-field2 .before
+
+abbrev to-k2 : tie.After-enum-told2 → tie.After-k2
+to-k2 c =
+    let after-most-constant = to-most-constant c in
+    after-most-constant .before .before
+
+abbrev to-byte-field : tie.After-enum-told2 → tie.After-byte-field
+to-byte-field c =
+    let after-k2 = to-k2 c in
+    after-k2 .before .before
+
 unfolding checkNode
 returns-5 c = (
-  rw (← (c .before .before .before .before .before .before .before .before .before .before .before .before .before .before .byte-field .ensures), c .before .before .before .before .before .before .before .before .before .before .before .before .k2 .given .1, ← (c .before .before .before .before .before .before .before .before .before .before .most-constant .ensures), ← (c .before .before .before .before .before .before .before .before .before .byte-field2 .ensures), c .before .before .before .before .before .before .before .c2 .given .1, ← (c .before .before .before .before .before .check-bound .ensures), c .before .before .before .enum-told .given .1, ← (c .before .before .check-bound2 .ensures), c .enum-told2 .given .1),
+  rw (← (to-byte-field c .byte-field .ensures), to-k2 c .k2 .given .1, ← (to-most-constant c .most-constant .ensures), ← (to-byte-field2 c .byte-field2 .ensures), to-c2 c .c2 .given .1, ← (to-check-bound c .check-bound .ensures), c .before .before .before .enum-told .given .1, ← (c .before .before .check-bound2 .ensures), c .enum-told2 .given .1),
   omega (arith, bound-within _ _ _ _ _ (sym (c .before .before .check-bound2 .ensures) ∙ c .enum-told2 .given .1) .0),
 )
 

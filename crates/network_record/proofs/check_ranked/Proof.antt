@@ -21,9 +21,30 @@ unfolding checkRanked
 returns-3 c =
     (rw (ne-eqb _ _ (c .before .before .if1 .left), eq-eqb _ _ (c .before .if3 .taken), le-ltb _ _ (c .if4 .taken)), tt)
 
+-- from a place to an earlier one
+abbrev to-start : tie.Else4 → tie.Start
+to-start c =
+    let after-shared-slice-known = c .before .before .before in
+    after-shared-slice-known .before
+
+abbrev to-else1-from-then8 : tie.Then8 → tie.Else1
+to-else1-from-then8 c =
+    let else3 = c .before .before .before in
+    else3 .before
+
+abbrev to-else3 : tie.After-check-virtual-storage → tie.Else3
+to-else3 c =
+    let else5 = c .before .before .before in
+    else5 .before
+
+abbrev to-else1-from-check-virtual-storage : tie.After-check-virtual-storage → tie.Else1
+to-else1-from-check-virtual-storage c =
+    let else3 = to-else3 c in
+    else3 .before
+
 check-edge-requires : tie.Need-check-edge-requires
 check-edge-requires c κs =
-    (search needs, c .before .before .before .before .pre .1 (c .before .if3 .taken), omega arith)
+    (search needs, to-start c .pre .1 (c .before .if3 .taken), omega arith)
 
 returns-4 : tie.Need-returns-4
 unfolding checkRanked
@@ -38,21 +59,21 @@ returns-5 c =
 returns-6 : tie.Need-returns-6
 unfolding checkRanked
 returns-6 c =
-    let c1 = c .before in
-    let c2 = c1 .before in
-    let c3 = c2 .before in
-    let c4 = c3 .before in
-    (rw (ne-eqb _ _ (c4 .if1 .left), ne-eqb _ _ (c3 .if3 .left), eq-eqb _ _ (c2 .if5 .taken), lt-ltb _ _ (c1 .if6 .left)) (c .check-aggregate .ensures .0), c .check-aggregate .ensures .1)
+    let else6 = c .before in
+    let then5 = else6 .before in
+    let else3 = then5 .before in
+    let else1 = else3 .before in
+    (rw (ne-eqb _ _ (else1 .if1 .left), ne-eqb _ _ (else3 .if3 .left), eq-eqb _ _ (then5 .if5 .taken), lt-ltb _ _ (else6 .if6 .left)) (c .check-aggregate .ensures .0), c .check-aggregate .ensures .1)
 
 returns-7 : tie.Need-returns-7
 unfolding checkRanked
 returns-7 c =
-    (rw (ne-eqb _ _ (c .before .before .before .before .if1 .left), ne-eqb _ _ (c .before .before .before .if3 .left), ne-eqb _ _ (c .before .before .if5 .left), eq-eqb _ _ (c .before .if7 .taken), le-ltb _ _ (c .if8 .taken)), tt)
+    (rw (ne-eqb _ _ (to-else1-from-then8 c .if1 .left), ne-eqb _ _ (c .before .before .before .if3 .left), ne-eqb _ _ (c .before .before .if5 .left), eq-eqb _ _ (c .before .if7 .taken), le-ltb _ _ (c .if8 .taken)), tt)
 
 returns-8 : tie.Need-returns-8
 unfolding checkRanked
 returns-8 c = (
-  rw (ne-eqb _ _ (c .before .before .before .before .before .if1 .left), ne-eqb _ _ (c .before .before .before .before .if3 .left), ne-eqb _ _ (c .before .before .before .if5 .left), eq-eqb _ _ (c .before .before .if7 .taken), lt-ltb _ _ (c .before .if8 .left)) (c .check-virtual-storage .ensures .0),
+  rw (ne-eqb _ _ (to-else1-from-check-virtual-storage c .if1 .left), ne-eqb _ _ (to-else3 c .if3 .left), ne-eqb _ _ (c .before .before .before .if5 .left), eq-eqb _ _ (c .before .before .if7 .taken), lt-ltb _ _ (c .before .if8 .left)) (c .check-virtual-storage .ensures .0),
   c .check-virtual-storage .ensures .1,
 )
 

@@ -16,65 +16,105 @@ returns c =
     (rw (lt-leb (c .before .before .args .at + 2) (length (c .before .before .args .s .now)) (omega arith)), tt)
 
 returns-2 : tie.Need-returns-2
+
+-- from a place to an earlier one
+abbrev to-start-from-else2 : tie.Else2 → tie.Start
+to-start-from-else2 c =
+    let after-shared-slice-known = c .before .before .before in
+    after-shared-slice-known .before
+
+abbrev to-start-from-then2 : tie.Then2 → tie.Start
+to-start-from-then2 c =
+    let after-shared-slice-known = c .before .before .before in
+    after-shared-slice-known .before
+
+abbrev to-else2-from-known-told : tie.After-known-told → tie.Else2
+to-else2-from-known-told c =
+    let after-check-ranked = c .before .before .before in
+    after-check-ranked .before
+
+abbrev to-mark-rank-from-known-told : tie.After-known-told → tie.After-mark-rank
+to-mark-rank-from-known-told c =
+    let else2 = to-else2-from-known-told c in
+    else2 .before
+
+abbrev to-check-ranked : tie.Then3 → tie.After-check-ranked
+to-check-ranked c =
+    let at-match-keys2 = c .before .before .before in
+    at-match-keys2 .before
+
+abbrev to-else2-from-then3 : tie.Then3 → tie.Else2
+to-else2-from-then3 c =
+    let after-check-ranked = to-check-ranked c in
+    after-check-ranked .before
+
+abbrev to-mark-rank-from-then3 : tie.Then3 → tie.After-mark-rank
+to-mark-rank-from-then3 c =
+    let else2 = to-else2-from-then3 c in
+    else2 .before
+
 unfolding checkRecord
 returns-2 c =
-    (rw (le-leb (c .before .before .before .before .args .at + 2) (length (c .before .before .before .before .args .s .now)) (omega arith), ← (c .before .mark-rank .ensures), lt-ltb _ _ (c .if2 .taken)), tt)
+    let start = to-start-from-then2 c in
+    (rw (le-leb (start .args .at + 2) (length (start .args .s .now)) (omega arith), ← (c .before .mark-rank .ensures), lt-ltb _ _ (c .if2 .taken)), tt)
 
 check-ranked-requires : tie.Need-check-ranked-requires
 check-ranked-requires c κs =
-    (omega arith, λ q. let h = c .before .before .before .before .pre .1 (omega (arith, q)) in omega (arith, h), c .before .before .before .before .pre .2)
+    let start = to-start-from-else2 c in
+    (omega arith, λ q. let h = start .pre .1 (omega (arith, q)) in omega (arith, h), start .pre .2)
 
 returns-3 : tie.Need-returns-3
 returns-3 c =
-    let e = sym (c .before .before .before .before .check-ranked .ensures .0) ∙ c .before .before .r2 .given .1 in
+    let after-check-ranked = to-check-ranked c in
+    let e = sym (after-check-ranked .check-ranked .ensures .0) ∙ c .before .before .r2 .given .1 in
     let h = ranked-node _ _ _ _ _ _ _ _ e (c .if3 .taken) in (
-      sym (in-order _ _ _ _ _ _ _ _ _ (omega arith) (c .before .before .before .before .before .before .mark-rank .ensures) (c .before .before .before .before .before .if2 .left) e ∙ rw (eq-eqb _ _ (c .if3 .taken))),
-      (omega arith, h .0, h .1, (rw (c .before .before .r2 .given .1) at (c .before .before .before .before .check-ranked .ensures .1))),
+      sym (in-order _ _ _ _ _ _ _ _ _ (omega arith) (to-mark-rank-from-then3 c .mark-rank .ensures) (to-else2-from-then3 c .if2 .left) e ∙ rw (eq-eqb _ _ (c .if3 .taken))),
+      (omega arith, h .0, h .1, (rw (c .before .before .r2 .given .1) at (after-check-ranked .check-ranked .ensures .1))),
     )
 
 returns-4 : tie.Need-returns-4
 returns-4 c =
-    let c1 = c .before in
-    let c3 = c1 .before .before in
-    let c5 = c3 .before .before in
-    let c6 = c5 .before in
-    let c7 = c6 .before in
-    let e = sym (c5 .check-ranked .ensures .0) ∙ c3 .r2 .given .1 in
+    let else3 = c .before in
+    let after-r2 = else3 .before .before in
+    let after-check-ranked = after-r2 .before .before in
+    let else2 = after-check-ranked .before in
+    let after-mark-rank = else2 .before in
+    let e = sym (after-check-ranked .check-ranked .ensures .0) ∙ after-r2 .r2 .given .1 in
     let h = ranked-edge _ _ _ _ _ _ _ _ e (c .if4 .taken) in (
-      sym (in-order _ _ _ _ _ _ _ _ _ (omega arith) (c7 .mark-rank .ensures) (c6 .if2 .left) e ∙ rw (ne-eqb _ _ (c1 .if3 .left), eq-eqb _ _ (c .if4 .taken))),
-      (omega arith, h .0, h .1, (rw (c3 .r2 .given .1) at (c5 .check-ranked .ensures .1))),
+      sym (in-order _ _ _ _ _ _ _ _ _ (omega arith) (after-mark-rank .mark-rank .ensures) (else2 .if2 .left) e ∙ rw (ne-eqb _ _ (else3 .if3 .left), eq-eqb _ _ (c .if4 .taken))),
+      (omega arith, h .0, h .1, (rw (after-r2 .r2 .given .1) at (after-check-ranked .check-ranked .ensures .1))),
     )
 
 returns-5 : tie.Need-returns-5
 returns-5 c =
-    let c1 = c .before in
-    let c2 = c1 .before in
-    let c4 = c2 .before .before in
-    let c6 = c4 .before .before in
-    let c7 = c6 .before in
-    let c8 = c7 .before in
-    let e = sym (c6 .check-ranked .ensures .0) ∙ c4 .r2 .given .1 in
+    let else4 = c .before in
+    let else3 = else4 .before in
+    let after-r2 = else3 .before .before in
+    let after-check-ranked = after-r2 .before .before in
+    let else2 = after-check-ranked .before in
+    let after-mark-rank = else2 .before in
+    let e = sym (after-check-ranked .check-ranked .ensures .0) ∙ after-r2 .r2 .given .1 in
     let h = ranked-aggregate _ _ _ _ _ _ _ _ e (c .if5 .taken) in (
-      sym (in-order _ _ _ _ _ _ _ _ _ (omega arith) (c8 .mark-rank .ensures) (c7 .if2 .left) e ∙ rw (ne-eqb _ _ (c2 .if3 .left), ne-eqb _ _ (c1 .if4 .left), eq-eqb _ _ (c .if5 .taken))),
-      (omega arith, h .0, h .1, (rw (c4 .r2 .given .1) at (c6 .check-ranked .ensures .1))),
+      sym (in-order _ _ _ _ _ _ _ _ _ (omega arith) (after-mark-rank .mark-rank .ensures) (else2 .if2 .left) e ∙ rw (ne-eqb _ _ (else3 .if3 .left), ne-eqb _ _ (else4 .if4 .left), eq-eqb _ _ (c .if5 .taken))),
+      (omega arith, h .0, h .1, (rw (after-r2 .r2 .given .1) at (after-check-ranked .check-ranked .ensures .1))),
     )
 
 returns-6 : tie.Need-returns-6
 returns-6 c =
-    (sym (in-order _ _ _ _ _ _ _ _ _ (omega arith) (c .before .before .before .before .before .mark-rank .ensures) (c .before .before .before .before .if2 .left) (sym (c .before .before .before .check-ranked .ensures .0) ∙ c .before .r .given .1)), tt)
+    (sym (in-order _ _ _ _ _ _ _ _ _ (omega arith) (to-mark-rank-from-known-told c .mark-rank .ensures) (to-else2-from-known-told c .if2 .left) (sym (c .before .before .before .check-ranked .ensures .0) ∙ c .before .r .given .1)), tt)
 
 returns-7 : tie.Need-returns-7
 returns-7 c =
-    let c1 = c .before in
-    let c2 = c1 .before in
-    let c4 = c2 .before .before in
-    let c6 = c4 .before .before in
-    let c7 = c6 .before in
-    let c8 = c7 .before in
-    let e = sym (c6 .check-ranked .ensures .0) ∙ c4 .r2 .given .1 in
-    let h = ranked-last _ _ _ _ _ _ _ _ e (c2 .if3 .left) (c1 .if4 .left) (c .if5 .left) in (
-      sym (in-order _ _ _ _ _ _ _ _ _ (omega arith) (c8 .mark-rank .ensures) (c7 .if2 .left) e ∙ rw (ne-eqb _ _ (c2 .if3 .left), ne-eqb _ _ (c1 .if4 .left), ne-eqb _ _ (c .if5 .left))),
-      (omega (arith, h .0), h .1, h .2, (rw (c4 .r2 .given .1) at (c6 .check-ranked .ensures .1))),
+    let else4 = c .before in
+    let else3 = else4 .before in
+    let after-r2 = else3 .before .before in
+    let after-check-ranked = after-r2 .before .before in
+    let else2 = after-check-ranked .before in
+    let after-mark-rank = else2 .before in
+    let e = sym (after-check-ranked .check-ranked .ensures .0) ∙ after-r2 .r2 .given .1 in
+    let h = ranked-last _ _ _ _ _ _ _ _ e (else3 .if3 .left) (else4 .if4 .left) (c .if5 .left) in (
+      sym (in-order _ _ _ _ _ _ _ _ _ (omega arith) (after-mark-rank .mark-rank .ensures) (else2 .if2 .left) e ∙ rw (ne-eqb _ _ (else3 .if3 .left), ne-eqb _ _ (else4 .if4 .left), ne-eqb _ _ (c .if5 .left))),
+      (omega (arith, h .0), h .1, h .2, (rw (after-r2 .r2 .given .1) at (after-check-ranked .check-ranked .ensures .1))),
     )
 
 pub check-record-spec : {M : Type 1} → statement M

@@ -5,66 +5,78 @@ use Rattle.network_virtual_storage.proofs.check_dates.Statement.{statem
 use Rattle.network_virtual_storage.proofs.check_dates.Tie as tie
 
 returns : tie.Need-returns
+
+-- from a place to an earlier one
+abbrev to-most-date : tie.After-known-told → tie.After-most-date
+to-most-date c =
+    let after-byte-field = c .before .before .before in
+    after-byte-field .before .before
+
+abbrev to-least-date : tie.After-known-told → tie.After-least-date
+to-least-date c =
+    let after-most-date = to-most-date c in
+    after-most-date .before
+
 unfolding checkDates
 returns c =
-    rw (← (c .before .before .before .before .before .before .least-date .ensures), ← (c .before .before .before .before .before .most-date .ensures), ← (c .before .before .before .byte-field .ensures), c .before .a .given .1)
+    rw (← (to-least-date c .least-date .ensures), ← (to-most-date c .most-date .ensures), ← (c .before .before .before .byte-field .ensures), c .before .a .given .1)
 
 returns-2 : tie.Need-returns-2
 unfolding checkDates
 returns-2 c =
-    let c1 = c .before in
-    let c3 = c1 .before .before in
-    let c4 = c3 .before in
-    let c6 = c4 .before .before in
-    let c7 = c6 .before in
-    let c8 = c7 .before in
-    let c9 = c8 .before in
-    rw (← (c9 .least-date .ensures), ← (c8 .most-date .ensures), ← (c7 .most-date2 .ensures), ← (c6 .byte-field .ensures), c4 .enum-told .given .1, ← (c3 .byte-field2 .ensures), c1 .b .given .1)
+    let after-b = c .before in
+    let after-byte-field2 = after-b .before .before in
+    let after-enum-told = after-byte-field2 .before in
+    let after-byte-field = after-enum-told .before .before in
+    let after-most-date2 = after-byte-field .before in
+    let after-most-date = after-most-date2 .before in
+    let after-least-date = after-most-date .before in
+    rw (← (after-least-date .least-date .ensures), ← (after-most-date .most-date .ensures), ← (after-most-date2 .most-date2 .ensures), ← (after-byte-field .byte-field .ensures), after-enum-told .enum-told .given .1, ← (after-byte-field2 .byte-field2 .ensures), after-b .b .given .1)
 
 returns-3 : tie.Need-returns-3
 unfolding checkDates
 returns-3 c =
-    let c1 = c .before in
-    let c3 = c1 .before .before in
-    let c4 = c3 .before in
-    let c6 = c4 .before .before in
-    let c7 = c6 .before in
-    let c9 = c7 .before .before in
-    let c10 = c9 .before in
-    let c11 = c10 .before in
-    let c12 = c11 .before in
-    rw (← (c12 .least-date .ensures), ← (c11 .most-date .ensures), ← (c10 .most-date2 .ensures), ← (c9 .byte-field .ensures), c7 .enum-told .given .1, ← (c6 .byte-field2 .ensures), c4 .enum-told2 .given .1, ← (c3 .byte-field3 .ensures), c1 .c .given .1)
+    let after-c = c .before in
+    let after-byte-field3 = after-c .before .before in
+    let after-enum-told2 = after-byte-field3 .before in
+    let after-byte-field2 = after-enum-told2 .before .before in
+    let after-enum-told = after-byte-field2 .before in
+    let after-byte-field = after-enum-told .before .before in
+    let after-most-date2 = after-byte-field .before in
+    let after-most-date = after-most-date2 .before in
+    let after-least-date = after-most-date .before in
+    rw (← (after-least-date .least-date .ensures), ← (after-most-date .most-date .ensures), ← (after-most-date2 .most-date2 .ensures), ← (after-byte-field .byte-field .ensures), after-enum-told .enum-told .given .1, ← (after-byte-field2 .byte-field2 .ensures), after-enum-told2 .enum-told2 .given .1, ← (after-byte-field3 .byte-field3 .ensures), after-c .c .given .1)
 
 returns-4 : tie.Need-returns-4
 unfolding checkDates
 returns-4 c =
-    let c1 = c .before in
-    let c3 = c1 .before .before in
-    let c4 = c3 .before in
-    let c6 = c4 .before .before in
-    let c7 = c6 .before in
-    let c9 = c7 .before .before in
-    let c10 = c9 .before in
-    let c12 = c10 .before .before in
-    let c13 = c12 .before in
-    let c14 = c13 .before in
-    let c15 = c14 .before in
-    rw (← (c15 .least-date .ensures), ← (c14 .most-date .ensures), ← (c13 .most-date2 .ensures), ← (c12 .byte-field .ensures), c10 .enum-told .given .1, ← (c9 .byte-field2 .ensures), c7 .enum-told2 .given .1, ← (c6 .byte-field3 .ensures), c4 .enum-told3 .given .1, ← (c3 .byte-field4 .ensures), c1 .d .given .1)
+    let after-d = c .before in
+    let after-byte-field4 = after-d .before .before in
+    let after-enum-told3 = after-byte-field4 .before in
+    let after-byte-field3 = after-enum-told3 .before .before in
+    let after-enum-told2 = after-byte-field3 .before in
+    let after-byte-field2 = after-enum-told2 .before .before in
+    let after-enum-told = after-byte-field2 .before in
+    let after-byte-field = after-enum-told .before .before in
+    let after-most-date2 = after-byte-field .before in
+    let after-most-date = after-most-date2 .before in
+    let after-least-date = after-most-date .before in
+    rw (← (after-least-date .least-date .ensures), ← (after-most-date .most-date .ensures), ← (after-most-date2 .most-date2 .ensures), ← (after-byte-field .byte-field .ensures), after-enum-told .enum-told .given .1, ← (after-byte-field2 .byte-field2 .ensures), after-enum-told2 .enum-told2 .given .1, ← (after-byte-field3 .byte-field3 .ensures), after-enum-told3 .enum-told3 .given .1, ← (after-byte-field4 .byte-field4 .ensures), after-d .d .given .1)
 
 returns-5 : tie.Need-returns-5
 unfolding checkDates
 returns-5 c =
-    let c2 = c .before .before in
-    let c3 = c2 .before in
-    let c5 = c3 .before .before in
-    let c6 = c5 .before in
-    let c8 = c6 .before .before in
-    let c9 = c8 .before in
-    let c11 = c9 .before .before in
-    let c12 = c11 .before in
-    let c13 = c12 .before in
-    let c14 = c13 .before in
-    rw (← (c14 .least-date .ensures), ← (c13 .most-date .ensures), ← (c12 .most-date2 .ensures), ← (c11 .byte-field .ensures), c9 .enum-told .given .1, ← (c8 .byte-field2 .ensures), c6 .enum-told2 .given .1, ← (c5 .byte-field3 .ensures), c3 .enum-told3 .given .1, ← (c2 .byte-field4 .ensures), c .enum-told4 .given .1)
+    let after-byte-field4 = c .before .before in
+    let after-enum-told3 = after-byte-field4 .before in
+    let after-byte-field3 = after-enum-told3 .before .before in
+    let after-enum-told2 = after-byte-field3 .before in
+    let after-byte-field2 = after-enum-told2 .before .before in
+    let after-enum-told = after-byte-field2 .before in
+    let after-byte-field = after-enum-told .before .before in
+    let after-most-date2 = after-byte-field .before in
+    let after-most-date = after-most-date2 .before in
+    let after-least-date = after-most-date .before in
+    rw (← (after-least-date .least-date .ensures), ← (after-most-date .most-date .ensures), ← (after-most-date2 .most-date2 .ensures), ← (after-byte-field .byte-field .ensures), after-enum-told .enum-told .given .1, ← (after-byte-field2 .byte-field2 .ensures), after-enum-told2 .enum-told2 .given .1, ← (after-byte-field3 .byte-field3 .ensures), after-enum-told3 .enum-told3 .given .1, ← (after-byte-field4 .byte-field4 .ensures), c .enum-told4 .given .1)
 
 pub check-dates-spec : {M : Type 1} → statement M
 check-dates-spec =

@@ -19,6 +19,32 @@ Inv-loop s place nodes count at here₀ i₀ here i =
 abbrev μ-loop : tie.MeasureT-loop
 μ-loop s place nodes count at here₀ i₀ here i = count - i
 
+-- from a place to an earlier one
+abbrev to-in-loop-from-known-told : tie.After-known-told Inv-loop μ-loop → tie.In-loop Inv-loop μ-loop
+to-in-loop-from-known-told c =
+    let after-node-field = c .before .before .before in
+    after-node-field .before
+
+abbrev to-loop-from-known-told : tie.After-known-told Inv-loop μ-loop → tie.At-loop Inv-loop μ-loop
+to-loop-from-known-told c =
+    let in-loop = to-in-loop-from-known-told c in
+    in-loop .before
+
+abbrev to-node-field : tie.After-enum-told2 Inv-loop μ-loop → tie.After-node-field Inv-loop μ-loop
+to-node-field c =
+    let after-enum-told = c .before .before .before in
+    after-enum-told .before .before
+
+abbrev to-in-loop-from-enum-told2 : tie.After-enum-told2 Inv-loop μ-loop → tie.In-loop Inv-loop μ-loop
+to-in-loop-from-enum-told2 c =
+    let after-node-field = to-node-field c in
+    after-node-field .before
+
+abbrev to-loop-from-enum-told2 : tie.After-enum-told2 Inv-loop μ-loop → tie.At-loop Inv-loop μ-loop
+to-loop-from-enum-told2 c =
+    let in-loop = to-in-loop-from-enum-told2 c in
+    in-loop .before
+
 loop-holds : tie.Need-loop-holds Inv-loop μ-loop
 loop-holds c =
     (search needs, rw sub-zero)
@@ -26,7 +52,7 @@ loop-holds c =
 returns : tie.Need-returns Inv-loop μ-loop
 unfolding checkPart
 returns c =
-    (sym (c .before .before .before .before .before .loop .inv .1 ∙ each-refused _ _ _ _ _ _ (c .before .before .before .before .loop-test .taken) (rw (← (c .before .before .before .node-field .ensures), c .before .f .given .1))), tt)
+    (sym (to-loop-from-known-told c .loop .inv .1 ∙ each-refused _ _ _ _ _ _ (to-in-loop-from-known-told c .loop-test .taken) (rw (← (c .before .before .before .node-field .ensures), c .before .f .given .1))), tt)
 
 add-check-factor : tie.Need-add-check-factor Inv-loop μ-loop
 add-check-factor c =
@@ -35,13 +61,13 @@ add-check-factor c =
 returns-2 : tie.Need-returns-2 Inv-loop μ-loop
 unfolding checkPart
 returns-2 c =
-    let c1 = c .before in
-    let c3 = c1 .before .before in
-    let c4 = c3 .before in
-    let c6 = c4 .before .before in
-    let c7 = c6 .before in
-    let c8 = c7 .before in
-    (sym (c8 .loop .inv .1 ∙ each-refused _ _ _ _ _ _ (c7 .loop-test .taken) (rw (← (c6 .node-field .ensures), c4 .enum-told .given .1, ← (c3 .check-factor .ensures), c1 .r .given .1))), tt)
+    let after-r = c .before in
+    let after-check-factor = after-r .before .before in
+    let after-enum-told = after-check-factor .before in
+    let after-node-field = after-enum-told .before .before in
+    let in-loop = after-node-field .before in
+    let at-loop = in-loop .before in
+    (sym (at-loop .loop .inv .1 ∙ each-refused _ _ _ _ _ _ (in-loop .loop-test .taken) (rw (← (after-node-field .node-field .ensures), after-enum-told .enum-told .given .1, ← (after-check-factor .check-factor .ensures), after-r .r .given .1))), tt)
 
 add-here : tie.Need-add-here Inv-loop μ-loop
 add-here c =
@@ -51,7 +77,7 @@ loop-again : tie.Need-loop-again Inv-loop μ-loop
 unfolding checkPart
 loop-again c = (
   omega (arith, factor-within _ _ _ _ (sym (c .before .before .check-factor .ensures) ∙ c .enum-told2 .given .1) .0),
-  c .before .before .before .before .before .before .before .loop .inv .1 ∙ each-more _ _ _ _ _ (c .before .before .before .before .before .before .loop-test .taken) (rw (← (c .before .before .before .before .before .node-field .ensures), c .before .before .before .enum-told .given .1, ← (c .before .before .check-factor .ensures), c .enum-told2 .given .1)),
+  to-loop-from-enum-told2 c .loop .inv .1 ∙ each-more _ _ _ _ _ (to-in-loop-from-enum-told2 c .loop-test .taken) (rw (← (to-node-field c .node-field .ensures), c .before .before .before .enum-told .given .1, ← (c .before .before .check-factor .ensures), c .enum-told2 .given .1)),
 )
 
 returns-3 : tie.Need-returns-3 Inv-loop μ-loop

@@ -17,31 +17,43 @@ returns c =
     (rw (← (c .before .before .before .byte-field .ensures), c .before .k .given .1), tt)
 
 returns-2 : tie.Need-returns-2
+
+-- from a place to an earlier one
+abbrev to-k2 : tie.After-known-told3 → tie.After-k2
+to-k2 c =
+    let after-check-dates = c .before .before .before in
+    after-check-dates .before .before
+
+abbrev to-byte-field : tie.After-known-told3 → tie.After-byte-field
+to-byte-field c =
+    let after-k2 = to-k2 c in
+    after-k2 .before .before
+
 unfolding checkVirtualStorage
 returns-2 c =
-    (rw (← (c .before .before .before .before .before .before .before .byte-field .ensures), c .before .before .before .before .before .k2 .given .1, ← (c .before .before .before .check-dates .ensures), c .before .d .given .1), tt)
+    (rw (← (to-byte-field c .byte-field .ensures), to-k2 c .k2 .given .1, ← (c .before .before .before .check-dates .ensures), c .before .d .given .1), tt)
 
 returns-3 : tie.Need-returns-3
 unfolding checkVirtualStorage
 returns-3 c =
-    let c1 = c .before in
-    let c3 = c1 .before .before in
-    let c4 = c3 .before in
-    let c6 = c4 .before .before in
-    let c8 = c6 .before .before in
-    let c10 = c8 .before .before in
-    (rw (← (c10 .byte-field .ensures), c8 .k2 .given .1, ← (c6 .check-dates .ensures), c4 .enum-told .given .1, ← (c3 .byte-field2 .ensures), c1 .c .given .1), tt)
+    let after-c = c .before in
+    let after-byte-field2 = after-c .before .before in
+    let after-enum-told = after-byte-field2 .before in
+    let after-check-dates = after-enum-told .before .before in
+    let after-k2 = after-check-dates .before .before in
+    let after-byte-field = after-k2 .before .before in
+    (rw (← (after-byte-field .byte-field .ensures), after-k2 .k2 .given .1, ← (after-check-dates .check-dates .ensures), after-enum-told .enum-told .given .1, ← (after-byte-field2 .byte-field2 .ensures), after-c .c .given .1), tt)
 
 returns-4 : tie.Need-returns-4
 unfolding checkVirtualStorage
 returns-4 c =
-    let c2 = c .before .before in
-    let c4 = c2 .before .before in
-    let c5 = c4 .before in
-    let c7 = c5 .before .before in
-    let c9 = c7 .before .before in
-    let c11 = c9 .before .before in
-    (rw (← (c11 .byte-field .ensures), c9 .k2 .given .1, ← (c7 .check-dates .ensures), c5 .enum-told .given .1, ← (c4 .byte-field2 .ensures), c2 .c2 .given .1) (c .check-parts .ensures .0), c .check-parts .ensures .1)
+    let after-c2 = c .before .before in
+    let after-byte-field2 = after-c2 .before .before in
+    let after-enum-told = after-byte-field2 .before in
+    let after-check-dates = after-enum-told .before .before in
+    let after-k2 = after-check-dates .before .before in
+    let after-byte-field = after-k2 .before .before in
+    (rw (← (after-byte-field .byte-field .ensures), after-k2 .k2 .given .1, ← (after-check-dates .check-dates .ensures), after-enum-told .enum-told .given .1, ← (after-byte-field2 .byte-field2 .ensures), after-c2 .c2 .given .1) (c .check-parts .ensures .0), c .check-parts .ensures .1)
 
 pub check-virtual-storage-spec : {M : Type 1} → statement M
 check-virtual-storage-spec =

@@ -12,19 +12,25 @@ use Rattle.step_checks.proofs.judge.Tie as tie
 well-shaped-requires : tie.Need-well-shaped-requires
 well-shaped-requires c κs = search needs
 
+-- from a place to an earlier one
+abbrev to-start : tie.After-well-shaped → tie.Start
+to-start c =
+    let after-shared-slice-known3 = c .before .before .before in
+    after-shared-slice-known3 .before .before .before
+
 returns : tie.Need-returns
 returns c =
-    let c1 = c .before in
-    let c7 = c1 .before .before .before .before .before .before in
-    λ s ec es eh. judged-shape s (c7 .args .file .now) _ (sym (c1 .well-shaped .ensures s ec es eh) ∙ not-true (c1 .well-shaped .result) (c .if1 .taken))
+    let after-well-shaped = c .before in
+    let start = to-start after-well-shaped in
+    λ s ec es eh. judged-shape s (start .args .file .now) _ (sym (after-well-shaped .well-shaped .ensures s ec es eh) ∙ not-true (after-well-shaped .well-shaped .result) (c .if1 .taken))
 
 read-step-requires : tie.Need-read-step-requires
 read-step-requires c κs =
-    let c1 = c .before in
-    let c7 = c1 .before .before .before .before .before .before in
-    let s = ofRuns (c7 .args .columns .now) (c7 .args .row-starts .now) (c7 .args .shape .now) in
-    let n = shaped s (sym (c1 .well-shaped .ensures s refl refl refl) ∙ not-false (c1 .well-shaped .result) (c .if1 .left)) .counts in
-    (c7 .pre .2, n .nodes, n .aggregates, n .virtualStorages)
+    let after-well-shaped = c .before in
+    let start = to-start after-well-shaped in
+    let s = ofRuns (start .args .columns .now) (start .args .row-starts .now) (start .args .shape .now) in
+    let n = shaped s (sym (after-well-shaped .well-shaped .ensures s refl refl refl) ∙ not-false (after-well-shaped .well-shaped .result) (c .if1 .left)) .counts in
+    (start .pre .2, n .nodes, n .aggregates, n .virtualStorages)
 
 enum-known-read : tie.Need-enum-known-read
 enum-known-read c = search needs
@@ -34,25 +40,25 @@ enum-told c = search needs
 
 find-intervals-requires : tie.Need-find-intervals-requires
 find-intervals-requires c κs =
-    let c1 = c .before in
-    let c3 = c1 .before .before in
-    let c4 = c3 .before in
-    let c5 = c4 .before in
-    let c11 = c5 .before .before .before .before .before .before in
-    let s = ofRuns (c11 .args .columns .now) (c11 .args .row-starts .now) (c11 .args .shape .now) in
-    let ok = sym (c5 .well-shaped .ensures s refl refl refl) ∙ not-false (c5 .well-shaped .result) (c4 .if1 .left) in
+    let after-enum-told = c .before in
+    let after-read-step = after-enum-told .before .before in
+    let else1 = after-read-step .before in
+    let after-well-shaped = else1 .before in
+    let start = to-start after-well-shaped in
+    let s = ofRuns (start .args .columns .now) (start .args .row-starts .now) (start .args .shape .now) in
+    let ok = sym (after-well-shaped .well-shaped .ensures s refl refl refl) ∙ not-false (after-well-shaped .well-shaped .result) (else1 .if1 .left) in
     let n = shaped s ok .counts in
-    (c11 .pre .2, c11 .pre .3, n .nodes, n .aggregates, n .virtualStorages, long s (c11 .args .file .now) (c11 .args .work .now) ok (sym (c1 .enum-told .given .1) ∙ c3 .read-step .ensures s refl))
+    (start .pre .2, start .pre .3, n .nodes, n .aggregates, n .virtualStorages, long s (start .args .file .now) (start .args .work .now) ok (sym (after-enum-told .enum-told .given .1) ∙ after-read-step .read-step .ensures s refl))
 
 returns-2 : tie.Need-returns-2
 returns-2 c =
-    let c1 = c .before in
-    let c3 = c1 .before .before in
-    let c4 = c3 .before in
-    let c5 = c4 .before in
-    let c11 = c5 .before .before .before .before .before .before in
-    λ s ec es eh. judged-file s (c11 .args .file .now) _ (sym (c5 .well-shaped .ensures s ec es eh) ∙ not-false (c5 .well-shaped .result) (c4 .if1 .left))
-    (sym (c1 .read .given .1) ∙ c3 .read-step .ensures s eh)
+    let after-read = c .before in
+    let after-read-step = after-read .before .before in
+    let else1 = after-read-step .before in
+    let after-well-shaped = else1 .before in
+    let start = to-start after-well-shaped in
+    λ s ec es eh. judged-file s (start .args .file .now) _ (sym (after-well-shaped .well-shaped .ensures s ec es eh) ∙ not-false (after-well-shaped .well-shaped .result) (else1 .if1 .left))
+    (sym (after-read .read .given .1) ∙ after-read-step .read-step .ensures s eh)
 
 same-length : tie.Need-same-length
 same-length c = search needs
@@ -60,16 +66,16 @@ same-length c = search needs
 returns-3 : tie.Need-returns-3
 unfolding intervalsIn
 returns-3 c =
-    let c2 = c .before .before in
-    let c4 = c2 .before .before in
-    let c6 = c4 .before .before in
-    let c7 = c6 .before in
-    let c8 = c7 .before in
-    let c14 = c8 .before .before .before .before .before .before in
+    let after-find-intervals = c .before .before in
+    let after-enum-told = after-find-intervals .before .before in
+    let after-read-step = after-enum-told .before .before in
+    let else1 = after-read-step .before in
+    let after-well-shaped = else1 .before in
+    let start = to-start after-well-shaped in
     λ s ec es eh.
-    judged-intervals s (c14 .args .file .now) _ (sym (c8 .well-shaped .ensures s ec es eh) ∙ not-false (c8 .well-shaped .result) (c7 .if1 .left))
-    (sym (c4 .enum-told .given .1) ∙ c6 .read-step .ensures s eh)
-    (c2 .find-intervals .result) (c2 .find-intervals .ensures s eh .answer) (c2 .find-intervals .ensures s eh .held)
+    judged-intervals s (start .args .file .now) _ (sym (after-well-shaped .well-shaped .ensures s ec es eh) ∙ not-false (after-well-shaped .well-shaped .result) (else1 .if1 .left))
+    (sym (after-enum-told .enum-told .given .1) ∙ after-read-step .read-step .ensures s eh)
+    (after-find-intervals .find-intervals .result) (after-find-intervals .find-intervals .ensures s eh .answer) (after-find-intervals .find-intervals .ensures s eh .held)
 
 pub judge-spec : {M : Type 1} → statement M
 judge-spec =

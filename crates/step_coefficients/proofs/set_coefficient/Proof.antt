@@ -5,11 +5,17 @@ use borrow.Author.Needs.{needs}
 use Rattle.step_coefficients.proofs.set_coefficient.Statement.{statement}
 use Rattle.step_coefficients.proofs.set_coefficient.Tie as tie
 
+-- from a place to an earlier one
+abbrev to-start : tie.After-wide-start → tie.Start
+to-start c =
+    let after-shared-slice-known = c .before .before .before in
+    after-shared-slice-known .before .before
+
 column-place-requires : tie.Need-column-place-requires
 column-place-requires c κs =
-    let c2 = c .before .before in
-    let c7 = c2 .before .before .before .before .before in
-    (omega arith, rw (c2 .wide-start .ensures .0, c .wide-start2 .ensures .0) (c7 .pre .4))
+    let after-wide-start = c .before .before in
+    let start = to-start after-wide-start in
+    (omega arith, rw (after-wide-start .wide-start .ensures .0, c .wide-start2 .ensures .0) (start .pre .4))
 
 returns : tie.Need-returns
 returns c =

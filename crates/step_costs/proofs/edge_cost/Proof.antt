@@ -5,22 +5,28 @@ use borrow.Author.Needs.{needs}
 use Rattle.step_costs.proofs.edge_cost.Statement.{statement}
 use Rattle.step_costs.proofs.edge_cost.Tie as tie
 
+-- from a place to an earlier one
+abbrev to-start : tie.After-shared-slice-known3 → tie.Start
+to-start c =
+    let after-shared-slice-known2 = c .before .before .before in
+    after-shared-slice-known2 .before .before
+
 node-cost-requires : tie.Need-node-cost-requires
 node-cost-requires c κs =
-    omega (arith, c .before .before .before .before .before .pre .4)
+    omega (arith, to-start c .pre .4)
 
 node-cost-requires-2 : tie.Need-node-cost-requires-2
 node-cost-requires-2 c κs =
-    omega (arith, c .before .before .before .before .before .before .before .before .pre .4)
+    omega (arith, to-start (c .before .before .before) .pre .4)
 
 returns : tie.Need-returns
 unfolding edgeCost
 returns c =
-    let c3 = c .before .before .before in
-    let c4 = c3 .before in
-    let c6 = c4 .before .before in
-    let c7 = c6 .before in
-    rw (c .incoming-cost .ensures, c3 .outgoing-cost .ensures, c4 .node-cost .ensures, c .before .node-cost2 .ensures, c7 .wide .ensures .0, c6 .wide2 .ensures .0)
+    let after-outgoing-cost = c .before .before .before in
+    let after-node-cost = after-outgoing-cost .before in
+    let after-wide2 = after-node-cost .before .before in
+    let after-wide = after-wide2 .before in
+    rw (c .incoming-cost .ensures, after-outgoing-cost .outgoing-cost .ensures, after-node-cost .node-cost .ensures, c .before .node-cost2 .ensures, after-wide .wide .ensures .0, after-wide2 .wide2 .ensures .0)
 
 pub edge-cost-spec : {M : Type 1} → statement M
 edge-cost-spec =

@@ -14,67 +14,93 @@ Inv-loop file shape col₀ edges columns at₀ i₀ col at i = Added file shape 
 abbrev μ-loop : tie.MeasureT-loop
 μ-loop file shape col₀ edges columns at₀ i₀ col at i = edges - i
 
+-- from a place to an earlier one
+abbrev to-start : tie.After-wide Inv-loop μ-loop → tie.Start Inv-loop μ-loop
+to-start c =
+    let after-shared-slice-known2 = c .before .before .before in
+    after-shared-slice-known2 .before .before
+
+abbrev to-wide : tie.After-fill-f64 Inv-loop μ-loop → tie.After-wide Inv-loop μ-loop
+to-wide c =
+    let after-shared-slice-known5 = c .before .before .before in
+    after-shared-slice-known5 .before .before .before
+
+abbrev to-fill-f64 : tie.After-loop Inv-loop μ-loop → tie.After-fill-f64 Inv-loop μ-loop
+to-fill-f64 c =
+    let after-col-obj-coef = c .before .before .before in
+    after-col-obj-coef .before
+
+abbrev to-in-loop : tie.After-shared-slice-known8 Inv-loop μ-loop → tie.In-loop Inv-loop μ-loop
+to-in-loop c =
+    let after-shared-slice-known6 = c .before .before .before in
+    after-shared-slice-known6 .before
+
+abbrev to-wide4 : tie.After-slice-known3 Inv-loop μ-loop → tie.After-wide4 Inv-loop μ-loop
+to-wide4 c =
+    let after-shared-slice-known7 = c .before .before .before in
+    after-shared-slice-known7 .before
+
 loop-holds : tie.Need-loop-holds Inv-loop μ-loop
 loop-holds c =
-    let c2 = c .before .before in
-    let c4 = c2 .before .before in
-    let c6 = c4 .before .before in
-    let c13 = c6 .before .before .before .before .before .before .before in
-    added-none (c13 .args .file .now) (c13 .args .shape .now) (c13 .args .col-obj-coef .now) _ (omega arith) (c2 .fill-f64 .ensures ∙ rw (c6 .wide2 .ensures .0, c4 .wide3 .ensures .0, zero-literal))
+    let after-fill-f64 = c .before .before in
+    let after-wide3 = after-fill-f64 .before .before in
+    let after-wide2 = after-wide3 .before .before in
+    let start = to-start (after-wide2 .before .before) in
+    added-none (start .args .file .now) (start .args .shape .now) (start .args .col-obj-coef .now) _ (omega arith) (after-fill-f64 .fill-f64 .ensures ∙ rw (after-wide2 .wide2 .ensures .0, after-wide3 .wide3 .ensures .0, zero-literal))
 
 edge-cost-requires : tie.Need-edge-cost-requires Inv-loop μ-loop
 edge-cost-requires c κs =
-    let c4 = c .before .before .before .before in
-    let c5 = c4 .before in
-    let c14 = c5 .before .before .before .before .before .before .before .before .before in
-    let c19 = c14 .before .before .before .before .before in
-    let edge = edge-at _ _ _ _ _ _ (c5 .loop .inv) (omega (arith, c4 .loop-test .taken, c14 .wide .ensures .0)) (c19 .pre .6 (ofShape (c19 .args .shape .now)) refl) in
-    (c19 .pre .0, c19 .pre .2, edge .from, edge .to, c19 .pre .7)
+    let in-loop = to-in-loop c in
+    let at-loop = in-loop .before in
+    let after-wide = to-wide (at-loop .before .before .before) in
+    let start = to-start after-wide in
+    let edge = edge-at _ _ _ _ _ _ (at-loop .loop .inv) (omega (arith, in-loop .loop-test .taken, after-wide .wide .ensures .0)) (start .pre .6 (ofShape (start .args .shape .now)) refl) in
+    (start .pre .0, start .pre .2, edge .from, edge .to, start .pre .7)
 
 slice-read-col-obj-coef : tie.Need-slice-read-col-obj-coef Inv-loop μ-loop
 slice-read-col-obj-coef c =
-    let c4 = c .before .before .before .before in
-    let c6 = c4 .before .before in
-    let c7 = c6 .before in
-    let c10 = c7 .before .before .before in
-    let c16 = c10 .before .before .before .before .before .before in
-    let c21 = c16 .before .before .before .before .before in
-    let edge = edge-at _ _ _ _ _ _ (c7 .loop .inv) (omega (arith, c6 .loop-test .taken, c16 .wide .ensures .0)) (c21 .pre .6 (ofShape (c21 .args .shape .now)) refl) in
-    omega (arith, edge .column, c4 .wide4 .ensures .0, c21 .pre .1, c21 .pre .4, added-length _ _ _ _ _ _ (omega arith) (c7 .loop .inv), c10 .fill-f64 .kept .0)
+    let after-wide4 = to-wide4 c in
+    let in-loop = after-wide4 .before .before in
+    let at-loop = in-loop .before in
+    let after-fill-f64 = at-loop .before .before .before in
+    let after-wide = to-wide after-fill-f64 in
+    let start = to-start after-wide in
+    let edge = edge-at _ _ _ _ _ _ (at-loop .loop .inv) (omega (arith, in-loop .loop-test .taken, after-wide .wide .ensures .0)) (start .pre .6 (ofShape (start .args .shape .now)) refl) in
+    omega (arith, edge .column, after-wide4 .wide4 .ensures .0, start .pre .1, start .pre .4, added-length _ _ _ _ _ _ (omega arith) (at-loop .loop .inv), after-fill-f64 .fill-f64 .kept .0)
 
 slice-write-col-obj-coef : tie.Need-slice-write-col-obj-coef Inv-loop μ-loop
 slice-write-col-obj-coef c =
-    let c4 = c .before .before .before .before in
-    let c6 = c4 .before .before in
-    let c7 = c6 .before in
-    let c10 = c7 .before .before .before in
-    let c16 = c10 .before .before .before .before .before .before in
-    let c21 = c16 .before .before .before .before .before in
-    let edge = edge-at _ _ _ _ _ _ (c7 .loop .inv) (omega (arith, c6 .loop-test .taken, c16 .wide .ensures .0)) (c21 .pre .6 (ofShape (c21 .args .shape .now)) refl) in
-    omega (arith, edge .column, c4 .wide4 .ensures .0, c21 .pre .1, c21 .pre .4, added-length _ _ _ _ _ _ (omega arith) (c7 .loop .inv), c10 .fill-f64 .kept .0)
+    let after-wide4 = to-wide4 c in
+    let in-loop = after-wide4 .before .before in
+    let at-loop = in-loop .before in
+    let after-fill-f64 = at-loop .before .before .before in
+    let after-wide = to-wide after-fill-f64 in
+    let start = to-start after-wide in
+    let edge = edge-at _ _ _ _ _ _ (at-loop .loop .inv) (omega (arith, in-loop .loop-test .taken, after-wide .wide .ensures .0)) (start .pre .6 (ofShape (start .args .shape .now)) refl) in
+    omega (arith, edge .column, after-wide4 .wide4 .ensures .0, start .pre .1, start .pre .4, added-length _ _ _ _ _ _ (omega arith) (at-loop .loop .inv), after-fill-f64 .fill-f64 .kept .0)
 
 loop-again : tie.Need-loop-again Inv-loop μ-loop
 loop-again c =
-    let c4 = c .before .before .before .before in
-    let c6 = c4 .before .before in
-    let c7 = c6 .before in
-    let c16 = c7 .before .before .before .before .before .before .before .before .before in
-    let c21 = c16 .before .before .before .before .before in
-    let fit = c21 .pre .6 (ofShape (c21 .args .shape .now)) refl in
-    rw (c4 .wide4 .ensures .0) (added-more _ _ _ _ _ _ (c7 .loop .inv) (omega (arith, c6 .loop-test .taken, c16 .wide .ensures .0)) fit _ (c .before .edge-cost .ensures))
+    let after-wide4 = to-wide4 c in
+    let in-loop = after-wide4 .before .before in
+    let at-loop = in-loop .before in
+    let after-wide = to-wide (at-loop .before .before .before) in
+    let start = to-start after-wide in
+    let fit = start .pre .6 (ofShape (start .args .shape .now)) refl in
+    rw (after-wide4 .wide4 .ensures .0) (added-more _ _ _ _ _ _ (at-loop .loop .inv) (omega (arith, in-loop .loop-test .taken, after-wide .wide .ensures .0)) fit _ (c .before .edge-cost .ensures))
 
 same-length : tie.Need-same-length Inv-loop μ-loop
 same-length c =
-    added-length _ _ _ _ _ _ (omega arith) (c .before .loop .inv) ∙ c .before .before .before .before .fill-f64 .kept .0
+    added-length _ _ _ _ _ _ (omega arith) (c .before .loop .inv) ∙ to-fill-f64 c .fill-f64 .kept .0
 
 returns : tie.Need-returns Inv-loop μ-loop
 returns c =
-    let c4 = c .before .before .before .before in
-    let c6 = c4 .before .before in
-    let c8 = c6 .before .before in
-    let c10 = c8 .before .before in
-    added-all _ _ _ _ _ _ _ (omega arith) (c4 .fill-f64 .ensures ∙ rw (c8 .wide2 .ensures .0, c6 .wide3 .ensures .0, zero-literal)) (c .before .loop .inv)
-    (omega (arith, c .loop-test .left, c10 .wide .ensures .0))
+    let after-fill-f64 = to-fill-f64 c in
+    let after-wide3 = after-fill-f64 .before .before in
+    let after-wide2 = after-wide3 .before .before in
+    let after-wide = after-wide2 .before .before in
+    added-all _ _ _ _ _ _ _ (omega arith) (after-fill-f64 .fill-f64 .ensures ∙ rw (after-wide2 .wide2 .ensures .0, after-wide3 .wide3 .ensures .0, zero-literal)) (c .before .loop .inv)
+    (omega (arith, c .loop-test .left, after-wide .wide .ensures .0))
 
 pub update-edge-objectives-spec : {M : Type 1} → statement M
 update-edge-objectives-spec =

@@ -22,6 +22,12 @@ Inv-loop file shape nodes word₀ at₀ i₀ word at i =
 abbrev μ-loop : tie.MeasureT-loop
 μ-loop file shape nodes word₀ at₀ i₀ word at i = nodes - i
 
+-- from a place to an earlier one
+abbrev to-start : tie.After-wide Inv-loop μ-loop → tie.Start Inv-loop μ-loop
+to-start c =
+    let after-shared-slice-known = c .before .before .before in
+    after-shared-slice-known .before
+
 loop-holds : tie.Need-loop-holds Inv-loop μ-loop
 loop-holds c =
     (search needs, search needs, search needs, rw sub-zero)
@@ -29,33 +35,33 @@ loop-holds c =
 returns : tie.Need-returns Inv-loop μ-loop
 unfolding nodeEntry
 returns c =
-    let c3 = c .before .before .before in
-    let c6 = c3 .before .before .before in
-    let c7 = c6 .before in
-    let c8 = c7 .before in
-    let c12 = c8 .before .before .before .before in
-    let told = sym (c3 .check-node .ensures) ∙ c .before .node .given .1 in
-    let left = nodes-refused _ (nodeEntry (ofShape (c12 .args .shape .now))) _ _ _ _ _ _ (c6 .loop-test .taken) told in
-    λ s e. rw (nodes-of s (c12 .args .shape .now) e, ← (c8 .wide .ensures .0)) (sym (c7 .loop .inv .3 ∙ left))
+    let after-check-node = c .before .before .before in
+    let in-loop = after-check-node .before .before .before in
+    let at-loop = in-loop .before in
+    let after-wide = at-loop .before in
+    let start = to-start after-wide in
+    let told = sym (after-check-node .check-node .ensures) ∙ c .before .node .given .1 in
+    let left = nodes-refused _ (nodeEntry (ofShape (start .args .shape .now))) _ _ _ _ _ _ (in-loop .loop-test .taken) told in
+    λ s e. rw (nodes-of s (start .args .shape .now) e, ← (after-wide .wide .ensures .0)) (sym (at-loop .loop .inv .3 ∙ left))
 
 loop-again : tie.Need-loop-again Inv-loop μ-loop
 unfolding nodeEntry
 loop-again c =
-    let c2 = c .before .before in
-    let c5 = c2 .before .before .before in
-    let c6 = c5 .before in
-    let c11 = c6 .before .before .before .before .before in (
+    let after-check-node = c .before .before in
+    let in-loop = after-check-node .before .before .before in
+    let at-loop = in-loop .before in
+    let start = to-start (at-loop .before) in (
       search needs,
       search needs,
       search needs,
-      c6 .loop .inv .3 ∙ nodes-more _ (nodeEntry (ofShape (c11 .args .shape .now))) _ _ _ _ (c5 .loop-test .taken) (sym (c2 .check-node .ensures) ∙ c .enum-told .given .1),
+      at-loop .loop .inv .3 ∙ nodes-more _ (nodeEntry (ofShape (start .args .shape .now))) _ _ _ _ (in-loop .loop-test .taken) (sym (after-check-node .check-node .ensures) ∙ c .enum-told .given .1),
     )
 
 returns-2 : tie.Need-returns-2 Inv-loop μ-loop
 returns-2 c =
-    let c2 = c .before .before in
-    let c6 = c2 .before .before .before .before in
-    λ s e. rw (nodes-of s (c6 .args .shape .now) e, ← (c2 .wide .ensures .0)) (sym (c .before .loop .inv .3 ∙ nodes-done _ (nodeEntry (ofShape (c6 .args .shape .now))) _ _ _ _ (c .loop-test .left)))
+    let after-wide = c .before .before in
+    let start = to-start after-wide in
+    λ s e. rw (nodes-of s (start .args .shape .now) e, ← (after-wide .wide .ensures .0)) (sym (c .before .loop .inv .3 ∙ nodes-done _ (nodeEntry (ofShape (start .args .shape .now))) _ _ _ _ (c .loop-test .left)))
 
 pub check-nodes-spec : {M : Type 1} → statement M
 check-nodes-spec =

@@ -4,27 +4,48 @@ use borrow.Author.Needs.{needs}
 use Rattle.step_intervals.proofs.find_intervals.Statement.{statement}
 use Rattle.step_intervals.proofs.find_intervals.Tie as tie
 
+-- from a place to an earlier one
+abbrev to-start : tie.After-f64-at → tie.Start
+to-start c =
+    let after-shared-slice-known = c .before .before .before in
+    after-shared-slice-known .before
+
+abbrev to-find-node-intervals-from-enum-told : tie.After-enum-told → tie.After-find-node-intervals
+to-find-node-intervals-from-enum-told c =
+    let after-work = c .before .before .before in
+    after-work .before
+
+abbrev to-find-node-intervals-from-known-told : tie.After-known-told → tie.After-find-node-intervals
+to-find-node-intervals-from-known-told c =
+    let after-slice-known2 = c .before .before .before in
+    after-slice-known2 .before .before
+
+abbrev to-find-aggregate-intervals : tie.After-find-virtual-storage-intervals → tie.After-find-aggregate-intervals
+to-find-aggregate-intervals c =
+    let after-work2 = c .before .before .before in
+    after-work2 .before
+
 returns : tie.Need-returns
 returns c =
-    let c5 = c .before .before .before .before .before in
-    let c7 = c5 .before .before in
-    let c8 = c7 .before in
-    let c12 = c8 .before .before .before .before in
-    λ s e. nodes-refuse s (c12 .args .shape .now) (c12 .args .file .now) e (c8 .f64-at .result) (c8 .f64-at .ensures) (c7 .kept-sentinel .result)
-    (c7 .kept-sentinel .ensures) _ _ _ (c5 .find-node-intervals .ensures) _ _ (c .before .r .given .1)
+    let after-find-node-intervals = to-find-node-intervals-from-known-told c in
+    let after-kept-sentinel = after-find-node-intervals .before .before in
+    let after-f64-at = after-kept-sentinel .before in
+    let start = to-start after-f64-at in
+    λ s e. nodes-refuse s (start .args .shape .now) (start .args .file .now) e (after-f64-at .f64-at .result) (after-f64-at .f64-at .ensures) (after-kept-sentinel .kept-sentinel .result)
+    (after-kept-sentinel .kept-sentinel .ensures) _ _ _ (after-find-node-intervals .find-node-intervals .ensures) _ _ (c .before .r .given .1)
 
 returns-2 : tie.Need-returns-2
 returns-2 c =
-    let c2 = c .before .before in
-    let c6 = c2 .before .before .before .before in
-    let c8 = c6 .before .before in
-    let c12 = c8 .before .before .before .before in
-    let c14 = c12 .before .before in
-    let c15 = c14 .before in
-    let c19 = c15 .before .before .before .before in
-    λ s e. all-found s (c19 .args .shape .now) (c19 .args .file .now) e (c15 .f64-at .result) (c15 .f64-at .ensures) (c14 .kept-sentinel .result)
-    (c14 .kept-sentinel .ensures) _ _ _ (c12 .find-node-intervals .ensures) (c19 .pre .2) (c19 .pre .3) (c8 .enum-told .given .1) _ _ _ (c6 .find-aggregate-intervals .ensures)
-    (c2 .find-virtual-storage-intervals .ensures)
+    let after-find-virtual-storage-intervals = c .before .before in
+    let after-find-aggregate-intervals = to-find-aggregate-intervals after-find-virtual-storage-intervals in
+    let after-enum-told = after-find-aggregate-intervals .before .before in
+    let after-find-node-intervals = to-find-node-intervals-from-enum-told after-enum-told in
+    let after-kept-sentinel = after-find-node-intervals .before .before in
+    let after-f64-at = after-kept-sentinel .before in
+    let start = to-start after-f64-at in
+    λ s e. all-found s (start .args .shape .now) (start .args .file .now) e (after-f64-at .f64-at .result) (after-f64-at .f64-at .ensures) (after-kept-sentinel .kept-sentinel .result)
+    (after-kept-sentinel .kept-sentinel .ensures) _ _ _ (after-find-node-intervals .find-node-intervals .ensures) (start .pre .2) (start .pre .3) (after-enum-told .enum-told .given .1) _ _ _ (after-find-aggregate-intervals .find-aggregate-intervals .ensures)
+    (after-find-virtual-storage-intervals .find-virtual-storage-intervals .ensures)
 
 pub find-intervals-spec : {M : Type 1} → statement M
 find-intervals-spec =

@@ -16,42 +16,53 @@ Inv-loop file shape days sentinel work₀ nodes i₀ work i = Passed (nodeNumber
 abbrev μ-loop : tie.MeasureT-loop
 μ-loop file shape days sentinel work₀ nodes i₀ work i = nodes - i
 
+-- from a place to an earlier one
+abbrev to-start : tie.After-wide Inv-loop μ-loop → tie.Start Inv-loop μ-loop
+to-start c =
+    let after-shared-slice-known2 = c .before .before .before in
+    after-shared-slice-known2 .before .before
+
+abbrev to-loop : tie.Then1 Inv-loop μ-loop → tie.At-loop Inv-loop μ-loop
+to-loop c =
+    let after-narrow16 = c .before .before .before in
+    after-narrow16 .before .before
+
 loop-holds : tie.Need-loop-holds Inv-loop μ-loop
 loop-holds c =
     passed-none _ _ _ _
 
 same-length : tie.Need-same-length Inv-loop μ-loop
 same-length c =
-    c .before .before .before .before .before .loop .inv .writing .long
+    to-loop c .loop .inv .writing .long
 
 returns : tie.Need-returns Inv-loop μ-loop
 returns c =
-    let c2 = c .before .before in
-    let c3 = c2 .before in
-    let c4 = c3 .before in
-    let c5 = c4 .before in
-    let c6 = c5 .before in
-    let c11 = c6 .before .before .before .before .before in
-    let a = c11 .args in
-    let is = c2 .node-interval .ensures ∙ ap (nodeNumbered (a .sentinel) (a .days) (a .shape .now) (a .file .now)) (c3 .narrow16 .ensures) in
-    rw (← (c6 .wide .ensures .0)) (passed-stops _ _ (c4 .loop-test .taken) is (c .before .is-crossed .ensures) (c5 .loop .inv) 14 (c .if1 .taken))
+    let after-node-interval = c .before .before in
+    let after-narrow16 = after-node-interval .before in
+    let in-loop = after-narrow16 .before in
+    let at-loop = in-loop .before in
+    let after-wide = at-loop .before in
+    let start = to-start after-wide in
+    let a = start .args in
+    let is = after-node-interval .node-interval .ensures ∙ ap (nodeNumbered (a .sentinel) (a .days) (a .shape .now) (a .file .now)) (after-narrow16 .narrow16 .ensures) in
+    rw (← (after-wide .wide .ensures .0)) (passed-stops _ _ (in-loop .loop-test .taken) is (c .before .is-crossed .ensures) (at-loop .loop .inv) 14 (c .if1 .taken))
 
 slice-write-work-2 : tie.Need-slice-write-work-2 Inv-loop μ-loop
 slice-write-work-2 c =
-    let c2 = c .before .before in
-    let c5 = c2 .before .before .before in
-    omega (arith, length-set (c5 .loop .work) (c5 .loop .i) (c2 .node-interval .result .lower), c5 .loop .inv .writing .long)
+    let after-node-interval = c .before .before in
+    let at-loop = after-node-interval .before .before .before in
+    omega (arith, length-set (at-loop .loop .work) (at-loop .loop .i) (after-node-interval .node-interval .result .lower), at-loop .loop .inv .writing .long)
 
 loop-again : tie.Need-loop-again Inv-loop μ-loop
 loop-again c =
-    let c2 = c .before .before in
-    let c3 = c2 .before in
-    let c4 = c3 .before in
-    let c5 = c4 .before in
-    let c11 = c5 .before .before .before .before .before .before in
-    let a = c11 .args in
-    let is = c2 .node-interval .ensures ∙ ap (nodeNumbered (a .sentinel) (a .days) (a .shape .now) (a .file .now)) (c3 .narrow16 .ensures) in
-    passed-more _ _ (c4 .loop-test .taken) is (c .before .is-crossed .ensures) (c5 .loop .inv) (c5 .loop .i) (sym (zero-add (c5 .loop .i))) (search needs) (search needs) (c .if1 .left)
+    let after-node-interval = c .before .before in
+    let after-narrow16 = after-node-interval .before in
+    let in-loop = after-narrow16 .before in
+    let at-loop = in-loop .before in
+    let start = to-start (at-loop .before) in
+    let a = start .args in
+    let is = after-node-interval .node-interval .ensures ∙ ap (nodeNumbered (a .sentinel) (a .days) (a .shape .now) (a .file .now)) (after-narrow16 .narrow16 .ensures) in
+    passed-more _ _ (in-loop .loop-test .taken) is (c .before .is-crossed .ensures) (at-loop .loop .inv) (at-loop .loop .i) (sym (zero-add (at-loop .loop .i))) (search needs) (search needs) (c .if1 .left)
 
 same-length-2 : tie.Need-same-length-2 Inv-loop μ-loop
 same-length-2 c =

@@ -9,94 +9,131 @@ use borrow.Author.Needs.{needs}
 use Rattle.step_node_rows.proofs.update_node_row.Statement.{statement}
 use Rattle.step_node_rows.proofs.update_node_row.Tie as tie
 
+-- from a place to an earlier one
+abbrev to-start : tie.After-wide → tie.Start
+to-start c =
+    let after-shared-slice-known3 = c .before .before .before in
+    let after-slice-known3 = after-shared-slice-known3 .before .before .before in
+    after-slice-known3 .before .before .before
+
+abbrev to-wide : tie.Else1 → tie.After-wide
+to-wide c =
+    let after-shared-slice-known6 = c .before .before .before in
+    after-shared-slice-known6 .before .before
+
+abbrev to-wide2-from-apply-row-bounds-arg2 : tie.After-apply-row-bounds-arg2 → tie.After-wide2
+to-wide2-from-apply-row-bounds-arg2 c =
+    let after-shared-slice-known7 = c .before .before .before in
+    after-shared-slice-known7 .before
+
+abbrev to-wide2-from-then2 : tie.Then2 → tie.After-wide2
+to-wide2-from-then2 c =
+    let else1 = c .before .before .before in
+    else1 .before .before
+
+abbrev to-else1-from-set-coefficient-arg : tie.After-set-coefficient-arg → tie.Else1
+to-else1-from-set-coefficient-arg c =
+    let after-shared-slice-known8 = c .before .before .before in
+    after-shared-slice-known8 .before
+
+abbrev to-else1-from-struct-known : tie.After-struct-known → tie.Else1
+to-else1-from-struct-known c =
+    let after-shared-slice-known9 = c .before .before .before in
+    after-shared-slice-known9 .before .before
+
+abbrev to-apply-row-bounds : tie.After-slice-known5 → tie.After-apply-row-bounds
+to-apply-row-bounds c =
+    let after-row-lower = c .before .before .before in
+    after-row-lower .before
+
 held-interval-requires : tie.Need-held-interval-requires
 held-interval-requires c κs =
-    let c9 = c .before .before .before .before .before .before .before .before .before in
-    (c9 .pre .0 .work-long, omega (arith, c .wide .ensures .0, c9 .pre .2 .node, c9 .pre .1 .nodes))
+    let start = to-start c in
+    (start .pre .0 .work-long, omega (arith, c .wide .ensures .0, start .pre .2 .node, start .pre .1 .nodes))
 
 apply-row-bounds-requires : tie.Need-apply-row-bounds-requires
 apply-row-bounds-requires c κs =
-    let c4 = c .before .before .before .before in
-    let c16 = c4 .before .before .before .before .before .before .before .before .before .before .before .before in (
-      omega (arith, c4 .wide2 .ensures .0, c16 .pre .2 .row, c16 .pre .1 .rows .rows, c16 .pre .0 .lower-long),
-      omega (arith, c4 .wide2 .ensures .0, c16 .pre .2 .row, c16 .pre .1 .rows .rows, c16 .pre .0 .upper-long),
+    let after-wide2 = to-wide2-from-apply-row-bounds-arg2 c in
+    let start = to-start (after-wide2 .before .before .before) in (
+      omega (arith, after-wide2 .wide2 .ensures .0, start .pre .2 .row, start .pre .1 .rows .rows, start .pre .0 .lower-long),
+      omega (arith, after-wide2 .wide2 .ensures .0, start .pre .2 .row, start .pre .1 .rows .rows, start .pre .0 .upper-long),
     )
 
 returns : tie.Need-returns
 returns c =
-    let c4 = c .before .before .before .before in
-    let c7 = c4 .before .before .before in
-    let c9 = c7 .before .before in
-    let c11 = c9 .before .before in
-    let c12 = c11 .before in
-    let c21 = c12 .before .before .before .before .before .before .before .before .before in
+    let after-apply-row-bounds = to-apply-row-bounds c in
+    let then1 = after-apply-row-bounds .before .before .before in
+    let after-wide2 = then1 .before .before in
+    let after-held-interval = after-wide2 .before .before in
+    let after-wide = after-held-interval .before in
+    let start = to-start after-wide in
     λ s rows w.
-    let a = c21 .args in
+    let a = start .args in
     let t = over s (a .columns .now) (a .row-starts .now) (a .shape .now) in
-    node-continuous t (a .work .now) (a .at) rows _ _ _ w _ (c11 .held-interval .ensures ∙ rw (c12 .wide .ensures .0)) (c7 .if1 .taken) _ _ _ (c9 .wide2 .ensures .0)
-    (c21 .pre .2 .row) (omega (arith, c21 .pre .1 .rows .rows, c21 .pre .0 .lower-long)) (omega (arith, c21 .pre .1 .rows .rows, c21 .pre .0 .upper-long))
-    (c4 .apply-row-bounds .ensures)
+    node-continuous t (a .work .now) (a .at) rows _ _ _ w _ (after-held-interval .held-interval .ensures ∙ rw (after-wide .wide .ensures .0)) (then1 .if1 .taken) _ _ _ (after-wide2 .wide2 .ensures .0)
+    (start .pre .2 .row) (omega (arith, start .pre .1 .rows .rows, start .pre .0 .lower-long)) (omega (arith, start .pre .1 .rows .rows, start .pre .0 .upper-long))
+    (after-apply-row-bounds .apply-row-bounds .ensures)
 
 add-t28 : tie.Need-add-t28
 add-t28 c =
-    let c2 = c .before .before in
-    let c16 = c2 .before .before .before .before .before .before .before .before .before .before .before .before .before .before in
-    let h = c16 .pre .2 .set (c2 .if1 .left) in search needs
+    let else1 = c .before .before in
+    let start = to-start (to-wide else1) in
+    let h = start .pre .2 .set (else1 .if1 .left) in search needs
 
 set-coefficient-requires : tie.Need-set-coefficient-requires
 set-coefficient-requires c κs =
-    let c4 = c .before .before .before .before in
-    let c6 = c4 .before .before in
-    let c18 = c6 .before .before .before .before .before .before .before .before .before .before .before .before in
-    let r = c6 .wide2 .result in (
-      omega (arith, c6 .wide2 .ensures .0, c18 .pre .2 .row, c18 .pre .1 .rows .rows, c18 .pre .1 .rows .starts-long),
-      omega (arith, start-under (c18 .pre .1 .rows .starts) (r + 1) (omega (arith, c6 .wide2 .ensures .0, c18 .pre .2 .row)), c18 .pre .1 .rows .kept),
-      c18 .pre .1 .rows .columns-long,
-      c18 .pre .0 .elements-long,
-      rw (c6 .wide2 .ensures .0) (c18 .pre .2 .column (c4 .if1 .left)),
+    let else1 = to-else1-from-set-coefficient-arg c in
+    let after-wide2 = else1 .before .before in
+    let start = to-start (after-wide2 .before .before .before) in
+    let r = after-wide2 .wide2 .result in (
+      omega (arith, after-wide2 .wide2 .ensures .0, start .pre .2 .row, start .pre .1 .rows .rows, start .pre .1 .rows .starts-long),
+      omega (arith, start-under (start .pre .1 .rows .starts) (r + 1) (omega (arith, after-wide2 .wide2 .ensures .0, start .pre .2 .row)), start .pre .1 .rows .kept),
+      start .pre .1 .rows .columns-long,
+      start .pre .0 .elements-long,
+      rw (after-wide2 .wide2 .ensures .0) (start .pre .2 .column (else1 .if1 .left)),
     )
 
 returns-2 : tie.Need-returns-2
 returns-2 c =
-    let c2 = c .before .before in
-    let c4 = c2 .before .before in
-    let c9 = c4 .before .before .before .before .before in
-    let c11 = c9 .before .before in
-    let c12 = c11 .before in
-    let c21 = c12 .before .before .before .before .before .before .before .before .before in
+    let after-set-coefficient = c .before .before in
+    let then2 = after-set-coefficient .before .before in
+    let after-wide2 = to-wide2-from-then2 then2 in
+    let after-held-interval = after-wide2 .before .before in
+    let after-wide = after-held-interval .before in
+    let start = to-start after-wide in
     λ s rows w.
-    let a = c21 .args in
+    let a = start .args in
     let t = over s (a .columns .now) (a .row-starts .now) (a .shape .now) in
-    node-upper t (a .work .now) (a .at) rows _ _ _ w _ (c11 .held-interval .ensures ∙ rw (c12 .wide .ensures .0)) (c21 .pre .1) _ _ _ (c9 .wide2 .ensures .0)
-    (c21 .pre .2 .row) refl (c4 .if2 .taken) (c2 .set-coefficient .ensures)
+    node-upper t (a .work .now) (a .at) rows _ _ _ w _ (after-held-interval .held-interval .ensures ∙ rw (after-wide .wide .ensures .0)) (start .pre .1) _ _ _ (after-wide2 .wide2 .ensures .0)
+    (start .pre .2 .row) refl (then2 .if2 .taken) (after-set-coefficient .set-coefficient .ensures)
 
 set-coefficient-requires-2 : tie.Need-set-coefficient-requires-2
 set-coefficient-requires-2 c κs =
-    let c5 = c .before .before .before .before .before in
-    let c7 = c5 .before .before in
-    let c19 = c7 .before .before .before .before .before .before .before .before .before .before .before .before in
-    let r = c7 .wide2 .result in (
-      omega (arith, c7 .wide2 .ensures .0, c19 .pre .2 .row, c19 .pre .1 .rows .rows, c19 .pre .1 .rows .starts-long),
-      omega (arith, start-under (c19 .pre .1 .rows .starts) (r + 1) (omega (arith, c7 .wide2 .ensures .0, c19 .pre .2 .row)), c19 .pre .1 .rows .kept),
-      c19 .pre .1 .rows .columns-long,
-      c19 .pre .0 .elements-long,
-      rw (c7 .wide2 .ensures .0) (c19 .pre .2 .column (c5 .if1 .left)),
+    let else1 = to-else1-from-struct-known c in
+    let after-wide2 = else1 .before .before in
+    let start = to-start (after-wide2 .before .before .before) in
+    let r = after-wide2 .wide2 .result in (
+      omega (arith, after-wide2 .wide2 .ensures .0, start .pre .2 .row, start .pre .1 .rows .rows, start .pre .1 .rows .starts-long),
+      omega (arith, start-under (start .pre .1 .rows .starts) (r + 1) (omega (arith, after-wide2 .wide2 .ensures .0, start .pre .2 .row)), start .pre .1 .rows .kept),
+      start .pre .1 .rows .columns-long,
+      start .pre .0 .elements-long,
+      rw (after-wide2 .wide2 .ensures .0) (start .pre .2 .column (else1 .if1 .left)),
     )
 
 returns-3 : tie.Need-returns-3
 returns-3 c =
-    let c2 = c .before .before in
-    let c5 = c2 .before .before .before in
-    let c8 = c5 .before .before .before in
-    let c10 = c8 .before .before in
-    let c12 = c10 .before .before in
-    let c13 = c12 .before in
-    let c22 = c13 .before .before .before .before .before .before .before .before .before in
+    let after-set-coefficient2 = c .before .before in
+    let else2 = after-set-coefficient2 .before .before .before in
+    let else1 = else2 .before .before .before in
+    let after-wide2 = else1 .before .before in
+    let after-held-interval = after-wide2 .before .before in
+    let after-wide = after-held-interval .before in
+    let start = to-start after-wide in
     λ s rows w.
-    let a = c22 .args in
+    let a = start .args in
     let t = over s (a .columns .now) (a .row-starts .now) (a .shape .now) in
-    node-lower t (a .work .now) (a .at) rows _ _ _ w _ (c12 .held-interval .ensures ∙ rw (c13 .wide .ensures .0)) (c22 .pre .1) _ _ _ (c10 .wide2 .ensures .0)
-    (c22 .pre .2 .row) refl (c8 .if1 .left) (c5 .if2 .left) (c2 .set-coefficient2 .ensures)
+    node-lower t (a .work .now) (a .at) rows _ _ _ w _ (after-held-interval .held-interval .ensures ∙ rw (after-wide .wide .ensures .0)) (start .pre .1) _ _ _ (after-wide2 .wide2 .ensures .0)
+    (start .pre .2 .row) refl (else1 .if1 .left) (else2 .if2 .left) (after-set-coefficient2 .set-coefficient2 .ensures)
 
 pub update-node-row-spec : {M : Type 1} → statement M
 update-node-row-spec =

@@ -12,46 +12,67 @@ Inv-loop row-lower₀ row-upper₀ shape table words count work first at₀ i₀
 abbrev μ-loop : tie.MeasureT-loop
 μ-loop row-lower₀ row-upper₀ shape table words count work first at₀ i₀ row-lower row-upper at i = count - i
 
+-- from a place to an earlier one
+abbrev to-start : tie.At-loop Inv-loop μ-loop → tie.Start Inv-loop μ-loop
+to-start c =
+    let after-slice-known2 = c .before .before .before in
+    after-slice-known2 .before .before
+
+abbrev to-in-loop : tie.After-held-interval Inv-loop μ-loop → tie.In-loop Inv-loop μ-loop
+to-in-loop c =
+    let after-wide = c .before .before .before in
+    after-wide .before .before
+
+abbrev to-apply-row-bounds : tie.After-slice-known4 Inv-loop μ-loop → tie.After-apply-row-bounds Inv-loop μ-loop
+to-apply-row-bounds c =
+    let after-row-lower = c .before .before .before in
+    after-row-lower .before
+
+abbrev to-held-interval : tie.After-slice-known4 Inv-loop μ-loop → tie.After-held-interval Inv-loop μ-loop
+to-held-interval c =
+    let after-apply-row-bounds = to-apply-row-bounds c in
+    after-apply-row-bounds .before
+
 loop-holds : tie.Need-loop-holds Inv-loop μ-loop
 loop-holds c =
     applied-none _ _ _ _ _ _ _ _
 
 mul-wide : tie.Need-mul-wide Inv-loop μ-loop
 mul-wide c =
-    let h = entry-within (c .before .before .before .before .before .before .pre .0) _ _ (c .loop-test .taken) (c .before .loop .inv .place) in search needs
+    let h = entry-within (to-start (c .before) .pre .0) _ _ (c .loop-test .taken) (c .before .loop .inv .place) in search needs
 
 shared-slice-read-wide : tie.Need-shared-slice-read-wide Inv-loop μ-loop
 shared-slice-read-wide c =
-    let c2 = c .before .before in
-    let c7 = c2 .before .before .before .before .before in
-    let h = entry-within (c7 .pre .0) _ _ (c .before .loop-test .taken) (c2 .loop .inv .place) in search needs
+    let at-loop = c .before .before in
+    let start = to-start at-loop in
+    let h = entry-within (start .pre .0) _ _ (c .before .loop-test .taken) (at-loop .loop .inv .place) in search needs
 
 apply-row-bounds-requires : tie.Need-apply-row-bounds-requires Inv-loop μ-loop
 apply-row-bounds-requires c κs =
-    let c5 = c .before .before .before .before .before in
-    let c6 = c5 .before in
-    let c11 = c6 .before .before .before .before .before in
-    let h = entry-row (c11 .pre .0) _ _ (c5 .loop-test .taken) (c6 .loop .inv .place) in search needs
+    let in-loop = to-in-loop c in
+    let at-loop = in-loop .before in
+    let start = to-start at-loop in
+    let h = entry-row (start .pre .0) _ _ (in-loop .loop-test .taken) (at-loop .loop .inv .place) in search needs
 
 add-at : tie.Need-add-at Inv-loop μ-loop
 add-at c =
-    let c10 = c .before .before .before .before .before .before .before .before .before .before in
-    let c11 = c10 .before in
-    let c16 = c11 .before .before .before .before .before in
-    let h = entry-within (c16 .pre .0) _ _ (c10 .loop-test .taken) (c11 .loop .inv .place) in search needs
+    let in-loop = to-in-loop (to-held-interval c) in
+    let at-loop = in-loop .before in
+    let start = to-start at-loop in
+    let h = entry-within (start .pre .0) _ _ (in-loop .loop-test .taken) (at-loop .loop .inv .place) in search needs
 
 loop-again : tie.Need-loop-again Inv-loop μ-loop
 loop-again c =
-    let c4 = c .before .before .before .before in
-    let c5 = c4 .before in
-    let c8 = c5 .before .before .before in
-    let c10 = c8 .before .before in
-    let c11 = c10 .before in
-    let c16 = c11 .before .before .before .before .before in
-    let h = entry-row (c16 .pre .0) _ _ (c10 .loop-test .taken) (c11 .loop .inv .place) in
-    applied-more _ _ _ _ _ _ _ _ (c11 .loop .inv) _ _ _ _ (c10 .loop-test .taken) (c8 .wide .ensures .0) (c5 .held-interval .ensures) (omega (arith, h, c8 .wide .ensures .0))
-    (omega (arith, c16 .pre .0 .varying, c16 .pre .1)) (omega (arith, c16 .pre .0 .varying, c16 .pre .2)) (c4 .apply-row-bounds .kept .0) (c4 .apply-row-bounds .kept .1 .0)
-    (c4 .apply-row-bounds .ensures)
+    let after-apply-row-bounds = to-apply-row-bounds c in
+    let after-held-interval = after-apply-row-bounds .before in
+    let after-wide = after-held-interval .before .before .before in
+    let in-loop = after-wide .before .before in
+    let at-loop = in-loop .before in
+    let start = to-start at-loop in
+    let h = entry-row (start .pre .0) _ _ (in-loop .loop-test .taken) (at-loop .loop .inv .place) in
+    applied-more _ _ _ _ _ _ _ _ (at-loop .loop .inv) _ _ _ _ (in-loop .loop-test .taken) (after-wide .wide .ensures .0) (after-held-interval .held-interval .ensures) (omega (arith, h, after-wide .wide .ensures .0))
+    (omega (arith, start .pre .0 .varying, start .pre .1)) (omega (arith, start .pre .0 .varying, start .pre .2)) (after-apply-row-bounds .apply-row-bounds .kept .0) (after-apply-row-bounds .apply-row-bounds .kept .1 .0)
+    (after-apply-row-bounds .apply-row-bounds .ensures)
 
 same-length : tie.Need-same-length Inv-loop μ-loop
 same-length c =

@@ -9,9 +9,16 @@ use Rattle.step_row_bounds.proofs.apply_row_bounds.Statement.{statement
 use Rattle.step_row_bounds.proofs.apply_row_bounds.Tie as tie
 
 returns : tie.Need-returns
+
+-- from a place to an earlier one
+abbrev to-start : tie.After-tighten → tie.Start
+to-start c =
+    let after-slice-known2 = c .before .before .before in
+    after-slice-known2 .before .before
+
 unfolding tighten
 returns c =
-    let a = c .before .before .before .before .before .args in
+    let a = to-start c .args in
     record {
       lowers = rw (c .tighten .ensures, getD-any (a .row-lower .now) (a .row) nan zero64 (omega arith));
       uppers = rw (c .tighten .ensures, getD-any (a .row-upper .now) (a .row) nan zero64 (omega arith));

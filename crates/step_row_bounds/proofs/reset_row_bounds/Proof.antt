@@ -7,18 +7,25 @@ use Rattle.step_row_bounds.proofs.reset_row_bounds.Statement.{statement
 use Rattle.step_row_bounds.proofs.reset_row_bounds.Tie as tie
 
 returns : tie.Need-returns
+
+-- from a place to an earlier one
+abbrev to-fill-f64 : tie.After-high → tie.After-fill-f64
+to-fill-f64 c =
+    let after-row-lower = c .before .before .before in
+    after-row-lower .before
+
 unfolding sentinels
 returns c =
-    let c2 = c .before .before in
-    let c3 = c2 .before in
-    let c7 = c3 .before .before .before .before in
-    let c8 = c7 .before in
-    let c10 = c8 .before .before in
-    let c12 = c10 .before .before in
+    let after-fill-f642 = c .before .before in
+    let after-high = after-fill-f642 .before in
+    let after-fill-f64 = to-fill-f64 after-high in
+    let after-low = after-fill-f64 .before in
+    let after-wide = after-low .before .before in
+    let after-kept-sentinel = after-wide .before .before in
     λ rows e.
     reset _ rows _ _ _ _ _ e
-    (c7 .fill-f64 .ensures ∙ rw (c10 .wide .ensures .0, c8 .low .ensures, c12 .kept-sentinel .ensures))
-    (c2 .fill-f642 .ensures ∙ rw (c10 .wide .ensures .0, c3 .high .ensures, c12 .kept-sentinel .ensures))
+    (after-fill-f64 .fill-f64 .ensures ∙ rw (after-wide .wide .ensures .0, after-low .low .ensures, after-kept-sentinel .kept-sentinel .ensures))
+    (after-fill-f642 .fill-f642 .ensures ∙ rw (after-wide .wide .ensures .0, after-high .high .ensures, after-kept-sentinel .kept-sentinel .ensures))
 
 pub reset-row-bounds-spec : {M : Type 1} → statement M
 reset-row-bounds-spec =

@@ -13,21 +13,56 @@ fits c =
     let a = c .args in
     fitting (storeOf (a .row-lower .now) (a .row-upper .now) (a .elements .now) (a .columns .now) (a .row-starts .now) (a .shape .now)) (c .pre)
 
+-- from a place to an earlier one
+abbrev to-start : tie.After-reset-row-bounds-arg2 → tie.Start
+to-start c =
+    let after-shared-slice-known3 = c .before .before .before in
+    let after-slice-known3 = after-shared-slice-known3 .before .before .before in
+    after-slice-known3 .before .before .before
+
+abbrev to-reset-row-bounds : tie.After-update-node-constraint-bounds-arg3 → tie.After-reset-row-bounds
+to-reset-row-bounds c =
+    let after-slice-known5 = c .before .before .before in
+    let after-row-lower = after-slice-known5 .before .before .before in
+    after-row-lower .before
+
+abbrev to-update-node-constraint-bounds : tie.After-wide → tie.After-update-node-constraint-bounds
+to-update-node-constraint-bounds c =
+    let after-elements = c .before .before .before in
+    let after-slice-known6 = after-elements .before .before .before in
+    after-slice-known6 .before .before
+
+abbrev to-apply-intervals : tie.After-wide2 → tie.After-apply-intervals
+to-apply-intervals c =
+    let after-row-upper3 = c .before .before .before in
+    after-row-upper3 .before .before .before
+
+abbrev to-apply-intervals2 : tie.After-slice-known12 → tie.After-apply-intervals2
+to-apply-intervals2 c =
+    let after-row-lower4 = c .before .before .before in
+    after-row-lower4 .before
+
+abbrev to-wide : tie.After-slice-known12 → tie.After-wide
+to-wide c =
+    let after-apply-intervals2 = to-apply-intervals2 c in
+    let after-apply-intervals = to-apply-intervals (after-apply-intervals2 .before .before .before) in
+    after-apply-intervals .before .before .before
+
 reset-row-bounds-requires : tie.Need-reset-row-bounds-requires
 reset-row-bounds-requires c κs =
-    let c9 = c .before .before .before .before .before .before .before .before .before in
-    let p = c9 .pre in
-    (p .shape-long, fits (c9) .aggregates .varying, p .row-lower-long, p .row-upper-long)
+    let start = to-start c in
+    let p = start .pre in
+    (p .shape-long, fits (start) .aggregates .varying, p .row-lower-long, p .row-upper-long)
 
 update-node-constraint-bounds-requires : tie.Need-update-node-constraint-bounds-requires
 update-node-constraint-bounds-requires c κs =
-    let c7 = c .before .before .before .before .before .before .before in
-    let c17 = c7 .before .before .before .before .before .before .before .before .before .before in
-    let p = c17 .pre in
-    let f = fits (c17) in (
+    let after-reset-row-bounds = to-reset-row-bounds c in
+    let start = to-start (after-reset-row-bounds .before) in
+    let p = start .pre in
+    let f = fits (start) in (
       record {
-        lower-long = omega (arith, c7 .reset-row-bounds .kept .0, p .row-lower-long);
-        upper-long = omega (arith, c7 .reset-row-bounds .kept .1 .0, p .row-upper-long);
+        lower-long = omega (arith, after-reset-row-bounds .reset-row-bounds .kept .0, p .row-lower-long);
+        upper-long = omega (arith, after-reset-row-bounds .reset-row-bounds .kept .1 .0, p .row-upper-long);
         elements-long = p .elements-long;
         work-long = p .work-long;
       },
@@ -38,70 +73,70 @@ update-node-constraint-bounds-requires c κs =
 
 apply-intervals-requires : tie.Need-apply-intervals-requires
 apply-intervals-requires c κs =
-    let c2 = c .before .before in
-    let c10 = c2 .before .before .before .before .before .before .before .before in
-    let c18 = c10 .before .before .before .before .before .before .before .before in
-    let c28 = c18 .before .before .before .before .before .before .before .before .before .before in
-    let p = c28 .pre in
-    let f = fits (c28) in (
-      rw (c2 .wide .ensures .0) (f .aggregates),
-      omega (arith, c10 .update-node-constraint-bounds .kept .0, c18 .reset-row-bounds .kept .0, p .row-lower-long),
-      omega (arith, c10 .update-node-constraint-bounds .kept .1 .0, c18 .reset-row-bounds .kept .1 .0, p .row-upper-long),
+    let after-wide = c .before .before in
+    let after-update-node-constraint-bounds = to-update-node-constraint-bounds after-wide in
+    let after-reset-row-bounds = to-reset-row-bounds (after-update-node-constraint-bounds .before) in
+    let start = to-start (after-reset-row-bounds .before) in
+    let p = start .pre in
+    let f = fits (start) in (
+      rw (after-wide .wide .ensures .0) (f .aggregates),
+      omega (arith, after-update-node-constraint-bounds .update-node-constraint-bounds .kept .0, after-reset-row-bounds .reset-row-bounds .kept .0, p .row-lower-long),
+      omega (arith, after-update-node-constraint-bounds .update-node-constraint-bounds .kept .1 .0, after-reset-row-bounds .reset-row-bounds .kept .1 .0, p .row-upper-long),
       p .work-long,
-      omega (arith, c2 .wide .ensures .0, f .aggregates-few),
+      omega (arith, after-wide .wide .ensures .0, f .aggregates-few),
     )
 
 apply-intervals-requires-2 : tie.Need-apply-intervals-requires-2
 apply-intervals-requires-2 c κs =
-    let c2 = c .before .before in
-    let c8 = c2 .before .before .before .before .before .before in
-    let c19 = c8 .before .before .before .before .before .before .before .before .before .before .before in
-    let c27 = c19 .before .before .before .before .before .before .before .before in
-    let c37 = c27 .before .before .before .before .before .before .before .before .before .before in
-    let p = c37 .pre in
-    let f = fits (c37) in (
-      rw (c2 .wide2 .ensures .0) (f .virtualStorages),
-      omega (arith, c8 .apply-intervals .kept .0, c19 .update-node-constraint-bounds .kept .0, c27 .reset-row-bounds .kept .0, p .row-lower-long),
-      omega (arith, c8 .apply-intervals .kept .1 .0, c19 .update-node-constraint-bounds .kept .1 .0, c27 .reset-row-bounds .kept .1 .0, p .row-upper-long),
+    let after-wide2 = c .before .before in
+    let after-apply-intervals = to-apply-intervals after-wide2 in
+    let after-update-node-constraint-bounds = to-update-node-constraint-bounds (after-apply-intervals .before .before .before) in
+    let after-reset-row-bounds = to-reset-row-bounds (after-update-node-constraint-bounds .before) in
+    let start = to-start (after-reset-row-bounds .before) in
+    let p = start .pre in
+    let f = fits (start) in (
+      rw (after-wide2 .wide2 .ensures .0) (f .virtualStorages),
+      omega (arith, after-apply-intervals .apply-intervals .kept .0, after-update-node-constraint-bounds .update-node-constraint-bounds .kept .0, after-reset-row-bounds .reset-row-bounds .kept .0, p .row-lower-long),
+      omega (arith, after-apply-intervals .apply-intervals .kept .1 .0, after-update-node-constraint-bounds .update-node-constraint-bounds .kept .1 .0, after-reset-row-bounds .reset-row-bounds .kept .1 .0, p .row-upper-long),
       p .work-long,
-      omega (arith, c2 .wide2 .ensures .0, f .virtual-storages-few),
+      omega (arith, after-wide2 .wide2 .ensures .0, f .virtual-storages-few),
     )
 
 same-length : tie.Need-same-length
 same-length c =
-    let c4 = c .before .before .before .before in
-    let c13 = c4 .before .before .before .before .before .before .before .before .before in
-    let c24 = c13 .before .before .before .before .before .before .before .before .before .before .before in
-    let c32 = c24 .before .before .before .before .before .before .before .before in
-    c4 .apply-intervals2 .kept .0 ∙ c13 .apply-intervals .kept .0 ∙ c24 .update-node-constraint-bounds .kept .0 ∙ c32 .reset-row-bounds .kept .0
+    let after-apply-intervals2 = to-apply-intervals2 c in
+    let after-apply-intervals = to-apply-intervals (after-apply-intervals2 .before .before .before) in
+    let after-update-node-constraint-bounds = to-update-node-constraint-bounds (after-apply-intervals .before .before .before) in
+    let after-reset-row-bounds = to-reset-row-bounds (after-update-node-constraint-bounds .before) in
+    after-apply-intervals2 .apply-intervals2 .kept .0 ∙ after-apply-intervals .apply-intervals .kept .0 ∙ after-update-node-constraint-bounds .update-node-constraint-bounds .kept .0 ∙ after-reset-row-bounds .reset-row-bounds .kept .0
 
 same-length-2 : tie.Need-same-length-2
 same-length-2 c =
-    let c4 = c .before .before .before .before in
-    let c13 = c4 .before .before .before .before .before .before .before .before .before in
-    let c24 = c13 .before .before .before .before .before .before .before .before .before .before .before in
-    let c32 = c24 .before .before .before .before .before .before .before .before in
-    c4 .apply-intervals2 .kept .1 .0 ∙ c13 .apply-intervals .kept .1 .0 ∙ c24 .update-node-constraint-bounds .kept .1 .0 ∙ c32 .reset-row-bounds .kept .1 .0
+    let after-apply-intervals2 = to-apply-intervals2 c in
+    let after-apply-intervals = to-apply-intervals (after-apply-intervals2 .before .before .before) in
+    let after-update-node-constraint-bounds = to-update-node-constraint-bounds (after-apply-intervals .before .before .before) in
+    let after-reset-row-bounds = to-reset-row-bounds (after-update-node-constraint-bounds .before) in
+    after-apply-intervals2 .apply-intervals2 .kept .1 .0 ∙ after-apply-intervals .apply-intervals .kept .1 .0 ∙ after-update-node-constraint-bounds .update-node-constraint-bounds .kept .1 .0 ∙ after-reset-row-bounds .reset-row-bounds .kept .1 .0
 
 same-length-3 : tie.Need-same-length-3
 same-length-3 c =
-    let c24 = c .before .before .before .before .before .before .before .before .before .before .before .before .before .before .before .before .before .before .before .before .before .before .before .before in
-    c24 .update-node-constraint-bounds .kept .1 .1 .0
+    let after-update-node-constraint-bounds = to-update-node-constraint-bounds (to-wide c) in
+    after-update-node-constraint-bounds .update-node-constraint-bounds .kept .1 .1 .0
 
 returns : tie.Need-returns
 returns c =
-    let c4 = c .before .before .before .before in
-    let c7 = c4 .before .before .before in
-    let c13 = c7 .before .before .before .before .before .before in
-    let c16 = c13 .before .before .before in
-    let c24 = c16 .before .before .before .before .before .before .before .before in
-    let c32 = c24 .before .before .before .before .before .before .before .before in
-    let c42 = c32 .before .before .before .before .before .before .before .before .before .before in
+    let after-apply-intervals2 = to-apply-intervals2 c in
+    let after-wide2 = after-apply-intervals2 .before .before .before in
+    let after-apply-intervals = to-apply-intervals after-wide2 in
+    let after-wide = after-apply-intervals .before .before .before in
+    let after-update-node-constraint-bounds = to-update-node-constraint-bounds after-wide in
+    let after-reset-row-bounds = to-reset-row-bounds (after-update-node-constraint-bounds .before) in
+    let start = to-start (after-reset-row-bounds .before) in
     λ s i has held.
-    step-written _ _ _ _ _ _ _ (fits (c42) .varying) (c42 .pre .elements-long) s _ _ _ _ _ _ _ _ _ _ _
-    (c32 .reset-row-bounds .ensures) (c24 .update-node-constraint-bounds .ensures)
-    (c16 .wide .ensures .0) (c13 .apply-intervals .ensures)
-    (c7 .wide2 .ensures .0) (c4 .apply-intervals2 .ensures) i has held
+    step-written _ _ _ _ _ _ _ (fits (start) .varying) (start .pre .elements-long) s _ _ _ _ _ _ _ _ _ _ _
+    (after-reset-row-bounds .reset-row-bounds .ensures) (after-update-node-constraint-bounds .update-node-constraint-bounds .ensures)
+    (after-wide .wide .ensures .0) (after-apply-intervals .apply-intervals .ensures)
+    (after-wide2 .wide2 .ensures .0) (after-apply-intervals2 .apply-intervals2 .ensures) i has held
 
 pub update-constraint-bounds-spec : {M : Type 1} → statement M
 update-constraint-bounds-spec =

@@ -15,39 +15,45 @@ Inv-loop file shape days sentinel work₀ first virtualStorages i₀ work i = Pa
 abbrev μ-loop : tie.MeasureT-loop
 μ-loop file shape days sentinel work₀ first virtualStorages i₀ work i = virtualStorages - i
 
+-- from a place to an earlier one
+abbrev to-loop : tie.Then1 Inv-loop μ-loop → tie.At-loop Inv-loop μ-loop
+to-loop c =
+    let in-loop = c .before .before .before in
+    in-loop .before
+
 loop-holds : tie.Need-loop-holds Inv-loop μ-loop
 loop-holds c =
     passed-none _ _ _ _
 
 same-length : tie.Need-same-length Inv-loop μ-loop
 same-length c =
-    c .before .before .before .before .loop .inv .writing .long
+    to-loop c .loop .inv .writing .long
 
 returns : tie.Need-returns Inv-loop μ-loop
 unfolding virtualStorageNumbered
 returns c =
-    let c2 = c .before .before in
-    let c3 = c2 .before in
-    let c4 = c3 .before in
-    let c5 = c4 .before in
-    let c7 = c5 .before .before in
-    rw (← (c5 .wide .ensures .0))
-    (passed-stops _ _ (c3 .loop-test .taken) (c2 .virtual-storage-interval .ensures ∙ rw (c7 .virtual-storages-at .ensures)) (c .before .is-crossed .ensures) (c4 .loop .inv) 15 (c .if1 .taken))
+    let after-virtual-storage-interval = c .before .before in
+    let in-loop = after-virtual-storage-interval .before in
+    let at-loop = in-loop .before in
+    let after-wide = at-loop .before in
+    let after-stores-at = after-wide .before .before in
+    rw (← (after-wide .wide .ensures .0))
+    (passed-stops _ _ (in-loop .loop-test .taken) (after-virtual-storage-interval .virtual-storage-interval .ensures ∙ rw (after-stores-at .virtual-storages-at .ensures)) (c .before .is-crossed .ensures) (at-loop .loop .inv) 15 (c .if1 .taken))
 
 slice-write-work-2 : tie.Need-slice-write-work-2 Inv-loop μ-loop
 slice-write-work-2 c =
-    let c2 = c .before .before in
-    let c4 = c2 .before .before in
-    omega (arith, length-set (c4 .loop .work) (320 + c4 .loop .i) (c2 .virtual-storage-interval .result .lower), c4 .loop .inv .writing .long)
+    let after-virtual-storage-interval = c .before .before in
+    let at-loop = after-virtual-storage-interval .before .before in
+    omega (arith, length-set (at-loop .loop .work) (320 + at-loop .loop .i) (after-virtual-storage-interval .virtual-storage-interval .result .lower), at-loop .loop .inv .writing .long)
 
 loop-again : tie.Need-loop-again Inv-loop μ-loop
 unfolding virtualStorageNumbered
 loop-again c =
-    let c2 = c .before .before in
-    let c3 = c2 .before in
-    let c4 = c3 .before in
-    let c7 = c4 .before .before .before in
-    passed-more _ _ (c3 .loop-test .taken) (c2 .virtual-storage-interval .ensures ∙ rw (c7 .virtual-storages-at .ensures)) (c .before .is-crossed .ensures) (c4 .loop .inv) _ refl (search needs)
+    let after-virtual-storage-interval = c .before .before in
+    let in-loop = after-virtual-storage-interval .before in
+    let at-loop = in-loop .before in
+    let after-stores-at = at-loop .before .before .before in
+    passed-more _ _ (in-loop .loop-test .taken) (after-virtual-storage-interval .virtual-storage-interval .ensures ∙ rw (after-stores-at .virtual-storages-at .ensures)) (c .before .is-crossed .ensures) (at-loop .loop .inv) _ refl (search needs)
     (search needs) (c .if1 .left)
 
 same-length-2 : tie.Need-same-length-2 Inv-loop μ-loop

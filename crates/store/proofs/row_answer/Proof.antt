@@ -27,8 +27,31 @@ store c =
       shape = c .args .shape .now;
     }
 
+-- from a place to an earlier one
+abbrev to-start : tie.After-has-room → tie.Start
+to-start c =
+    let after-shared-slice-known7 = c .before .before .before in
+    let after-shared-slice-known4 = after-shared-slice-known7 .before .before .before in
+    let after-shared-slice-known = after-shared-slice-known4 .before .before .before in
+    after-shared-slice-known .before
+
+abbrev to-else1-from-else3 : tie.Else3 → tie.Else1
+to-else1-from-else3 c =
+    let after-well-shaped = c .before .before .before in
+    after-well-shaped .before
+
+abbrev to-has-room : tie.Else3 → tie.After-has-room
+to-has-room c =
+    let else1 = to-else1-from-else3 c in
+    else1 .before
+
+abbrev to-else1-from-then3 : tie.Then3 → tie.Else1
+to-else1-from-then3 c =
+    let after-well-shaped = c .before .before .before in
+    after-well-shaped .before
+
 abbrev at-room : tie.Else1 → Store
-at-room c = store (c .before .before .before .before .before .before .before .before .before .before .before)
+at-room c = store (to-start (c .before))
 
 -- the store has room, and it is well shaped
 room : (c : tie.Else1) → storeHasRoom (at-room c) ≡ true
@@ -38,14 +61,15 @@ shape-fits : (c : tie.Else2) → wellShaped (at-room (c .before .before)) ≡ tr
 shape-fits c = sym (c .before .well-shaped .ensures (at-room (c .before .before)) refl refl refl) ∙ not-false (c .before .well-shaped .result) (c .if2 .left)
 
 -- the row's two starts are there
-starts-there : (c : tie.Else3) → (c .before .before .before .before .before .before .before .before .before .before .before .before .before .before .before .args .row + 1 < length (at-room (c .before .before .before .before) .rowStarts))
+starts-there : (c : tie.Else3) → (to-start (to-has-room c) .args .row + 1 < length (at-room (to-else1-from-else3 c) .rowStarts))
 starts-there c =
-    let s = at-room (c .before .before .before .before) in
-    omega (arith, c .before .row-count .ensures, c .if3 .left, shaped s (shape-fits (c .before .before)) .counts .rows, roomy s (room (c .before .before .before .before)) .rowStarts)
+    let else1 = to-else1-from-else3 c in
+    let s = at-room (else1) in
+    omega (arith, c .before .row-count .ensures, c .if3 .left, shaped s (shape-fits (c .before .before)) .counts .rows, roomy s (room (else1)) .rowStarts)
 
 returns : tie.Need-returns
 returns c =
-    short (sym (c .before .has-room .ensures (store (c .before .before .before .before .before .before .before .before .before .before .before)) (lengths _)) ∙ not-true (c .before .has-room .result) (c .if1 .taken))
+    short (sym (c .before .has-room .ensures (store (to-start (c .before))) (lengths _)) ∙ not-true (c .before .has-room .result) (c .if1 .taken))
 
 well-shaped-requires : tie.Need-well-shaped-requires
 well-shaped-requires c κs =
@@ -53,10 +77,10 @@ well-shaped-requires c κs =
 
 returns-2 : tie.Need-returns-2
 returns-2 c =
-    let c1 = c .before in
-    let c2 = c1 .before in
-    let c13 = c2 .before .before .before .before .before .before .before .before .before .before .before in
-    misshapen (room (c2)) (sym (c1 .well-shaped .ensures (store (c13)) refl refl refl) ∙ not-true (c1 .well-shaped .result) (c .if2 .taken))
+    let after-well-shaped = c .before in
+    let else1 = after-well-shaped .before in
+    let start = to-start (else1 .before) in
+    misshapen (room (else1)) (sym (after-well-shaped .well-shaped .ensures (store (start)) refl refl refl) ∙ not-true (after-well-shaped .well-shaped .result) (c .if2 .taken))
 
 row-count-requires : tie.Need-row-count-requires
 row-count-requires c κs =
@@ -64,7 +88,7 @@ row-count-requires c κs =
 
 returns-3 : tie.Need-returns-3
 returns-3 c =
-    no-row (room (c .before .before .before .before)) (shape-fits (c .before .before)) (omega (arith, c .before .row-count .ensures, c .if3 .taken))
+    no-row (room (to-else1-from-then3 c)) (shape-fits (c .before .before)) (omega (arith, c .before .row-count .ensures, c .if3 .taken))
 
 mul-wide-start : tie.Need-mul-wide-start
 mul-wide-start c =
@@ -88,12 +112,12 @@ shared-slice-read-wide-start-2 c =
 
 returns-4 : tie.Need-returns-4
 returns-4 c =
-    let c2 = c .before .before in
-    let c4 = c2 .before .before in
-    let c5 = c4 .before in
-    let c6 = c5 .before in
-    let c8 = c6 .before .before in
-    rw (c2 .wide-start .ensures .0, c .wide-start2 .ensures .0) (row-part (room (c8)) (shape-fits (c6)) (omega (arith, c5 .row-count .ensures, c4 .if3 .left)))
+    let after-wide-start = c .before .before in
+    let else3 = after-wide-start .before .before in
+    let after-row-count = else3 .before in
+    let else2 = after-row-count .before in
+    let else1 = else2 .before .before in
+    rw (after-wide-start .wide-start .ensures .0, c .wide-start2 .ensures .0) (row-part (room (else1)) (shape-fits (else2)) (omega (arith, after-row-count .row-count .ensures, else3 .if3 .left)))
 
 pub row-answer-spec : {M : Type 1} → statement M
 row-answer-spec =

@@ -15,8 +15,29 @@ use borrow.Author.Needs.{needs}
 use Rattle.store.proofs.well_shaped.Statement.{statement}
 use Rattle.store.proofs.well_shaped.Tie as tie
 
+-- from a place to an earlier one
+abbrev to-start : tie.After-shared-slice-known4 → tie.Start
+to-start c =
+    let after-shared-slice-known2 = c .before .before .before in
+    after-shared-slice-known2 .before .before
+
+abbrev to-shared-slice-known4 : tie.After-columns-rise → tie.After-shared-slice-known4
+to-shared-slice-known4 c =
+    let else1 = c .before .before .before in
+    else1 .before
+
+abbrev to-else1 : tie.After-nodes-fit → tie.Else1
+to-else1 c =
+    let after-starts-rise = c .before .before .before in
+    after-starts-rise .before
+
+abbrev to-columns-rise : tie.After-aggregates-fit → tie.After-columns-rise
+to-columns-rise c =
+    let after-nodes-fit = c .before .before .before in
+    after-nodes-fit .before
+
 abbrev start : tie.Else1 → tie.Start
-start c = c .before .before .before .before .before .before
+start c = to-start (c .before)
 
 abbrev words : tie.Else1 → List ℕ
 words c = start c .args .shape .now
@@ -38,13 +59,14 @@ returns : tie.Need-returns
 unfolding wellShaped
 returns c =
     λ s ec er es.
-    let t = c .before .before .counts-fit .result && leb (getD (c .before .before .before .before .before .before .args .shape .now) 0 0) 1 in
+    let t = c .before .before .counts-fit .result && leb (getD (to-start (c .before) .args .shape .now) 0 0) 1 in
     let p : (countsFit s && leb (sentinelCode s) 1) ≡ false = rw (← (c .before .before .counts-fit .ensures s es), es) (not-true t (c .if1 .taken)) in
     rw p
 
 starts-rise-requires : tie.Need-starts-rise-requires
 starts-rise-requires c κs =
-    (c .before .before .before .before .before .before .pre .1, c .before .before .before .before .before .before .pre .2, counts c .rows)
+    let start = to-start (c .before) in
+    (start .pre .1, start .pre .2, counts c .rows)
 
 returns-2 : tie.Need-returns-2
 unfolding wellShaped
@@ -57,39 +79,39 @@ columns-rise-requires c κs =
 
 nodes-fit-requires : tie.Need-nodes-fit-requires
 nodes-fit-requires c κs =
-    (c .before .before .before .before .before .before .before .before .before .pre .2, counts (c .before .before .before) .nodes)
+    (to-start (to-shared-slice-known4 c) .pre .2, counts (c .before .before .before) .nodes)
 
 edges-fit-requires : tie.Need-edges-fit-requires
 edges-fit-requires c κs =
-    (c .before .before .before .before .before .before .before .before .before .before .pre .2, counts (c .before .before .before .before) .edges)
+    (to-start (to-shared-slice-known4 (c .before)) .pre .2, counts (to-else1 c) .edges)
 
 node-rows-fit-requires : tie.Need-node-rows-fit-requires
 node-rows-fit-requires c κs =
-    (rows (c .before .before .before), counts (c .before .before .before .before .before) .node-rows)
+    (rows (c .before .before .before), counts (to-else1 (c .before)) .node-rows)
 
 aggregates-fit-requires : tie.Need-aggregates-fit-requires
 aggregates-fit-requires c κs =
-    (c .before .before .before .before .before .before .before .before .before .before .before .before .pre .2, counts (c .before .before .before .before .before .before) .aggregates)
+    (to-start (to-shared-slice-known4 (c .before .before .before)) .pre .2, counts (to-else1 (c .before .before)) .aggregates)
 
 virtual-storages-fit-requires : tie.Need-virtual-storages-fit-requires
 virtual-storages-fit-requires c κs =
-    (c .before .before .before .before .before .before .before .before .before .before .before .before .before .pre .2, counts (c .before .before .before .before .before .before .before) .virtualStorages)
+    (to-start (to-shared-slice-known4 (to-columns-rise c)) .pre .2, counts (to-else1 (c .before .before .before)) .virtualStorages)
 
 returns-3 : tie.Need-returns-3
 unfolding wellShaped
 returns-3 c =
-    let c1 = c .before in
-    let c2 = c1 .before in
-    let c3 = c2 .before in
-    let c4 = c3 .before in
-    let c5 = c4 .before in
-    let c6 = c5 .before in
-    let c7 = c6 .before in
-    let c8 = c7 .before in
+    let after-aggregates-fit = c .before in
+    let after-node-rows-fit = after-aggregates-fit .before in
+    let after-edges-fit = after-node-rows-fit .before in
+    let after-nodes-fit = after-edges-fit .before in
+    let after-columns-rise = after-nodes-fit .before in
+    let else2 = after-columns-rise .before in
+    let after-starts-rise = else2 .before in
+    let else1 = after-starts-rise .before in
     λ s ec er es.
-    let at-starts = (c7) in
-    let at-columns = (c5) in
-    rw (counts-and-sentinel (c8) s es, sym (at-starts .starts-rise .ensures s er es) ∙ not-false (at-starts .starts-rise .result) (c6 .if2 .left), at-columns .columns-rise .ensures s ec er es, c4 .nodes-fit .ensures s es, c3 .edges-fit .ensures s es, c2 .node-rows-fit .ensures s ec er es, c1 .aggregates-fit .ensures s es, c .virtual-storages-fit .ensures s es)
+    let at-starts = (after-starts-rise) in
+    let at-columns = (after-columns-rise) in
+    rw (counts-and-sentinel (else1) s es, sym (at-starts .starts-rise .ensures s er es) ∙ not-false (at-starts .starts-rise .result) (else2 .if2 .left), at-columns .columns-rise .ensures s ec er es, after-nodes-fit .nodes-fit .ensures s es, after-edges-fit .edges-fit .ensures s es, after-node-rows-fit .node-rows-fit .ensures s ec er es, after-aggregates-fit .aggregates-fit .ensures s es, c .virtual-storages-fit .ensures s es)
 
 pub well-shaped-spec : {M : Type 1} → statement M
 well-shaped-spec =

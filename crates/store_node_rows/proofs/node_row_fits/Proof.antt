@@ -34,10 +34,41 @@ returns-3 c =
     rw (es, lt-ltb _ _ (i1 .left), lt-ltb _ _ (i2 .left), lt-leb _ _ (i3 .taken))
 
 returns-4 : tie.Need-returns-4
+
+-- from a place to an earlier one
+abbrev to-start : tie.After-wide → tie.Start
+to-start c =
+    let else4 = c .before .before .before in
+    let after-shared-slice-known9 = else4 .before .before .before in
+    let after-shared-slice-known7 = after-shared-slice-known9 .before .before .before in
+    let after-shared-slice-known4 = after-shared-slice-known7 .before .before .before in
+    let after-shared-slice-known = after-shared-slice-known4 .before .before .before in
+    after-shared-slice-known .before
+
+abbrev to-else1-from-then4 : tie.Then4 → tie.Else1
+to-else1-from-then4 c =
+    let after-shared-slice-known9 = c .before .before .before in
+    after-shared-slice-known9 .before
+
+abbrev to-else2 : tie.Then5 → tie.Else2
+to-else2 c =
+    let else3 = c .before .before .before in
+    else3 .before
+
+abbrev to-else1-from-then5 : tie.Then5 → tie.Else1
+to-else1-from-then5 c =
+    let else2 = to-else2 c in
+    else2 .before .before
+
+abbrev to-wide : tie.After-shared-slice-known13 → tie.After-wide
+to-wide c =
+    let after-wide-start = c .before .before .before in
+    after-wide-start .before .before
+
 unfolding nodeRowFits
 returns-4 c =
     λ s ec er es.
-    let i1 = c .before .before .before .before .if1 in
+    let i1 = to-else1-from-then4 c .if1 in
     let i2 = c .before .before .if2 in
     let i3 = c .before .if3 in
     let i4 = c .if4 in
@@ -47,8 +78,8 @@ returns-5 : tie.Need-returns-5
 unfolding nodeRowFits
 returns-5 c =
     λ s ec er es.
-    let i1 = c .before .before .before .before .before .before .if1 in
-    let i2 = c .before .before .before .before .if2 in
+    let i1 = to-else1-from-then5 c .if1 in
+    let i2 = to-else2 c .if2 in
     let i3 = c .before .before .before .if3 in
     let i4 = c .before .before .if4 in
     let i5 = c .if5 in
@@ -56,28 +87,28 @@ returns-5 c =
 
 row-holds-requires : tie.Need-row-holds-requires
 row-holds-requires c κs =
-    let c5 = c .before .before .before .before .before in
-    let c21 = c5 .before .before .before .before .before .before .before .before .before .before .before .before .before .before .before .before in
-    omega (arith, start-under (c21 .pre .0 .starts) (c5 .wide .result + 1) (omega arith))
+    let after-wide = to-wide c in
+    let start = to-start after-wide in
+    omega (arith, start-under (start .pre .0 .starts) (after-wide .wide .result + 1) (omega arith))
 
 returns-6 : tie.Need-returns-6
 unfolding nodeRowFits columnsOfRow
 returns-6 c =
-    let c2 = c .before .before in
-    let c4 = c2 .before .before in
-    let c6 = c4 .before .before in
-    let c7 = c6 .before in
-    let c9 = c7 .before .before in
-    let c10 = c9 .before in
-    let c11 = c10 .before in
-    let c13 = c11 .before .before in
+    let after-wide-start2 = c .before .before in
+    let after-wide-start = after-wide-start2 .before .before in
+    let after-wide = after-wide-start .before .before in
+    let else5 = after-wide .before in
+    let else4 = else5 .before .before in
+    let else3 = else4 .before in
+    let else2 = else3 .before in
+    let else1 = else2 .before .before in
     λ s ec er es.
-    let i1 = c13 .if1 in
-    let i2 = c11 .if2 in
-    let i3 = c10 .if3 in
-    let i4 = c9 .if4 in
-    let i5 = c7 .if5 in
-    rw (ec, er, es, lt-ltb _ _ (i1 .left), lt-ltb _ _ (i2 .left), le-leb _ _ (i3 .left), ne-eqb _ _ (i4 .left), lt-ltb _ _ (i5 .left), c .row-holds .ensures, c4 .wide-start .ensures .0, c2 .wide-start2 .ensures .0, c6 .wide .ensures .0)
+    let i1 = else1 .if1 in
+    let i2 = else2 .if2 in
+    let i3 = else3 .if3 in
+    let i4 = else4 .if4 in
+    let i5 = else5 .if5 in
+    rw (ec, er, es, lt-ltb _ _ (i1 .left), lt-ltb _ _ (i2 .left), le-leb _ _ (i3 .left), ne-eqb _ _ (i4 .left), lt-ltb _ _ (i5 .left), c .row-holds .ensures, after-wide-start .wide-start .ensures .0, after-wide-start2 .wide-start2 .ensures .0, after-wide .wide .ensures .0)
 
 pub node-row-fits-spec : {M : Type 1} → statement M
 node-row-fits-spec =

@@ -10,19 +10,30 @@ use borrow.Author.Needs.{needs}
 use Rattle.store_rows.proofs.columns_rise.Statement.{statement}
 use Rattle.store_rows.proofs.columns_rise.Tie as tie
 
+-- from a place to an earlier one
+abbrev to-start : tie.After-wide → tie.Start
+to-start c =
+    let after-shared-slice-known2 = c .before .before .before in
+    after-shared-slice-known2 .before .before
+
+abbrev to-wide : tie.After-row-count → tie.After-wide
+to-wide c =
+    let after-shared-slice-known6 = c .before .before .before in
+    after-shared-slice-known6 .before .before
+
 start-falls-requires : tie.Need-start-falls-requires
 start-falls-requires c κs =
-    (search needs, search needs, λ r lt. omega (arith, start-under (c .before .before .before .before .before .before .before .before .before .before .pre .starts) (r + 1) (omega arith)))
+    (search needs, search needs, λ r lt. omega (arith, start-under (to-start (to-wide c) .pre .starts) (r + 1) (omega arith)))
 
 returns : tie.Need-returns
 unfolding rowColumnsRise columnsOfRow
 returns c =
-    let c1 = c .before in
-    let c2 = c1 .before in
-    let c3 = c2 .before in
-    let c6 = c3 .before .before .before in
-    let c11 = c6 .before .before .before .before .before in
-    λ s ec er es. rw (ec, er, es, c3 .columns-under .ensures, c2 .falls .ensures, c .start-falls .ensures, c6 .wide .ensures .0, c1 .row-count .ensures) (sym (rising _ _ (c11 .pre .starts) (search needs)))
+    let after-row-count = c .before in
+    let after-falls = after-row-count .before in
+    let after-columns-under = after-falls .before in
+    let after-wide = after-columns-under .before .before .before in
+    let start = to-start after-wide in
+    λ s ec er es. rw (ec, er, es, after-columns-under .columns-under .ensures, after-falls .falls .ensures, c .start-falls .ensures, after-wide .wide .ensures .0, after-row-count .row-count .ensures) (sym (rising _ _ (start .pre .starts) (search needs)))
 
 pub columns-rise-spec : {M : Type 1} → statement M
 columns-rise-spec =

@@ -13,13 +13,20 @@ Inv-loop columns n sum₀ i₀ sum i = (1 ≤ i) × Summed (fallAt columns) n su
 abbrev μ-loop : tie.MeasureT-loop
 μ-loop columns n sum₀ i₀ sum i = n - i
 
+-- from a place to an earlier one
+abbrev to-loop : tie.After-fall-of Inv-loop μ-loop → tie.At-loop Inv-loop μ-loop
+to-loop c =
+    let in-loop = c .before .before .before in
+    in-loop .before
+
 loop-holds : tie.Need-loop-holds Inv-loop μ-loop
 loop-holds c =
     (search needs, falls-none _ _)
 
 loop-again : tie.Need-loop-again Inv-loop μ-loop
 loop-again c =
-    (search needs, summed-more (c .before .before .before .before .loop .inv .1) _ (c .fall-of .ensures .0 ∙ sym (fall-is _ _ (c .before .before .before .before .loop .inv .0))) (c .fall-of .ensures .1) (c .before .before .before .loop-test .taken))
+    let at-loop = to-loop c in
+    (search needs, summed-more (at-loop .loop .inv .1) _ (c .fall-of .ensures .0 ∙ sym (fall-is _ _ (at-loop .loop .inv .0))) (c .fall-of .ensures .1) (c .before .before .before .loop-test .taken))
 
 returns : tie.Need-returns Inv-loop μ-loop
 returns c =

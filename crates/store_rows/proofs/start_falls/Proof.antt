@@ -13,22 +13,34 @@ Inv-loop columns row-starts rows sum₀ r₀ sum r = (r ≤ rows) × Summed (row
 abbrev μ-loop : tie.MeasureT-loop
 μ-loop columns row-starts rows sum₀ r₀ sum r = rows - r
 
+-- from a place to an earlier one
+abbrev to-in-loop : tie.After-wide-start2 Inv-loop μ-loop → tie.In-loop Inv-loop μ-loop
+to-in-loop c =
+    let after-shared-slice-known3 = c .before .before .before in
+    after-shared-slice-known3 .before
+
+abbrev to-start : tie.After-wide-start2 Inv-loop μ-loop → tie.Start Inv-loop μ-loop
+to-start c =
+    let in-loop = to-in-loop c in
+    let after-shared-slice-known = in-loop .before .before .before in
+    after-shared-slice-known .before
+
 loop-holds : tie.Need-loop-holds Inv-loop μ-loop
 loop-holds c =
     (search needs, summed-none _ _)
 
 start-fall-requires : tie.Need-start-fall-requires Inv-loop μ-loop
 start-fall-requires c κs =
-    rw (c .wide-start2 .ensures .0) (c .before .before .before .before .before .before .before .before .pre .2 _ (c .before .before .before .before .loop-test .taken))
+    rw (c .wide-start2 .ensures .0) (to-start c .pre .2 _ (to-in-loop c .loop-test .taken))
 
 loop-again : tie.Need-loop-again Inv-loop μ-loop
 unfolding rowFall
 loop-again c =
-    let c1 = c .before in
-    let c3 = c1 .before .before in
-    let c5 = c3 .before .before in
-    let c6 = c5 .before in
-    (search needs, summed-more (c6 .loop .inv .1) _ (c .start-fall .ensures .0 ∙ rw (c3 .wide-start .ensures .0, c1 .wide-start2 .ensures .0)) (c .start-fall .ensures .1) (c5 .loop-test .taken))
+    let after-wide-start2 = c .before in
+    let after-wide-start = after-wide-start2 .before .before in
+    let in-loop = after-wide-start .before .before in
+    let at-loop = in-loop .before in
+    (search needs, summed-more (at-loop .loop .inv .1) _ (c .start-fall .ensures .0 ∙ rw (after-wide-start .wide-start .ensures .0, after-wide-start2 .wide-start2 .ensures .0)) (c .start-fall .ensures .1) (in-loop .loop-test .taken))
 
 returns : tie.Need-returns Inv-loop μ-loop
 returns c =

@@ -12,6 +12,12 @@ Inv-loop shape nodes columns edges good₀ at₀ i₀ good at i = Tested (edgeFi
 abbrev μ-loop : tie.MeasureT-loop
 μ-loop shape nodes columns edges good₀ at₀ i₀ good at i = edges - i
 
+-- from a place to an earlier one
+abbrev to-loop : tie.After-shared-slice-known7 Inv-loop μ-loop → tie.At-loop Inv-loop μ-loop
+to-loop c =
+    let in-loop = c .before .before .before in
+    in-loop .before
+
 loop-holds : tie.Need-loop-holds Inv-loop μ-loop
 loop-holds c =
     tested-none _ _ _ _
@@ -19,7 +25,7 @@ loop-holds c =
 loop-again : tie.Need-loop-again Inv-loop μ-loop
 unfolding edgeFits
 loop-again c =
-    tested-more (c .before .before .before .before .loop .inv) (c .before .before .before .loop-test .taken)
+    tested-more (to-loop c .loop .inv) (c .before .before .before .loop-test .taken)
 
 returns : tie.Need-returns Inv-loop μ-loop
 unfolding edgeFits

@@ -17,11 +17,25 @@ put-all-requires c κs =
     let f = few 16 16 _ _ 16 (lit< tt) (omega arith) (lit≤ tt) (c .before .before .hex .ensures .1 .0) in omega (arith, c .before .before .hex .ensures .0 .1)
 
 returns : tie.Need-returns
+
+-- from a place to an earlier one
+abbrev to-hex : tie.After-slice-known2 → tie.After-hex
+to-hex c =
+    let after-digits2 = c .before .before .before in
+    after-digits2 .before .before
+
+abbrev to-start : tie.After-slice-known2 → tie.Start
+to-start c =
+    let after-hex = to-hex c in
+    after-hex .before .before .before
+
 unfolding sixteenDigits
 returns c =
-    let f = few 16 16 (c .before .before .before .before .before .before .before .before .args .n) (c .before .before .before .before .before .hex .result) 16 (lit< tt) (omega arith) (lit≤ tt) (c .before .before .before .before .before .hex .ensures .1 .0) in
-    let e : c .before .before .before .before .before .hex .result ≡ 16 = omega (arith, c .before .before .before .before .before .hex .ensures .1 .0 .0) in
-    put-as (c .before .before .before .before .before .hex .ensures .1 .1 ∙ ap (λ (k : ℕ). digits 16 k (c .before .before .before .before .before .before .before .before .args .n)) e) (c .before .before .put-all .ensures)
+    let after-hex = to-hex c in
+    let start = to-start c in
+    let f = few 16 16 (start .args .n) (after-hex .hex .result) 16 (lit< tt) (omega arith) (lit≤ tt) (after-hex .hex .ensures .1 .0) in
+    let e : after-hex .hex .result ≡ 16 = omega (arith, after-hex .hex .ensures .1 .0 .0) in
+    put-as (after-hex .hex .ensures .1 .1 ∙ ap (λ (k : ℕ). digits 16 k (start .args .n)) e) (c .before .before .put-all .ensures)
 
 pub put-hex-spec : {M : Type 1} → statement M
 put-hex-spec =
