@@ -13,8 +13,6 @@ use borrow.Author.Needs.{needs}
 use Rattle.build_constants.proofs.add_node_row.Statement.{statement}
 use Rattle.build_constants.proofs.add_node_row.Tie as tie
 
-add-node-requires : tie.Need-add-node-requires
-
 -- from a place to an earlier one
 abbrev to-start : tie.After-add-node-arg2 → tie.Start
 to-start c =
@@ -36,6 +34,7 @@ to-add-fixed-row c =
     let after-words = c .before .before .before in
     after-words .before
 
+add-node-requires : tie.Need-add-node-requires
 unfolding columnsRise
 add-node-requires c κs =
     let start = to-start c in

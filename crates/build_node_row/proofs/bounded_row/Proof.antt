@@ -13,14 +13,13 @@ unfolding columnsRise
 add-node-requires c κs =
     search needs
 
-returns : tie.Need-returns
-
 -- from a place to an earlier one
 abbrev to-add-node : tie.After-add-element → tie.After-add-node
 to-add-node c =
     let after-slice-known2 = c .before .before .before in
     after-slice-known2 .before .before
 
+returns : tie.Need-returns
 unfolding gathered elementsOf
 returns c =
     let after-add-element = c .before .before in

@@ -14,14 +14,13 @@ unfolding byteField
 returns c =
     rw (lt-leb (c .before .before .args .at + 1) (length (c .before .before .args .s .now)) (omega arith))
 
-returns-2 : tie.Need-returns-2
-
 -- from a place to an earlier one
 abbrev to-start : tie.After-wide8 → tie.Start
 to-start c =
     let after-shared-slice-known = c .before .before .before in
     after-shared-slice-known .before
 
+returns-2 : tie.Need-returns-2
 unfolding byteField between
 returns-2 c =
     let start = to-start (c .before) in

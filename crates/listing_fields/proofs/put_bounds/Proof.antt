@@ -6,14 +6,13 @@ use borrow.Author.Needs.{needs}
 use Rattle.listing_fields.proofs.put_bounds.Statement.{statement}
 use Rattle.listing_fields.proofs.put_bounds.Tie as tie
 
-returns : tie.Need-returns
-
 -- from a place to an earlier one
 abbrev to-put-double : tie.After-put-double2 → tie.After-put-double
 to-put-double c =
     let after-out = c .before .before .before in
     after-out .before
 
+returns : tie.Need-returns
 unfolding boundsFields
 returns c =
     let after-put-double2 = c .before .before in

@@ -6,8 +6,6 @@ use borrow.Author.Needs.{needs}
 use Rattle.listing_fields.proofs.put_double.Statement.{statement}
 use Rattle.listing_fields.proofs.put_double.Tie as tie
 
-returns : tie.Need-returns
-
 -- from a place to an earlier one
 abbrev to-put : tie.After-slice-known3 → tie.After-put
 to-put c =
@@ -15,6 +13,7 @@ to-put c =
     let after-out = after-bits .before .before .before in
     after-out .before
 
+returns : tie.Need-returns
 unfolding doubleField
 returns c =
     let after-put = to-put c in

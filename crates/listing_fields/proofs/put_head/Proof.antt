@@ -6,14 +6,13 @@ use borrow.Author.Needs.{needs}
 use Rattle.listing_fields.proofs.put_head.Statement.{statement}
 use Rattle.listing_fields.proofs.put_head.Tie as tie
 
-returns : tie.Need-returns
-
 -- from a place to an earlier one
 abbrev to-put : tie.After-put-number → tie.After-put
 to-put c =
     let after-out = c .before .before .before in
     after-out .before
 
+returns : tie.Need-returns
 unfolding headFields
 returns c =
     let after-put-number = c .before .before in

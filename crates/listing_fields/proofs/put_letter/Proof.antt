@@ -6,14 +6,13 @@ use borrow.Author.Needs.{needs}
 use Rattle.listing_fields.proofs.put_letter.Statement.{statement}
 use Rattle.listing_fields.proofs.put_letter.Tie as tie
 
-returns : tie.Need-returns
-
 -- from a place to an earlier one
 abbrev to-put : tie.After-put2 → tie.After-put
 to-put c =
     let after-out = c .before .before .before in
     after-out .before
 
+returns : tie.Need-returns
 unfolding letterField
 returns c =
     let after-put2 = c .before .before in

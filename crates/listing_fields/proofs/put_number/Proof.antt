@@ -6,14 +6,13 @@ use borrow.Author.Needs.{needs}
 use Rattle.listing_fields.proofs.put_number.Statement.{statement}
 use Rattle.listing_fields.proofs.put_number.Tie as tie
 
-returns : tie.Need-returns
-
 -- from a place to an earlier one
 abbrev to-put : tie.After-slice-known3 → tie.After-put
 to-put c =
     let after-put-decimal-arg = c .before .before .before in
     after-put-decimal-arg .before .before .before
 
+returns : tie.Need-returns
 unfolding numberField
 returns c =
     let after-put = to-put c in

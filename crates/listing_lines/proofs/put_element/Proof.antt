@@ -6,8 +6,6 @@ use borrow.Author.Needs.{needs}
 use Rattle.listing_lines.proofs.put_element.Statement.{statement}
 use Rattle.listing_lines.proofs.put_element.Tie as tie
 
-returns : tie.Need-returns
-
 -- from a place to an earlier one
 abbrev to-put-double : tie.After-slice-known4 → tie.After-put-double
 to-put-double c =
@@ -20,6 +18,7 @@ to-put-head c =
     let after-out = after-put-double .before .before .before in
     after-out .before
 
+returns : tie.Need-returns
 unfolding elementLine
 returns c =
     let after-put-double = to-put-double c in

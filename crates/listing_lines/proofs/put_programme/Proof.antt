@@ -6,8 +6,6 @@ use borrow.Author.Needs.{needs}
 use Rattle.listing_lines.proofs.put_programme.Statement.{statement}
 use Rattle.listing_lines.proofs.put_programme.Tie as tie
 
-returns : tie.Need-returns
-
 -- from a place to an earlier one
 abbrev to-put-head : tie.After-put-number → tie.After-put-head
 to-put-head c =
@@ -29,6 +27,7 @@ to-put-number3 c =
     let after-out4 = c .before .before .before in
     after-out4 .before
 
+returns : tie.Need-returns
 unfolding programmeLine
 returns c =
     let after-put = c .before .before in

@@ -6,8 +6,6 @@ use borrow.Author.Needs.{needs}
 use Rattle.listing_lines.proofs.put_refusal.Statement.{statement}
 use Rattle.listing_lines.proofs.put_refusal.Tie as tie
 
-returns : tie.Need-returns
-
 -- from a place to an earlier one
 abbrev to-put-number : tie.After-slice-known4 → tie.After-put-number
 to-put-number c =
@@ -20,6 +18,7 @@ to-put-head c =
     let after-out = after-put-number .before .before .before in
     after-out .before
 
+returns : tie.Need-returns
 unfolding refusalLine
 returns c =
     let after-put-number = to-put-number c in

@@ -6,14 +6,13 @@ use borrow.Author.Needs.{needs}
 use Rattle.listing_lines.proofs.put_step.Statement.{statement}
 use Rattle.listing_lines.proofs.put_step.Tie as tie
 
-returns : tie.Need-returns
-
 -- from a place to an earlier one
 abbrev to-put-head : tie.After-slice-known3 → tie.After-put-head
 to-put-head c =
     let after-put-arg = c .before .before .before in
     after-put-arg .before .before .before
 
+returns : tie.Need-returns
 unfolding stepLine
 returns c =
     let after-put-head = to-put-head c in

@@ -14,8 +14,6 @@ unfolding parseNetwork _>>=_
 returns c =
     (rw (c .before .before .before .scan .ensures .0, c .before .r .given .1), tt)
 
-returns-2 : tie.Need-returns-2
-
 -- from a place to an earlier one
 abbrev to-r2 : tie.After-known-told3 → tie.After-r2
 to-r2 c =
@@ -27,6 +25,7 @@ to-scan c =
     let after-r2 = to-r2 c in
     after-r2 .before .before
 
+returns-2 : tie.Need-returns-2
 unfolding parseNetwork _>>=_
 returns-2 c =
     (rw (to-scan c .scan .ensures .0, to-r2 c .r2 .given .1, c .before .before .before .check-network .ensures, c .before .f .given .1), tt)

@@ -16,8 +16,6 @@ unfolding checkAggregate
 returns c =
     (rw (← (c .before .before .before .byte-field .ensures), c .before .k .given .1), tt)
 
-returns-2 : tie.Need-returns-2
-
 -- from a place to an earlier one
 abbrev to-byte-field : tie.After-byte-field2 → tie.After-byte-field
 to-byte-field c =
@@ -54,6 +52,7 @@ to-k2-from-check-sets c =
     let after-byte-field2 = to-byte-field2 c in
     after-byte-field2 .before .before
 
+returns-2 : tie.Need-returns-2
 unfolding checkAggregate
 returns-2 c =
     (rw (← (to-byte-field (c .before .before .before) .byte-field .ensures), to-k2-from-known-told3 c .k2 .given .1, ← (c .before .before .before .byte-field2 .ensures), c .before .c .given .1), tt)

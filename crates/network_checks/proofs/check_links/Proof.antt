@@ -17,14 +17,13 @@ mark-ends-requires : tie.Need-mark-ends-requires
 mark-ends-requires c κs =
     (c .before .before .before .pre .few-nodes, c .before .before .before .pre .few-edges, edge-accepted _ _ _ _ _ _ (c .before .before .before .pre))
 
-first-unconnected-requires : tie.Need-first-unconnected-requires
-
 -- from a place to an earlier one
 abbrev to-start : tie.After-out2 → tie.Start
 to-start c =
     let after-out = c .before .before .before in
     after-out .before .before .before
 
+first-unconnected-requires : tie.Need-first-unconnected-requires
 unfolding incoming outgoing networkAt
 first-unconnected-requires c κs =
     let start = to-start c in

@@ -45,8 +45,6 @@ unfolding checkEdge
 returns-2 c =
     (rw (← (c .before .before .before .node-field .ensures), c .before .f .given .1), tt)
 
-returns-3 : tie.Need-returns-3
-
 -- from a place to an earlier one
 abbrev to-f2 : tie.After-known-told3 → tie.After-f2
 to-f2 c =
@@ -58,6 +56,7 @@ to-node-field c =
     let after-f2 = to-f2 c in
     after-f2 .before .before
 
+returns-3 : tie.Need-returns-3
 unfolding checkEdge
 returns-3 c =
     (rw (← (to-node-field c .node-field .ensures), to-f2 c .f2 .given .1, ← (c .before .before .before .node-field2 .ensures), c .before .t .given .1), tt)

@@ -20,8 +20,6 @@ add-t8 c =
     let start = after-is-within .before .before in
     omega (arith, leb-true (start .args .at + 8) (length (start .args .s .now)) (sym (after-is-within .is-within .ensures) ∙ then1 .if1 .taken))
 
-returns : tie.Need-returns
-
 -- from a place to an earlier one
 abbrev to-is-within-from-else2 : tie.Else2 → tie.After-is-within
 to-is-within-from-else2 c =
@@ -33,6 +31,7 @@ to-is-within-from-then2 c =
     let then1 = c .before .before .before in
     then1 .before
 
+returns : tie.Need-returns
 unfolding checkBound
 returns c =
     rw (← (to-is-within-from-then2 c .is-within .ensures), c .before .before .before .if1 .taken, ← (c .before .before .u64-at .ensures), ← (c .before .constant-fits .ensures), c .if2 .taken)

@@ -48,8 +48,6 @@ returns-4 c =
     let after-byte-field = after-k2 .before .before in
     (rw (← (after-byte-field .byte-field .ensures), after-k2 .k2 .given .1, ← (after-most-constant .most-constant .ensures), ← (after-byte-field2 .byte-field2 .ensures), after-c2 .c2 .given .1, ← (after-check-bound .check-bound .ensures), after-enum-told .enum-told .given .1, ← (after-check-bound2 .check-bound2 .ensures), after-hi .hi .given .1), tt)
 
-returns-5 : tie.Need-returns-5
-
 -- from a place to an earlier one
 abbrev to-check-bound : tie.After-enum-told2 → tie.After-check-bound
 to-check-bound c =
@@ -81,6 +79,7 @@ to-byte-field c =
     let after-k2 = to-k2 c in
     after-k2 .before .before
 
+returns-5 : tie.Need-returns-5
 unfolding checkNode
 returns-5 c = (
   rw (← (to-byte-field c .byte-field .ensures), to-k2 c .k2 .given .1, ← (to-most-constant c .most-constant .ensures), ← (to-byte-field2 c .byte-field2 .ensures), to-c2 c .c2 .given .1, ← (to-check-bound c .check-bound .ensures), c .before .before .before .enum-told .given .1, ← (c .before .before .check-bound2 .ensures), c .enum-told2 .given .1),

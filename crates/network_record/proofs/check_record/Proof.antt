@@ -15,8 +15,6 @@ unfolding checkRecord
 returns c =
     (rw (lt-leb (c .before .before .args .at + 2) (length (c .before .before .args .s .now)) (omega arith)), tt)
 
-returns-2 : tie.Need-returns-2
-
 -- from a place to an earlier one
 abbrev to-start-from-else2 : tie.Else2 → tie.Start
 to-start-from-else2 c =
@@ -53,6 +51,7 @@ to-mark-rank-from-then3 c =
     let else2 = to-else2-from-then3 c in
     else2 .before
 
+returns-2 : tie.Need-returns-2
 unfolding checkRecord
 returns-2 c =
     let start = to-start-from-then2 c in

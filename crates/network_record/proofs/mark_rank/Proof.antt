@@ -15,8 +15,6 @@ unfolding markRank
 returns-2 c =
     rw (c .before .before .if1 .taken, ne-eqb _ _ (c .if2 .left))
 
-returns-3 : tie.Need-returns-3
-
 -- from a place to an earlier one
 abbrev to-else1-from-else4 : tie.Else4 → tie.Else1
 to-else1-from-else4 c =
@@ -53,6 +51,7 @@ to-else3-from-then6 c =
     let after-shared-slice-known5 = c .before .before .before in
     after-shared-slice-known5 .before
 
+returns-3 : tie.Need-returns-3
 unfolding markRank
 returns-3 c =
     rw (ne-eqb _ _ (to-else1-from-then4 c .if1 .left), c .before .before .if3 .taken, c .if4 .taken)

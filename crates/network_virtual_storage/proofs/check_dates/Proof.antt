@@ -4,8 +4,6 @@ use borrow.Author.Needs.{needs}
 use Rattle.network_virtual_storage.proofs.check_dates.Statement.{statement}
 use Rattle.network_virtual_storage.proofs.check_dates.Tie as tie
 
-returns : tie.Need-returns
-
 -- from a place to an earlier one
 abbrev to-most-date : tie.After-known-told → tie.After-most-date
 to-most-date c =
@@ -17,6 +15,7 @@ to-least-date c =
     let after-most-date = to-most-date c in
     after-most-date .before
 
+returns : tie.Need-returns
 unfolding checkDates
 returns c =
     rw (← (to-least-date c .least-date .ensures), ← (to-most-date c .most-date .ensures), ← (c .before .before .before .byte-field .ensures), c .before .a .given .1)

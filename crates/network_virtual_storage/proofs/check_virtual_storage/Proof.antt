@@ -16,8 +16,6 @@ unfolding checkVirtualStorage
 returns c =
     (rw (← (c .before .before .before .byte-field .ensures), c .before .k .given .1), tt)
 
-returns-2 : tie.Need-returns-2
-
 -- from a place to an earlier one
 abbrev to-k2 : tie.After-known-told3 → tie.After-k2
 to-k2 c =
@@ -29,6 +27,7 @@ to-byte-field c =
     let after-k2 = to-k2 c in
     after-k2 .before .before
 
+returns-2 : tie.Need-returns-2
 unfolding checkVirtualStorage
 returns-2 c =
     (rw (← (to-byte-field c .byte-field .ensures), to-k2 c .k2 .given .1, ← (c .before .before .before .check-dates .ensures), c .before .d .given .1), tt)

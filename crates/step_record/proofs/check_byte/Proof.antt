@@ -13,8 +13,6 @@ unfolding checkByte
 returns c =
     rw (lt-leb (c .before .args .at + 1) (length (c .before .args .file .now)) (omega arith))
 
-returns-2 : tie.Need-returns-2
-
 -- from a place to an earlier one
 abbrev to-start-from-else2 : tie.Else2 → tie.Start
 to-start-from-else2 c =
@@ -26,6 +24,7 @@ to-start-from-then2 c =
     let else1 = c .before .before .before in
     else1 .before
 
+returns-2 : tie.Need-returns-2
 unfolding checkByte
 returns-2 c =
     let start = to-start-from-then2 c in

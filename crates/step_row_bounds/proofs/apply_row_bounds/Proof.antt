@@ -8,14 +8,13 @@ use borrow.Author.Needs.{needs}
 use Rattle.step_row_bounds.proofs.apply_row_bounds.Statement.{statement}
 use Rattle.step_row_bounds.proofs.apply_row_bounds.Tie as tie
 
-returns : tie.Need-returns
-
 -- from a place to an earlier one
 abbrev to-start : tie.After-tighten → tie.Start
 to-start c =
     let after-slice-known2 = c .before .before .before in
     after-slice-known2 .before .before
 
+returns : tie.Need-returns
 unfolding tighten
 returns c =
     let a = to-start c .args in

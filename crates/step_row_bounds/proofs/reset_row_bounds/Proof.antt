@@ -6,14 +6,13 @@ use borrow.Author.Needs.{needs}
 use Rattle.step_row_bounds.proofs.reset_row_bounds.Statement.{statement}
 use Rattle.step_row_bounds.proofs.reset_row_bounds.Tie as tie
 
-returns : tie.Need-returns
-
 -- from a place to an earlier one
 abbrev to-fill-f64 : tie.After-high → tie.After-fill-f64
 to-fill-f64 c =
     let after-row-lower = c .before .before .before in
     after-row-lower .before
 
+returns : tie.Need-returns
 unfolding sentinels
 returns c =
     let after-fill-f642 = c .before .before in

@@ -33,8 +33,6 @@ returns-3 c =
     let i3 = c .if3 in
     rw (es, lt-ltb _ _ (i1 .left), lt-ltb _ _ (i2 .left), lt-leb _ _ (i3 .taken))
 
-returns-4 : tie.Need-returns-4
-
 -- from a place to an earlier one
 abbrev to-start : tie.After-wide → tie.Start
 to-start c =
@@ -65,6 +63,7 @@ to-wide c =
     let after-wide-start = c .before .before .before in
     after-wide-start .before .before
 
+returns-4 : tie.Need-returns-4
 unfolding nodeRowFits
 returns-4 c =
     λ s ec er es.

@@ -18,14 +18,13 @@ unfolding startFall fallAt
 returns-2 c =
     (rw (lt-ltb _ _ (c .before .if1 .left), c .if2 .taken), search needs)
 
-returns-3 : tie.Need-returns-3
-
 -- from a place to an earlier one
 abbrev to-else1 : tie.After-fall-of → tie.Else1
 to-else1 c =
     let else2 = c .before .before .before in
     else2 .before
 
+returns-3 : tie.Need-returns-3
 unfolding startFall
 returns-3 c =
     (rw (lt-ltb _ _ (to-else1 c .if1 .left)) (c .fall-of .ensures .0 ∙ sym (fall-is _ _ (omega arith))), c .fall-of .ensures .1)

@@ -16,8 +16,6 @@ put-all-requires : tie.Need-put-all-requires
 put-all-requires c κs =
     let f = few 16 16 _ _ 16 (lit< tt) (omega arith) (lit≤ tt) (c .before .before .hex .ensures .1 .0) in omega (arith, c .before .before .hex .ensures .0 .1)
 
-returns : tie.Need-returns
-
 -- from a place to an earlier one
 abbrev to-hex : tie.After-slice-known2 → tie.After-hex
 to-hex c =
@@ -29,6 +27,7 @@ to-start c =
     let after-hex = to-hex c in
     after-hex .before .before .before
 
+returns : tie.Need-returns
 unfolding sixteenDigits
 returns c =
     let after-hex = to-hex c in
