@@ -142,10 +142,13 @@ loop-again : tie.Need-loop-again Inv-loop μ-loop
 loop-again c =
     let after-row-word = c .before in
     let after-r = after-row-word .before .before in
-    let after-add-aggregate-row = to-add-aggregate-row (after-r .before .before) in
-    let then1 = to-then1 after-add-aggregate-row in
+    let after-numbers = after-r .before .before .before in
+    let after-add-aggregate-row = after-numbers .before .before .before in
+    let after-add-aggregate-row-arg = after-add-aggregate-row .before .before .before in
+    let then1 = after-add-aggregate-row-arg .before in
     let at-loop = then1 .before .before in
-    let start = to-start at-loop in
+    let after-slice-known2 = at-loop .before .before .before in
+    let start = after-slice-known2 .before .before .before in
     let t = start in
     let l = at-loop .loop in
     let lt = then1 .if1 .taken in

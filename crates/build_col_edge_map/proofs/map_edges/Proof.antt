@@ -17,11 +17,6 @@ abbrev μ-loop : tie.MeasureT-loop
 μ-loop s nodes edges first-in next-in first-out next-out edge-to-col₀ count₀ e₀ edge-to-col count e = edges - e
 
 -- from a place to an earlier one
-abbrev to-start : tie.After-from-node-index Inv-loop μ-loop → tie.Start Inv-loop μ-loop
-to-start c =
-    let at-loop = c .before .before .before in
-    at-loop .before .before .before
-
 abbrev to-narrow16 : tie.After-add-simple-edge-arg Inv-loop μ-loop → tie.After-narrow16 Inv-loop μ-loop
 to-narrow16 c =
     let after-from-node-index = c .before .before .before in
@@ -32,13 +27,19 @@ to-loop c =
     let after-narrow16 = to-narrow16 c in
     after-narrow16 .before .before
 
+abbrev to-start : tie.After-add-simple-edge-arg Inv-loop μ-loop → tie.Start Inv-loop μ-loop
+to-start c =
+    let at-loop = to-loop c in
+    at-loop .before .before .before
+
 loop-holds : tie.Need-loop-holds Inv-loop μ-loop
 loop-holds c =
     none-placed _ _ _ (c .before .before .pre .1)
 
 shares-with-requires : tie.Need-shares-with-requires Inv-loop μ-loop
 shares-with-requires c κs =
-    let start = to-start c in
+    let at-loop = c .before .before .before in
+    let start = at-loop .before .before .before in
     let q = rw (c .before .narrow16 .ensures) at (c .from-node-index .ensures) in
     let under = start .pre .3 (c .before .before .before .loop .e) (c .before .before .loop-test .taken) in (
       omega (arith, start .pre .0),
@@ -50,7 +51,7 @@ shares-with-requires c κs =
 add-simple-edge-requires : tie.Need-add-simple-edge-requires Inv-loop μ-loop
 add-simple-edge-requires c κs =
     let few = to-loop c .loop .inv .few-columns in
-    let most = to-start (c .before .before .before) .pre .1 in
+    let most = to-start c .pre .1 in
     let q = to-narrow16 c .narrow16 .ensures in
     (omega arith, omega arith)
 

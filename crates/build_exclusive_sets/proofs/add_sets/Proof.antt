@@ -20,34 +20,16 @@ to-start c =
     let after-shared-slice-known = c .before .before .before in
     after-shared-slice-known .before
 
-abbrev to-in-loop-from-then2 : tie.Then2 Inv-loop μ-loop → tie.In-loop Inv-loop μ-loop
-to-in-loop-from-then2 c =
-    let after-set-number-arg = c .before .before .before in
-    after-set-number-arg .before
-
-abbrev to-loop-from-then2 : tie.Then2 Inv-loop μ-loop → tie.At-loop Inv-loop μ-loop
-to-loop-from-then2 c =
-    let in-loop = to-in-loop-from-then2 c in
-    in-loop .before
-
-abbrev to-in-loop-from-set-end : tie.After-set-end Inv-loop μ-loop → tie.In-loop Inv-loop μ-loop
-to-in-loop-from-set-end c =
-    let after-set-number-arg = c .before .before .before in
-    after-set-number-arg .before
-
-abbrev to-loop-from-set-end : tie.After-set-end Inv-loop μ-loop → tie.At-loop Inv-loop μ-loop
-to-loop-from-set-end c =
-    let in-loop = to-in-loop-from-set-end c in
-    in-loop .before
-
-abbrev to-in-loop-from-else2 : tie.Else2 Inv-loop μ-loop → tie.In-loop Inv-loop μ-loop
-to-in-loop-from-else2 c =
+abbrev to-in-loop : tie.Else2 Inv-loop μ-loop → tie.In-loop Inv-loop μ-loop
+to-in-loop c =
     let after-set-number-arg = c .before .before .before in
     after-set-number-arg .before
 
 -- the set that stands next
 fits : (c : tie.In-loop Inv-loop μ-loop) → SetPassed (to-start c .args .s .now) 256 (c .before .loop .here)
-fits c = rw (c .before .loop .inv .stands) (to-start c .pre .0 .sets (c .before .loop .i) (omega (arith, c .before .loop .inv .size, c .loop-test .taken)))
+fits c =
+    let after-shared-slice-known = c .before .before .before in
+    let start = after-shared-slice-known .before in rw (c .before .loop .inv .stands) (start .pre .0 .sets (c .before .loop .i) (omega (arith, c .before .loop .inv .size, c .loop-test .taken)))
 
 set-count-requires : tie.Need-set-count-requires Inv-loop μ-loop
 set-count-requires c κs =
@@ -71,19 +53,25 @@ set-end-requires c κs =
 
 loop-again : tie.Need-loop-again Inv-loop μ-loop
 loop-again c =
-    rw (c .set-end .ensures) (adding-known _ _ _ _ _ _ _ _ _ (to-loop-from-set-end c .loop .inv) (to-in-loop-from-set-end c .loop-test .taken) (rw (c .before .before .set-number .ensures) at (c .before .if1 .taken)))
+    let after-set-number-arg = c .before .before .before in
+    let in-loop = after-set-number-arg .before in
+    let at-loop = in-loop .before in
+    rw (c .set-end .ensures) (adding-known _ _ _ _ _ _ _ _ _ (at-loop .loop .inv) (in-loop .loop-test .taken) (rw (c .before .before .set-number .ensures) at (c .before .if1 .taken)))
 
 returns : tie.Need-returns Inv-loop μ-loop
 returns c =
-    adding-over _ _ _ _ _ _ _ _ _ (to-loop-from-then2 c .loop .inv) (to-in-loop-from-then2 c .loop-test .taken) (rw (c .before .before .set-number .ensures) at (c .before .if1 .left)) (c .if2 .taken) _
+    let after-set-number-arg = c .before .before .before in
+    let in-loop = after-set-number-arg .before in
+    let at-loop = in-loop .before in
+    adding-over _ _ _ _ _ _ _ _ _ (at-loop .loop .inv) (in-loop .loop-test .taken) (rw (c .before .before .set-number .ensures) at (c .before .if1 .left)) (c .if2 .taken) _
 
 narrow16-requires : tie.Need-narrow16-requires Inv-loop μ-loop
 narrow16-requires c κs =
-    omega (arith, fits (to-in-loop-from-else2 c) .within, to-start (to-in-loop-from-else2 c) .pre .2)
+    omega (arith, fits (to-in-loop c) .within, to-start (to-in-loop c) .pre .2)
 
 set-end-requires-2 : tie.Need-set-end-requires-2 Inv-loop μ-loop
 set-end-requires-2 c κs =
-    let h = fits (to-in-loop-from-else2 (c .before)) .within in omega arith
+    let h = fits (to-in-loop (c .before)) .within in omega arith
 
 loop-again-2 : tie.Need-loop-again-2 Inv-loop μ-loop
 loop-again-2 c =

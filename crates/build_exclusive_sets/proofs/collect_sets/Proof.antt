@@ -21,13 +21,8 @@ to-start c =
     let after-shared-slice-known = c .before .before .before in
     after-shared-slice-known .before
 
-abbrev to-loop-from-aggregate-end2 : tie.After-aggregate-end2 Inv-loop μ-loop → tie.At-loop Inv-loop μ-loop
-to-loop-from-aggregate-end2 c =
-    let in-loop = c .before .before .before in
-    in-loop .before
-
-abbrev to-loop-from-add-sets-arg : tie.After-add-sets-arg Inv-loop μ-loop → tie.At-loop Inv-loop μ-loop
-to-loop-from-add-sets-arg c =
+abbrev to-loop : tie.After-add-sets-arg Inv-loop μ-loop → tie.At-loop Inv-loop μ-loop
+to-loop c =
     let in-loop = c .before .before .before in
     in-loop .before
 
@@ -39,7 +34,9 @@ to-in-loop c =
 
 -- the aggregate that stands next
 fits : (c : tie.In-loop Inv-loop μ-loop) → AggregatePassed (to-start (c .before) .args .s .now) 256 (c .before .loop .at)
-fits c = rw (c .before .loop .inv .stands) (aggregate-passed-256 _ _ _ _ _ _ (to-start (c .before) .pre .0) (c .before .loop .i) (c .loop-test .taken))
+fits c =
+    let after-struct-known = c .before .before .before in
+    let start = after-struct-known .before .before in rw (c .before .loop .inv .stands) (aggregate-passed-256 _ _ _ _ _ _ (start .pre .0) (c .before .loop .i) (c .loop-test .taken))
 
 loop-holds : tie.Need-loop-holds Inv-loop μ-loop
 loop-holds c =
@@ -51,7 +48,7 @@ is-exclusive-requires c κs =
 
 add-sets-requires : tie.Need-add-sets-requires Inv-loop μ-loop
 add-sets-requires c κs =
-    (fits (c .before .before .before), to-loop-from-add-sets-arg c .loop .inv .fit, let h = few-bytes _ _ _ _ _ _ (to-start (to-loop-from-add-sets-arg c) .pre .0) in omega arith)
+    (fits (c .before .before .before), to-loop c .loop .inv .fit, let h = few-bytes _ _ _ _ _ _ (to-start (to-loop c) .pre .0) in omega arith)
 
 returns : tie.Need-returns Inv-loop μ-loop
 returns c =
@@ -84,7 +81,9 @@ aggregate-end-requires-2 c κs =
 
 loop-again-2 : tie.Need-loop-again-2 Inv-loop μ-loop
 loop-again-2 c =
-    rw (c .aggregate-end2 .ensures) (collecting-plain _ _ _ _ _ _ _ (to-loop-from-aggregate-end2 c .loop .inv) (c .before .before .before .loop-test .taken) (sym (c .before .before .is-exclusive .ensures) ∙ c .before .if1 .left))
+    let in-loop = c .before .before .before in
+    let at-loop = in-loop .before in
+    rw (c .aggregate-end2 .ensures) (collecting-plain _ _ _ _ _ _ _ (at-loop .loop .inv) (c .before .before .before .loop-test .taken) (sym (c .before .before .is-exclusive .ensures) ∙ c .before .if1 .left))
 
 returns-2 : tie.Need-returns-2 Inv-loop μ-loop
 returns-2 c =

@@ -16,22 +16,6 @@ Inv-loop s set-at sets first₀ next₀ k₀ first next k = (k ≤ sets) × Memb
 abbrev μ-loop : tie.MeasureT-loop
 μ-loop s set-at sets first₀ next₀ k₀ first next k = k
 
--- from a place to an earlier one
-abbrev to-start-from-loop : tie.After-loop Inv-loop μ-loop → tie.Start Inv-loop μ-loop
-to-start-from-loop c =
-    let after-shared-slice-known = c .before .before .before in
-    after-shared-slice-known .before
-
-abbrev to-loop : tie.After-list-set-arg2 Inv-loop μ-loop → tie.At-loop Inv-loop μ-loop
-to-loop c =
-    let after-wide16-arg = c .before .before .before in
-    after-wide16-arg .before .before
-
-abbrev to-start-from-list-set-arg2 : tie.After-list-set-arg2 Inv-loop μ-loop → tie.Start Inv-loop μ-loop
-to-start-from-list-set-arg2 c =
-    let at-loop = to-loop c in
-    at-loop .before .before .before
-
 loop-holds : tie.Need-loop-holds Inv-loop μ-loop
 loop-holds c =
     let p = c .before .before .args in
@@ -39,12 +23,18 @@ loop-holds c =
 
 list-set-requires : tie.Need-list-set-requires Inv-loop μ-loop
 list-set-requires c κs =
-    rw (c .before .before .wide16 .ensures .0) (omega arith, to-start-from-list-set-arg2 c .pre .0 .fit (to-loop c .loop .k - 1) (omega arith))
+    let after-wide16-arg = c .before .before .before in
+    let at-loop = after-wide16-arg .before .before in
+    let start = at-loop .before .before .before in
+    rw (c .before .before .wide16 .ensures .0) (omega arith, start .pre .0 .fit (at-loop .loop .k - 1) (omega arith))
 
 loop-again : tie.Need-loop-again Inv-loop μ-loop
 loop-again c =
-    let l = to-loop (c .before) .loop in
-    let p = to-start-from-list-set-arg2 (c .before) .args in
+    let after-wide16 = c .before .before .before in
+    let at-loop = after-wide16 .before .before .before in
+    let start = at-loop .before .before .before in
+    let l = at-loop .loop in
+    let p = start .args in
     let e : 16 * l .k ≡ 16 * (l .k - 1) + 16 = omega arith in
     let q : l .k ≡ l .k - 1 + 1 = omega arith in (
       omega arith,
@@ -56,8 +46,10 @@ loop-again c =
 
 returns : tie.Need-returns Inv-loop μ-loop
 returns c =
+    let after-shared-slice-known = c .before .before .before in
+    let start = after-shared-slice-known .before in
     let l = c .before .loop in
-    let p = to-start-from-loop c .args in
+    let p = start .args in
     let z : l .k ≡ 0 = omega arith in
     λ n h. subst (λ (k : ℕ). Linked 2048 (l .next) (getD (l .first) n 0) (fromSet (p .s .now) (p .set-at .now) (p .sets) k n)) z (l .inv .1 .linked n h)
 

@@ -18,19 +18,14 @@ Inv-loop s set-at count at k₀ k = (k ≤ count) × (setNumber (setAt s at) (se
 abbrev μ-loop : tie.MeasureT-loop
 μ-loop s set-at count at k₀ k = count - k
 
--- from a place to an earlier one
-abbrev to-start : tie.After-wide16 Inv-loop μ-loop → tie.Start Inv-loop μ-loop
-to-start c =
-    let at-loop = c .before .before .before in
-    at-loop .before .before
-
 loop-holds : tie.Need-loop-holds Inv-loop μ-loop
 loop-holds c =
     (search needs, sym (zero-add _))
 
 same-set-requires : tie.Need-same-set-requires Inv-loop μ-loop
 same-set-requires c κs =
-    let start = to-start c in
+    let at-loop = c .before .before .before in
+    let start = at-loop .before .before in
     rw (c .wide16 .ensures .0) (start .pre .0 .fit (c .before .before .before .loop .k) (c .before .before .loop-test .taken) .within, start .pre .1)
 
 returns : tie.Need-returns Inv-loop μ-loop

@@ -38,16 +38,11 @@ to-add-exclusivity-row c =
     let after-words = c .before .before .before in
     after-words .before
 
-abbrev to-loop : tie.After-slice-known4 Inv-loop μ-loop → tie.At-loop Inv-loop μ-loop
+abbrev to-loop : tie.After-enum-told Inv-loop μ-loop → tie.At-loop Inv-loop μ-loop
 to-loop c =
-    let after-add-exclusivity-row = to-add-exclusivity-row c in
+    let after-add-exclusivity-row = to-add-exclusivity-row (c .before .before) in
     let in-loop = to-in-loop after-add-exclusivity-row in
     in-loop .before
-
-abbrev to-slice-known4 : tie.After-aggregate-end Inv-loop μ-loop → tie.After-slice-known4 Inv-loop μ-loop
-to-slice-known4 c =
-    let at-match-keys2 = c .before .before .before in
-    at-match-keys2 .before
 
 -- the column map of the network
 map-is : (c : tie.Start Inv-loop μ-loop) → MapOf (c .args .s .now) (c .args .set-at .now) (c .args .sets) (c .args .edge-columns) (columnMap (networkOf (c .args .s .now) (c .args .c)))
@@ -68,11 +63,11 @@ add-exclusivity-row-requires c κs =
 
 same-length : tie.Need-same-length Inv-loop μ-loop
 same-length c =
-    to-add-exclusivity-row (c .before .before) .add-exclusivity-row .kept .1 .1 .1 .1 .1 .0 ∙ to-loop (c .before .before) .loop .inv .1
+    to-add-exclusivity-row (c .before .before) .add-exclusivity-row .kept .1 .1 .1 .1 .1 .0 ∙ to-loop c .loop .inv .1
 
 same-length-2 : tie.Need-same-length-2 Inv-loop μ-loop
 same-length-2 c =
-    to-add-exclusivity-row (c .before .before) .add-exclusivity-row .kept .1 .1 .1 .1 .1 .1 .0 ∙ to-loop (c .before .before) .loop .inv .2
+    to-add-exclusivity-row (c .before .before) .add-exclusivity-row .kept .1 .1 .1 .1 .1 .1 .0 ∙ to-loop c .loop .inv .2
 
 returns : tie.Need-returns Inv-loop μ-loop
 unfolding networkAt
@@ -92,9 +87,13 @@ aggregate-end-requires c κs =
 
 loop-again : tie.Need-loop-again Inv-loop μ-loop
 loop-again c =
-    let after-add-exclusivity-row = to-add-exclusivity-row (to-slice-known4 c) in
-    let at-loop = to-loop (to-slice-known4 c) in (
-      rw (c .aggregate-end .ensures) (aggregate-more _ _ _ _ _ _ _ _ _ _ _ _ (at-loop .loop .inv .0) (to-in-loop (to-add-exclusivity-row (to-slice-known4 c)) .loop-test .taken) _ _ _ (after-add-exclusivity-row .add-exclusivity-row .ensures) _ (c .before .before .r .given .1)),
+    let at-match-keys2 = c .before .before .before in
+    let after-slice-known3 = at-match-keys2 .before .before .before in
+    let after-add-exclusivity-row = after-slice-known3 .before .before in
+    let after-add-exclusivity-row-arg = after-add-exclusivity-row .before .before .before in
+    let in-loop = after-add-exclusivity-row-arg .before in
+    let at-loop = in-loop .before in (
+      rw (c .aggregate-end .ensures) (aggregate-more _ _ _ _ _ _ _ _ _ _ _ _ (at-loop .loop .inv .0) (in-loop .loop-test .taken) _ _ _ (after-add-exclusivity-row .add-exclusivity-row .ensures) _ (c .before .before .r .given .1)),
       after-add-exclusivity-row .add-exclusivity-row .kept .1 .1 .1 .1 .1 .0 ∙ at-loop .loop .inv .1,
       after-add-exclusivity-row .add-exclusivity-row .kept .1 .1 .1 .1 .1 .1 .0 ∙ at-loop .loop .inv .2,
     )

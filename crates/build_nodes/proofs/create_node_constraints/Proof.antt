@@ -24,30 +24,21 @@ to-start c =
     let after-shared-slice-known = c .before .before .before in
     after-shared-slice-known .before
 
-abbrev to-in-loop : tie.After-request-rows-arg3 Inv-loop μ-loop → tie.In-loop Inv-loop μ-loop
-to-in-loop c =
-    let after-narrow16 = c .before .before .before in
-    after-narrow16 .before
-
-abbrev to-loop : tie.After-request-rows-arg3 Inv-loop μ-loop → tie.At-loop Inv-loop μ-loop
-to-loop c =
-    let in-loop = to-in-loop c in
-    in-loop .before
-
 abbrev to-narrow16 : tie.After-request-rows Inv-loop μ-loop → tie.After-narrow16 Inv-loop μ-loop
 to-narrow16 c =
     let after-request-rows-arg = c .before .before .before in
     after-request-rows-arg .before
 
-abbrev to-request-rows : tie.After-slice-known4 Inv-loop μ-loop → tie.After-request-rows Inv-loop μ-loop
+abbrev to-request-rows : tie.After-enum-told Inv-loop μ-loop → tie.After-request-rows Inv-loop μ-loop
 to-request-rows c =
-    let after-words = c .before .before .before in
-    after-words .before
+    let after-numbers = c .before .before .before in
+    after-numbers .before .before .before
 
-abbrev to-request-rows-arg3 : tie.After-enum-told Inv-loop μ-loop → tie.After-request-rows-arg3 Inv-loop μ-loop
-to-request-rows-arg3 c =
-    let after-request-rows = to-request-rows (c .before .before) in
-    after-request-rows .before
+abbrev to-loop : tie.After-enum-told Inv-loop μ-loop → tie.At-loop Inv-loop μ-loop
+to-loop c =
+    let after-request-rows = to-request-rows c in
+    let after-narrow16 = to-narrow16 after-request-rows in
+    after-narrow16 .before .before
 
 loop-holds : tie.Need-loop-holds Inv-loop μ-loop
 loop-holds c =
@@ -60,21 +51,26 @@ narrow16-requires c κs =
 
 request-rows-requires : tie.Need-request-rows-requires Inv-loop μ-loop
 request-rows-requires c κs =
-    let p = to-start (to-loop c) .pre in
-    let l = to-loop c .loop .inv in
-    (p .0, omega (arith, c .before .before .before .narrow16 .ensures, to-in-loop c .loop-test .taken), p .1, p .2, omega (arith, p .3, l .1), omega (arith, p .4, l .2), rw (c .before .before .before .narrow16 .ensures) (l .0))
+    let after-narrow16 = c .before .before .before in
+    let in-loop = after-narrow16 .before in
+    let at-loop = in-loop .before in
+    let after-shared-slice-known = at-loop .before .before .before in
+    let start = after-shared-slice-known .before in
+    let p = start .pre in
+    let l = at-loop .loop .inv in
+    (p .0, omega (arith, c .before .before .before .narrow16 .ensures, in-loop .loop-test .taken), p .1, p .2, omega (arith, p .3, l .1), omega (arith, p .4, l .2), rw (c .before .before .before .narrow16 .ensures) (l .0))
 
 same-length : tie.Need-same-length Inv-loop μ-loop
 same-length c =
-    to-request-rows (c .before .before) .request-rows .kept .1 .1 .1 .1 .1 .1 .1 .1 .1 .1 .1 .1 .0 ∙ to-loop (to-request-rows-arg3 c) .loop .inv .1
+    to-request-rows c .request-rows .kept .1 .1 .1 .1 .1 .1 .1 .1 .1 .1 .1 .1 .0 ∙ to-loop c .loop .inv .1
 
 same-length-2 : tie.Need-same-length-2 Inv-loop μ-loop
 same-length-2 c =
-    to-request-rows (c .before .before) .request-rows .kept .1 .1 .1 .1 .1 .1 .1 .1 .1 .1 .1 .1 .1 .0 ∙ to-loop (to-request-rows-arg3 c) .loop .inv .2
+    to-request-rows c .request-rows .kept .1 .1 .1 .1 .1 .1 .1 .1 .1 .1 .1 .1 .1 .0 ∙ to-loop c .loop .inv .2
 
 returns : tie.Need-returns Inv-loop μ-loop
 returns c =
-    let after-request-rows = to-request-rows (c .before .before) in
+    let after-request-rows = to-request-rows c in
     let after-narrow16 = to-narrow16 after-request-rows in
     let start = to-start (after-narrow16 .before .before) in
     order-full _ _ _ _ _ _ _ (start .pre .0) _ _ _ (after-narrow16 .narrow16 .result + 1) _ (after-request-rows .request-rows .ensures) (c .enum-told .given .1)
@@ -82,8 +78,10 @@ returns c =
 loop-again : tie.Need-loop-again Inv-loop μ-loop
 loop-again c =
     let after-r = c .before in
-    let after-request-rows = to-request-rows (after-r .before .before) in
-    let after-narrow16 = to-narrow16 after-request-rows in
+    let after-numbers = after-r .before .before .before in
+    let after-request-rows = after-numbers .before .before .before in
+    let after-request-rows-arg = after-request-rows .before .before .before in
+    let after-narrow16 = after-request-rows-arg .before in
     let at-loop = after-narrow16 .before .before in
     (rw (after-narrow16 .narrow16 .ensures) at (after-request-rows .request-rows .ensures .done _ (after-r .r .given .1)), after-request-rows .request-rows .kept .1 .1 .1 .1 .1 .1 .1 .1 .1 .1 .1 .1 .0 ∙ at-loop .loop .inv .1, after-request-rows .request-rows .kept .1 .1 .1 .1 .1 .1 .1 .1 .1 .1 .1 .1 .1 .0 ∙ at-loop .loop .inv .2)
 

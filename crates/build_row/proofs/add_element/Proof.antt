@@ -20,21 +20,15 @@ to-wide-from-joined1 c =
     let after-place-of-arg = c .before .before .before in
     after-place-of-arg .before
 
-abbrev to-place-of-from-slice-known2 : tie.After-slice-known2 → tie.After-place-of
-to-place-of-from-slice-known2 c =
+abbrev to-place-of : tie.After-slice-known2 → tie.After-place-of
+to-place-of c =
     let then1 = c .before .before .before in
     then1 .before
 
 abbrev to-wide-from-slice-known2 : tie.After-slice-known2 → tie.After-wide
 to-wide-from-slice-known2 c =
-    let after-place-of = to-place-of-from-slice-known2 c in
+    let after-place-of = to-place-of c in
     after-place-of .before .before .before
-
-abbrev to-place-of-from-slice-known3 : tie.After-slice-known3 → tie.After-place-of
-to-place-of-from-slice-known3 c =
-    let after-insert-element-arg = c .before .before .before in
-    let joined1 = after-insert-element-arg .before .before .before in
-    joined1 .before
 
 -- past the tests the column is not in the row, so that a place is free
 absent : (c : tie.Joined1)
@@ -52,10 +46,10 @@ free c =
 
 returns : tie.Need-returns
 returns c =
-    let s = to-start (to-place-of-from-slice-known2 c) in
+    let s = to-start (to-place-of c) in
     let e = to-wide-from-slice-known2 c .wide .ensures .0 in
     let long : length (s .args .columns .now) ≡ 640 = omega arith in
-    element-added _ _ _ _ long (s .pre .0) (s .pre .2) (s .pre .3) (to-place-of-from-slice-known2 c .place-of .ensures) _ _ (s .pre .1) (c .before .before .before .if1 .taken) (c .before .if2 .taken ∙ e)
+    element-added _ _ _ _ long (s .pre .0) (s .pre .2) (s .pre .3) (to-place-of c .place-of .ensures) _ _ (s .pre .1) (c .before .before .before .if1 .taken) (c .before .if2 .taken ∙ e)
 
 insert-column-requires : tie.Need-insert-column-requires
 insert-column-requires c κs =
@@ -67,7 +61,10 @@ insert-element-requires c κs =
 
 returns-2 : tie.Need-returns-2
 returns-2 c =
-    let s = to-start (to-place-of-from-slice-known3 c) in
+    let after-insert-element-arg = c .before .before .before in
+    let joined1-place = after-insert-element-arg .before .before .before in
+    let after-place-of-arg = joined1-place .before .before .before in
+    let s = after-place-of-arg .before .before .before in
     let long : length (s .args .columns .now) ≡ 640 = omega arith in
     let after-insert-element = c .before .before in
     let after-insert-column = after-insert-element .before .before in

@@ -44,7 +44,11 @@ same-length c =
 
 returns : tie.Need-returns
 returns c =
-    c .before .before .write-counts .ensures ∙ rw (to-write-edges c .write-edges .ensures, to-write-nodes (to-write-edges c) .write-nodes .ensures)
+    let after-write-counts-arg = c .before .before .before in
+    let after-write-edges = after-write-counts-arg .before .before .before in
+    let after-words = after-write-edges .before .before .before in
+    let after-write-nodes = after-words .before in
+    c .before .before .write-counts .ensures ∙ rw (after-write-edges .write-edges .ensures, after-write-nodes .write-nodes .ensures)
 
 pub write-tables-spec : {M : Type 1} → statement M
 write-tables-spec =

@@ -11,57 +11,70 @@ slice-write-words-2 : tie.Need-slice-write-words-2
 slice-write-words-2 c =
     simp length-set (omega (arith, c .before .before .before .pre .0))
 
--- from a place to an earlier one
-abbrev to-start : tie.After-narrow162 → tie.Start
-to-start c =
-    let after-slice-known = c .before .before .before in
-    after-slice-known .before
-
-abbrev to-narrow162 : tie.After-narrow166 → tie.After-narrow162
-to-narrow162 c =
-    let after-narrow164 = c .before .before .before in
-    after-narrow164 .before .before
-
-abbrev to-narrow166 : tie.After-narrow1610 → tie.After-narrow166
-to-narrow166 c =
-    let after-narrow167 = c .before .before .before in
-    after-narrow167 .before
-
 slice-write-words-3 : tie.Need-slice-write-words-3
 slice-write-words-3 c =
-    simp length-set (omega (arith, to-start c .pre .0))
+    let after-slice-known = c .before .before .before in
+    let start = after-slice-known .before in
+    simp length-set (omega (arith, start .pre .0))
 
 slice-write-words-4 : tie.Need-slice-write-words-4
 slice-write-words-4 c =
-    simp length-set (omega (arith, to-start (c .before) .pre .0))
+    let after-sentinel-word = c .before .before .before in
+    let start = after-sentinel-word .before .before in
+    simp length-set (omega (arith, start .pre .0))
 
 slice-write-words-5 : tie.Need-slice-write-words-5
 slice-write-words-5 c =
-    simp length-set (omega (arith, to-start (c .before .before) .pre .0))
+    let after-narrow16 = c .before .before .before in
+    let start = after-narrow16 .before .before .before in
+    simp length-set (omega (arith, start .pre .0))
 
 slice-write-words-6 : tie.Need-slice-write-words-6
 slice-write-words-6 c =
-    simp length-set (omega (arith, to-start (c .before .before .before) .pre .0))
+    let after-narrow162 = c .before .before .before in
+    let after-slice-known = after-narrow162 .before .before .before in
+    let start = after-slice-known .before in
+    simp length-set (omega (arith, start .pre .0))
 
 slice-write-words-7 : tie.Need-slice-write-words-7
 slice-write-words-7 c =
-    simp length-set (omega (arith, to-start (to-narrow162 c) .pre .0))
+    let after-narrow164 = c .before .before .before in
+    let after-narrow16 = after-narrow164 .before .before .before in
+    let start = after-narrow16 .before .before .before in
+    simp length-set (omega (arith, start .pre .0))
 
 slice-write-words-8 : tie.Need-slice-write-words-8
 slice-write-words-8 c =
-    simp length-set (omega (arith, to-start (to-narrow162 (c .before)) .pre .0))
+    let after-narrow165 = c .before .before .before in
+    let after-narrow162 = after-narrow165 .before .before .before in
+    let after-slice-known = after-narrow162 .before .before .before in
+    let start = after-slice-known .before in
+    simp length-set (omega (arith, start .pre .0))
 
 slice-write-words-9 : tie.Need-slice-write-words-9
 slice-write-words-9 c =
-    simp length-set (omega (arith, to-start (to-narrow162 (c .before .before)) .pre .0))
+    let after-struct-known = c .before .before .before in
+    let after-narrow163 = after-struct-known .before .before .before in
+    let after-sentinel-word = after-narrow163 .before .before .before in
+    let start = after-sentinel-word .before .before in
+    simp length-set (omega (arith, start .pre .0))
 
 slice-write-words-10 : tie.Need-slice-write-words-10
 slice-write-words-10 c =
-    simp length-set (omega (arith, to-start (to-narrow162 (c .before .before .before)) .pre .0))
+    let after-narrow166 = c .before .before .before in
+    let after-narrow164 = after-narrow166 .before .before .before in
+    let after-narrow16 = after-narrow164 .before .before .before in
+    let start = after-narrow16 .before .before .before in
+    simp length-set (omega (arith, start .pre .0))
 
 slice-write-words-11 : tie.Need-slice-write-words-11
 slice-write-words-11 c =
-    simp length-set (omega (arith, to-start (to-narrow162 (to-narrow166 c)) .pre .0))
+    let after-narrow167 = c .before .before .before in
+    let after-narrow165 = after-narrow167 .before .before .before in
+    let after-narrow162 = after-narrow165 .before .before .before in
+    let after-slice-known = after-narrow162 .before .before .before in
+    let start = after-slice-known .before in
+    simp length-set (omega (arith, start .pre .0))
 
 same-length : tie.Need-same-length
 same-length c =

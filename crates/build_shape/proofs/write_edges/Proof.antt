@@ -50,8 +50,10 @@ slice-write-words c =
 
 slice-write-words-2 : tie.Need-slice-write-words-2 Inv-loop μ-loop
 slice-write-words-2 c =
-    let start = to-start (c .before .before) in
-    simp length-set (omega (arith, to-loop c .loop .inv .long, start .pre .1, start .pre .3))
+    let in-loop = c .before .before .before in
+    let at-loop = in-loop .before in
+    let start = at-loop .before .before .before in
+    simp length-set (omega (arith, at-loop .loop .inv .long, start .pre .1, start .pre .3))
 
 sub-words : tie.Need-sub-words Inv-loop μ-loop
 sub-words c =
@@ -59,8 +61,10 @@ sub-words c =
 
 slice-write-words-3 : tie.Need-slice-write-words-3 Inv-loop μ-loop
 slice-write-words-3 c =
-    let start = to-start (c .before .before .before) in
-    simp length-set (omega (arith, to-loop (c .before) .loop .inv .long, start .pre .1, start .pre .3))
+    let after-narrow16 = c .before .before .before in
+    let at-loop = after-narrow16 .before .before in
+    let start = at-loop .before .before .before in
+    simp length-set (omega (arith, at-loop .loop .inv .long, start .pre .1, start .pre .3))
 
 loop-again : tie.Need-loop-again Inv-loop μ-loop
 loop-again c =

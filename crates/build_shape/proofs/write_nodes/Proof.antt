@@ -46,7 +46,8 @@ is-constant-requires c κs =
 
 slice-write-words-2 : tie.Need-slice-write-words-2 Inv-loop μ-loop
 slice-write-words-2 c =
-    let at-loop = to-loop (c .before .before) in
+    let after-kind = c .before .before .before in
+    let at-loop = after-kind .before .before .before in
     let start = at-loop .before .before .before in
     simp length-set (omega (arith, at-loop .loop .inv .long, start .pre .0, start .pre .2))
 
@@ -64,7 +65,8 @@ loop-again c =
 
 slice-write-words-3 : tie.Need-slice-write-words-3 Inv-loop μ-loop
 slice-write-words-3 c =
-    let at-loop = to-loop (c .before .before) in
+    let after-kind = c .before .before .before in
+    let at-loop = after-kind .before .before .before in
     let start = at-loop .before .before .before in
     simp length-set (omega (arith, at-loop .loop .inv .long, start .pre .0, start .pre .2))
 

@@ -6,15 +6,11 @@ use borrow.Author.Needs.{needs}
 use Rattle.build_write.proofs.write_row.Statement.{statement}
 use Rattle.build_write.proofs.write_row.Tie as tie
 
--- from a place to an earlier one
-abbrev to-start : tie.After-slice-known2 → tie.Start
-to-start c =
-    let after-copy-f64-arg = c .before .before .before in
-    after-copy-f64-arg .before .before .before
-
 returns : tie.Need-returns
 returns c =
-    rw (whole-part (to-start c .args .row .now)) at (c .before .before .copy-f64 .ensures)
+    let after-copy-f64-arg = c .before .before .before in
+    let start = after-copy-f64-arg .before .before .before in
+    rw (whole-part (start .args .row .now)) at (c .before .before .copy-f64 .ensures)
 
 pub write-row-spec : {M : Type 1} → statement M
 write-row-spec = tie.close (tie.spec (λ c κs. search needs) (λ c. search needs) returns)

@@ -14,16 +14,11 @@ unfolding byteField
 returns c =
     rw (lt-leb (c .before .before .args .at + 1) (length (c .before .before .args .s .now)) (omega arith))
 
--- from a place to an earlier one
-abbrev to-start : tie.After-wide8 → tie.Start
-to-start c =
-    let after-shared-slice-known = c .before .before .before in
-    after-shared-slice-known .before
-
 returns-2 : tie.Need-returns-2
 unfolding byteField between
 returns-2 c =
-    let start = to-start (c .before) in
+    let else1 = c .before .before .before in
+    let start = else1 .before .before in
     rw (le-leb (start .args .at + 1) (length (start .args .s .now)) (omega arith), ← (c .before .wide8 .ensures .0), lt-leb _ _ (c .if2 .taken))
 
 returns-3 : tie.Need-returns-3
@@ -31,7 +26,8 @@ unfolding byteField between
 returns-3 c =
     let else2 = c .before in
     let after-wide8 = else2 .before in
-    let start = to-start after-wide8 in
+    let after-shared-slice-known = after-wide8 .before .before .before in
+    let start = after-shared-slice-known .before in
     rw (le-leb (start .args .at + 1) (length (start .args .s .now)) (omega arith), ← (after-wide8 .wide8 .ensures .0), le-leb _ _ (else2 .if2 .left), lt-leb _ _ (c .if3 .taken))
 
 returns-4 : tie.Need-returns-4
@@ -39,7 +35,8 @@ unfolding byteField between
 returns-4 c =
     let else2 = c .before in
     let after-wide8 = else2 .before in
-    let start = to-start after-wide8 in
+    let after-shared-slice-known = after-wide8 .before .before .before in
+    let start = after-shared-slice-known .before in
     rw (le-leb (start .args .at + 1) (length (start .args .s .now)) (omega arith), ← (after-wide8 .wide8 .ensures .0), le-leb _ _ (else2 .if2 .left), le-leb _ _ (c .if3 .left))
 
 pub byte-field-spec : {M : Type 1} → statement M

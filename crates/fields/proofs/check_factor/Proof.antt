@@ -20,26 +20,19 @@ add-t7 c =
     let start = after-is-within .before .before in
     omega (arith, leb-true (start .args .at + 8) (length (start .args .s .now)) (sym (after-is-within .is-within .ensures) ∙ then1 .if1 .taken))
 
--- from a place to an earlier one
-abbrev to-is-within-from-else2 : tie.Else2 → tie.After-is-within
-to-is-within-from-else2 c =
-    let then1 = c .before .before .before in
-    then1 .before
-
-abbrev to-is-within-from-then2 : tie.Then2 → tie.After-is-within
-to-is-within-from-then2 c =
-    let then1 = c .before .before .before in
-    then1 .before
-
 returns : tie.Need-returns
 unfolding checkFactor
 returns c =
-    rw (← (to-is-within-from-then2 c .is-within .ensures), c .before .before .before .if1 .taken, ← (c .before .before .u64-at .ensures), ← (c .before .is-small .ensures), c .if2 .taken)
+    let then1 = c .before .before .before in
+    let after-is-within = then1 .before in
+    rw (← (after-is-within .is-within .ensures), c .before .before .before .if1 .taken, ← (c .before .before .u64-at .ensures), ← (c .before .is-small .ensures), c .if2 .taken)
 
 returns-2 : tie.Need-returns-2
 unfolding checkFactor
 returns-2 c =
-    rw (← (to-is-within-from-else2 c .is-within .ensures), c .before .before .before .if1 .taken, ← (c .before .before .u64-at .ensures), ← (c .before .is-small .ensures), c .if2 .left)
+    let then1 = c .before .before .before in
+    let after-is-within = then1 .before in
+    rw (← (after-is-within .is-within .ensures), c .before .before .before .if1 .taken, ← (c .before .before .u64-at .ensures), ← (c .before .is-small .ensures), c .if2 .left)
 
 returns-3 : tie.Need-returns-3
 unfolding checkFactor

@@ -10,26 +10,19 @@ u16-at-requires : tie.Need-u16-at-requires
 u16-at-requires c κs =
     leb-true _ _ (sym (c .before .is-within .ensures) ∙ c .if1 .taken)
 
--- from a place to an earlier one
-abbrev to-is-within-from-else2 : tie.Else2 → tie.After-is-within
-to-is-within-from-else2 c =
-    let then1 = c .before .before .before in
-    then1 .before
-
-abbrev to-is-within-from-then2 : tie.Then2 → tie.After-is-within
-to-is-within-from-then2 c =
-    let then1 = c .before .before .before in
-    then1 .before
-
 returns : tie.Need-returns
 unfolding nodeField
 returns c =
-    rw (← (to-is-within-from-then2 c .is-within .ensures), c .before .before .before .if1 .taken, ← (c .before .before .u16-at .ensures), ← (c .before .wide16 .ensures .0), lt-ltb _ _ (c .if2 .taken))
+    let then1 = c .before .before .before in
+    let after-is-within = then1 .before in
+    rw (← (after-is-within .is-within .ensures), c .before .before .before .if1 .taken, ← (c .before .before .u16-at .ensures), ← (c .before .wide16 .ensures .0), lt-ltb _ _ (c .if2 .taken))
 
 returns-2 : tie.Need-returns-2
 unfolding nodeField
 returns-2 c =
-    rw (← (to-is-within-from-else2 c .is-within .ensures), c .before .before .before .if1 .taken, ← (c .before .before .u16-at .ensures), ← (c .before .wide16 .ensures .0), le-ltb _ _ (c .if2 .left))
+    let then1 = c .before .before .before in
+    let after-is-within = then1 .before in
+    rw (← (after-is-within .is-within .ensures), c .before .before .before .if1 .taken, ← (c .before .before .u16-at .ensures), ← (c .before .wide16 .ensures .0), le-ltb _ _ (c .if2 .left))
 
 returns-3 : tie.Need-returns-3
 unfolding nodeField

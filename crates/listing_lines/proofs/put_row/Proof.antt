@@ -6,36 +6,19 @@ use borrow.Author.Needs.{needs}
 use Rattle.listing_lines.proofs.put_row.Statement.{statement}
 use Rattle.listing_lines.proofs.put_row.Tie as tie
 
--- from a place to an earlier one
-abbrev to-put-head : tie.After-varying-flag → tie.After-put-head
-to-put-head c =
-    let after-out = c .before .before .before in
-    after-out .before
-
-abbrev to-put-number : tie.After-put-bounds → tie.After-put-number
-to-put-number c =
-    let after-out2 = c .before .before .before in
-    after-out2 .before
-
-abbrev to-put-bounds : tie.After-put-number2 → tie.After-put-bounds
-to-put-bounds c =
-    let after-out3 = c .before .before .before in
-    after-out3 .before
-
-abbrev to-put-number2 : tie.After-put → tie.After-put-number2
-to-put-number2 c =
-    let after-out4 = c .before .before .before in
-    after-out4 .before
-
 returns : tie.Need-returns
 unfolding rowLine
 returns c =
     let after-put = c .before .before in
-    let after-put-number2 = to-put-number2 after-put in
-    let after-put-bounds = to-put-bounds after-put-number2 in
-    let after-put-number = to-put-number after-put-bounds in
+    let after-out4 = after-put .before .before .before in
+    let after-put-number2 = after-out4 .before in
+    let after-out3 = after-put-number2 .before .before .before in
+    let after-put-bounds = after-out3 .before in
+    let after-out2 = after-put-bounds .before .before .before in
+    let after-put-number = after-out2 .before in
     let after-varying-flag = after-put-number .before in
-    let after-put-head = to-put-head after-varying-flag in
+    let after-out = after-varying-flag .before .before .before in
+    let after-put-head = after-out .before in
     let e = after-varying-flag .varying-flag .ensures in
     record {
       put = rw (← e) (put-then (after-put-head .put-head .ensures .put) (put-then (after-put-number .put-number .ensures .put) (put-then (after-put-bounds .put-bounds .ensures .put) (put-then (after-put-number2 .put-number2 .ensures .put) (after-put .put .ensures)))));

@@ -14,21 +14,13 @@ unfolding parseNetwork _>>=_
 returns c =
     (rw (c .before .before .before .scan .ensures .0, c .before .r .given .1), tt)
 
--- from a place to an earlier one
-abbrev to-r2 : tie.After-known-told3 → tie.After-r2
-to-r2 c =
-    let after-check-network = c .before .before .before in
-    after-check-network .before .before
-
-abbrev to-scan : tie.After-known-told3 → tie.After-scan
-to-scan c =
-    let after-r2 = to-r2 c in
-    after-r2 .before .before
-
 returns-2 : tie.Need-returns-2
 unfolding parseNetwork _>>=_
 returns-2 c =
-    (rw (to-scan c .scan .ensures .0, to-r2 c .r2 .given .1, c .before .before .before .check-network .ensures, c .before .f .given .1), tt)
+    let after-check-network = c .before .before .before in
+    let after-r2 = after-check-network .before .before in
+    let after-scan = after-r2 .before .before in
+    (rw (after-scan .scan .ensures .0, after-r2 .r2 .given .1, c .before .before .before .check-network .ensures, c .before .f .given .1), tt)
 
 returns-3 : tie.Need-returns-3
 unfolding parseNetwork _>>=_

@@ -14,54 +14,14 @@ abbrev μ-loop : tie.MeasureT-loop
 μ-loop s at₀ stage₀ n₀ e₀ a₀ v₀ storages-at₀ at stage n e a v virtual-storages-at = 864 - (n + e + a + v)
 
 -- from a place to an earlier one
-abbrev to-in-loop-from-known-told : tie.After-known-told Inv-loop μ-loop → tie.In-loop Inv-loop μ-loop
-to-in-loop-from-known-told c =
+abbrev to-in-loop : tie.After-known-told Inv-loop μ-loop → tie.In-loop Inv-loop μ-loop
+to-in-loop c =
     let after-check-record = c .before .before .before in
     after-check-record .before
 
-abbrev to-loop-from-known-told : tie.After-known-told Inv-loop μ-loop → tie.At-loop Inv-loop μ-loop
-to-loop-from-known-told c =
-    let in-loop = to-in-loop-from-known-told c in
-    in-loop .before
-
-abbrev to-in-loop-from-known-told2 : tie.After-known-told2 Inv-loop μ-loop → tie.In-loop Inv-loop μ-loop
-to-in-loop-from-known-told2 c =
-    let after-check-record = c .before .before .before in
-    after-check-record .before
-
-abbrev to-loop-from-known-told2 : tie.After-known-told2 Inv-loop μ-loop → tie.At-loop Inv-loop μ-loop
-to-loop-from-known-told2 c =
-    let in-loop = to-in-loop-from-known-told2 c in
-    in-loop .before
-
-abbrev to-in-loop-from-known-told3 : tie.After-known-told3 Inv-loop μ-loop → tie.In-loop Inv-loop μ-loop
-to-in-loop-from-known-told3 c =
-    let after-check-record = c .before .before .before in
-    after-check-record .before
-
-abbrev to-loop-from-known-told3 : tie.After-known-told3 Inv-loop μ-loop → tie.At-loop Inv-loop μ-loop
-to-loop-from-known-told3 c =
-    let in-loop = to-in-loop-from-known-told3 c in
-    in-loop .before
-
-abbrev to-in-loop-from-known-told4 : tie.After-known-told4 Inv-loop μ-loop → tie.In-loop Inv-loop μ-loop
-to-in-loop-from-known-told4 c =
-    let after-check-record = c .before .before .before in
-    after-check-record .before
-
-abbrev to-loop-from-known-told4 : tie.After-known-told4 Inv-loop μ-loop → tie.At-loop Inv-loop μ-loop
-to-loop-from-known-told4 c =
-    let in-loop = to-in-loop-from-known-told4 c in
-    in-loop .before
-
-abbrev to-in-loop-from-known-told5 : tie.After-known-told5 Inv-loop μ-loop → tie.In-loop Inv-loop μ-loop
-to-in-loop-from-known-told5 c =
-    let after-check-record = c .before .before .before in
-    after-check-record .before
-
-abbrev to-loop-from-known-told5 : tie.After-known-told5 Inv-loop μ-loop → tie.At-loop Inv-loop μ-loop
-to-loop-from-known-told5 c =
-    let in-loop = to-in-loop-from-known-told5 c in
+abbrev to-loop : tie.After-known-told Inv-loop μ-loop → tie.At-loop Inv-loop μ-loop
+to-loop c =
+    let in-loop = to-in-loop c in
     in-loop .before
 
 loop-holds : tie.Need-loop-holds Inv-loop μ-loop
@@ -74,7 +34,7 @@ check-record-requires c κs =
 
 returns : tie.Need-returns Inv-loop μ-loop
 returns c =
-    (refusal _ _ _ _ _ _ _ _ (to-loop-from-known-told c .loop .inv) _ _ (to-in-loop-from-known-told c .loop-test .taken) (sym (c .before .before .before .check-record .ensures .0) ∙ c .before .t .given .1), tt)
+    (refusal _ _ _ _ _ _ _ _ (to-loop c .loop .inv) _ _ (to-in-loop c .loop-test .taken) (sym (c .before .before .before .check-record .ensures .0) ∙ c .before .t .given .1), tt)
 
 add-n : tie.Need-add-n Inv-loop μ-loop
 add-n c =
@@ -82,14 +42,19 @@ add-n c =
 
 loop-less : tie.Need-loop-less Inv-loop μ-loop
 loop-less c =
+    let after-check-record = c .before .before .before in
+    let at-loop = after-check-record .before .before in
     let h = rw (c .before .t2 .given .1) at (c .before .before .before .check-record .ensures .1) in
-    let i = to-loop-from-known-told2 c .loop .inv in
+    let i = at-loop .loop .inv in
     omega (arith, h .1, i .few-nodes, i .few-edges, i .few-aggregates, i .few-virtual-storages)
 
 loop-again : tie.Need-loop-again Inv-loop μ-loop
 loop-again c =
+    let after-check-record = c .before .before .before in
+    let in-loop = after-check-record .before in
+    let at-loop = in-loop .before in
     let h = rw (c .before .t2 .given .1) at (c .before .before .before .check-record .ensures .1) in
-    node-more _ _ _ _ _ _ _ _ (to-loop-from-known-told2 c .loop .inv) _ (to-in-loop-from-known-told2 c .loop-test .taken) (sym (c .before .before .before .check-record .ensures .0) ∙ c .before .t2 .given .1) h
+    node-more _ _ _ _ _ _ _ _ (at-loop .loop .inv) _ (in-loop .loop-test .taken) (sym (c .before .before .before .check-record .ensures .0) ∙ c .before .t2 .given .1) h
 
 add-e : tie.Need-add-e Inv-loop μ-loop
 add-e c =
@@ -97,14 +62,19 @@ add-e c =
 
 loop-less-2 : tie.Need-loop-less-2 Inv-loop μ-loop
 loop-less-2 c =
+    let after-check-record = c .before .before .before in
+    let at-loop = after-check-record .before .before in
     let h = rw (c .before .t3 .given .1) at (c .before .before .before .check-record .ensures .1) in
-    let i = to-loop-from-known-told3 c .loop .inv in
+    let i = at-loop .loop .inv in
     omega (arith, h .1, i .few-nodes, i .few-edges, i .few-aggregates, i .few-virtual-storages)
 
 loop-again-2 : tie.Need-loop-again-2 Inv-loop μ-loop
 loop-again-2 c =
+    let after-check-record = c .before .before .before in
+    let in-loop = after-check-record .before in
+    let at-loop = in-loop .before in
     let h = rw (c .before .t3 .given .1) at (c .before .before .before .check-record .ensures .1) in
-    edge-more _ _ _ _ _ _ _ _ (to-loop-from-known-told3 c .loop .inv) _ (to-in-loop-from-known-told3 c .loop-test .taken) (sym (c .before .before .before .check-record .ensures .0) ∙ c .before .t3 .given .1) h
+    edge-more _ _ _ _ _ _ _ _ (at-loop .loop .inv) _ (in-loop .loop-test .taken) (sym (c .before .before .before .check-record .ensures .0) ∙ c .before .t3 .given .1) h
 
 add-a : tie.Need-add-a Inv-loop μ-loop
 add-a c =
@@ -112,14 +82,19 @@ add-a c =
 
 loop-less-3 : tie.Need-loop-less-3 Inv-loop μ-loop
 loop-less-3 c =
+    let after-check-record = c .before .before .before in
+    let at-loop = after-check-record .before .before in
     let h = rw (c .before .t4 .given .1) at (c .before .before .before .check-record .ensures .1) in
-    let i = to-loop-from-known-told4 c .loop .inv in
+    let i = at-loop .loop .inv in
     omega (arith, h .1, i .few-nodes, i .few-edges, i .few-aggregates, i .few-virtual-storages)
 
 loop-again-3 : tie.Need-loop-again-3 Inv-loop μ-loop
 loop-again-3 c =
+    let after-check-record = c .before .before .before in
+    let in-loop = after-check-record .before in
+    let at-loop = in-loop .before in
     let h = rw (c .before .t4 .given .1) at (c .before .before .before .check-record .ensures .1) in
-    aggregate-more _ _ _ _ _ _ _ _ (to-loop-from-known-told4 c .loop .inv) _ (to-in-loop-from-known-told4 c .loop-test .taken) (sym (c .before .before .before .check-record .ensures .0) ∙ c .before .t4 .given .1) h
+    aggregate-more _ _ _ _ _ _ _ _ (at-loop .loop .inv) _ (in-loop .loop-test .taken) (sym (c .before .before .before .check-record .ensures .0) ∙ c .before .t4 .given .1) h
 
 add-v : tie.Need-add-v Inv-loop μ-loop
 add-v c =
@@ -127,14 +102,19 @@ add-v c =
 
 loop-less-4 : tie.Need-loop-less-4 Inv-loop μ-loop
 loop-less-4 c =
+    let after-check-record = c .before .before .before in
+    let at-loop = after-check-record .before .before in
     let h = rw (c .before .t5 .given .1) at (c .before .before .before .check-record .ensures .1) in
-    let i = to-loop-from-known-told5 c .loop .inv in
+    let i = at-loop .loop .inv in
     omega (arith, h .1, i .few-nodes, i .few-edges, i .few-aggregates, i .few-virtual-storages)
 
 loop-again-4 : tie.Need-loop-again-4 Inv-loop μ-loop
 loop-again-4 c =
+    let after-check-record = c .before .before .before in
+    let in-loop = after-check-record .before in
+    let at-loop = in-loop .before in
     let h = rw (c .before .t5 .given .1) at (c .before .before .before .check-record .ensures .1) in
-    virtual-storage-more _ _ _ _ _ _ _ _ (to-loop-from-known-told5 c .loop .inv) _ (to-in-loop-from-known-told5 c .loop-test .taken) (sym (c .before .before .before .check-record .ensures .0) ∙ c .before .t5 .given .1) h
+    virtual-storage-more _ _ _ _ _ _ _ _ (at-loop .loop .inv) _ (in-loop .loop-test .taken) (sym (c .before .before .before .check-record .ensures .0) ∙ c .before .t5 .given .1) h
 
 returns-2 : tie.Need-returns-2 Inv-loop μ-loop
 returns-2 c =

@@ -16,46 +16,13 @@ unfolding checkAggregate
 returns c =
     (rw (← (c .before .before .before .byte-field .ensures), c .before .k .given .1), tt)
 
--- from a place to an earlier one
-abbrev to-byte-field : tie.After-byte-field2 → tie.After-byte-field
-to-byte-field c =
-    let at-match-keys2 = c .before .before .before in
-    at-match-keys2 .before
-
-abbrev to-k2-from-known-told3 : tie.After-known-told3 → tie.After-k2
-to-k2-from-known-told3 c =
-    let after-byte-field2 = c .before .before .before in
-    after-byte-field2 .before .before
-
-abbrev to-l2 : tie.After-check-sets → tie.After-l2
-to-l2 c =
-    let after-active-field2 = c .before .before .before in
-    after-active-field2 .before .before
-
-abbrev to-active-field : tie.After-check-sets → tie.After-active-field
-to-active-field c =
-    let after-l2 = to-l2 c in
-    after-l2 .before .before
-
-abbrev to-c2 : tie.After-check-sets → tie.After-c2
-to-c2 c =
-    let after-active-field = to-active-field c in
-    after-active-field .before .before
-
-abbrev to-byte-field2 : tie.After-check-sets → tie.After-byte-field2
-to-byte-field2 c =
-    let after-c2 = to-c2 c in
-    after-c2 .before .before
-
-abbrev to-k2-from-check-sets : tie.After-check-sets → tie.After-k2
-to-k2-from-check-sets c =
-    let after-byte-field2 = to-byte-field2 c in
-    after-byte-field2 .before .before
-
 returns-2 : tie.Need-returns-2
 unfolding checkAggregate
 returns-2 c =
-    (rw (← (to-byte-field (c .before .before .before) .byte-field .ensures), to-k2-from-known-told3 c .k2 .given .1, ← (c .before .before .before .byte-field2 .ensures), c .before .c .given .1), tt)
+    let after-byte-field2 = c .before .before .before in
+    let after-k2 = after-byte-field2 .before .before in
+    let after-byte-field = after-k2 .before .before in
+    (rw (← (after-byte-field .byte-field .ensures), after-k2 .k2 .given .1, ← (c .before .before .before .byte-field2 .ensures), c .before .c .given .1), tt)
 
 returns-3 : tie.Need-returns-3
 unfolding checkAggregate
@@ -83,10 +50,17 @@ returns-4 c =
 
 returns-5 : tie.Need-returns-5
 unfolding checkAggregate
-returns-5 c = (
-  rw (← (to-byte-field (to-byte-field2 c) .byte-field .ensures), to-k2-from-check-sets c .k2 .given .1, ← (to-byte-field2 c .byte-field2 .ensures), to-c2 c .c2 .given .1, ← (to-active-field c .active-field .ensures), to-l2 c .l2 .given .1, ← (c .before .before .before .active-field2 .ensures), c .before .enum-told .given .1) (c .check-sets .ensures .0),
-  c .check-sets .ensures .1,
-)
+returns-5 c =
+    let after-active-field2 = c .before .before .before in
+    let after-l2 = after-active-field2 .before .before in
+    let after-active-field = after-l2 .before .before in
+    let after-c2 = after-active-field .before .before in
+    let after-byte-field2 = after-c2 .before .before in
+    let after-k2 = after-byte-field2 .before .before in
+    let after-byte-field = after-k2 .before .before in (
+      rw (← (after-byte-field .byte-field .ensures), after-k2 .k2 .given .1, ← (after-byte-field2 .byte-field2 .ensures), after-c2 .c2 .given .1, ← (after-active-field .active-field .ensures), after-l2 .l2 .given .1, ← (c .before .before .before .active-field2 .ensures), c .before .enum-told .given .1) (c .check-sets .ensures .0),
+      c .check-sets .ensures .1,
+    )
 
 pub check-aggregate-spec : {M : Type 1} → statement M
 check-aggregate-spec =

@@ -19,22 +19,6 @@ Inv-loop s place nodes count at here₀ i₀ here i =
 abbrev μ-loop : tie.MeasureT-loop
 μ-loop s place nodes count at here₀ i₀ here i = count - i
 
--- from a place to an earlier one
-abbrev to-loop-from-enum-told : tie.After-enum-told Inv-loop μ-loop → tie.At-loop Inv-loop μ-loop
-to-loop-from-enum-told c =
-    let in-loop = c .before .before .before in
-    in-loop .before
-
-abbrev to-in-loop : tie.After-known-told Inv-loop μ-loop → tie.In-loop Inv-loop μ-loop
-to-in-loop c =
-    let after-node-field = c .before .before .before in
-    after-node-field .before
-
-abbrev to-loop-from-known-told : tie.After-known-told Inv-loop μ-loop → tie.At-loop Inv-loop μ-loop
-to-loop-from-known-told c =
-    let in-loop = to-in-loop c in
-    in-loop .before
-
 loop-holds : tie.Need-loop-holds Inv-loop μ-loop
 loop-holds c =
     (search needs, rw sub-zero)
@@ -42,7 +26,10 @@ loop-holds c =
 returns : tie.Need-returns Inv-loop μ-loop
 unfolding checkMember
 returns c =
-    (sym (to-loop-from-known-told c .loop .inv .1 ∙ each-refused _ _ _ _ _ _ (to-in-loop c .loop-test .taken) (rw (← (c .before .before .before .node-field .ensures), c .before .f .given .1))), tt)
+    let after-node-field = c .before .before .before in
+    let in-loop = after-node-field .before in
+    let at-loop = in-loop .before in
+    (sym (at-loop .loop .inv .1 ∙ each-refused _ _ _ _ _ _ (in-loop .loop-test .taken) (rw (← (c .before .before .before .node-field .ensures), c .before .f .given .1))), tt)
 
 add-here : tie.Need-add-here Inv-loop μ-loop
 add-here c =
@@ -50,10 +37,12 @@ add-here c =
 
 loop-again : tie.Need-loop-again Inv-loop μ-loop
 unfolding checkMember
-loop-again c = (
-  node-within _ _ _ _ _ (sym (c .before .before .node-field .ensures) ∙ c .enum-told .given .1) .0,
-  to-loop-from-enum-told c .loop .inv .1 ∙ each-more _ _ _ _ _ (c .before .before .before .loop-test .taken) (rw (← (c .before .before .node-field .ensures), c .enum-told .given .1)),
-)
+loop-again c =
+    let in-loop = c .before .before .before in
+    let at-loop = in-loop .before in (
+      node-within _ _ _ _ _ (sym (c .before .before .node-field .ensures) ∙ c .enum-told .given .1) .0,
+      at-loop .loop .inv .1 ∙ each-more _ _ _ _ _ (c .before .before .before .loop-test .taken) (rw (← (c .before .before .node-field .ensures), c .enum-told .given .1)),
+    )
 
 returns-2 : tie.Need-returns-2 Inv-loop μ-loop
 returns-2 c =

@@ -19,42 +19,6 @@ Inv-loop s place nodes count at here₀ i₀ here i =
 abbrev μ-loop : tie.MeasureT-loop
 μ-loop s place nodes count at here₀ i₀ here i = count - i
 
--- from a place to an earlier one
-abbrev to-in-loop-from-known-told : tie.After-known-told Inv-loop μ-loop → tie.In-loop Inv-loop μ-loop
-to-in-loop-from-known-told c =
-    let after-byte-field = c .before .before .before in
-    after-byte-field .before
-
-abbrev to-loop-from-known-told : tie.After-known-told Inv-loop μ-loop → tie.At-loop Inv-loop μ-loop
-to-loop-from-known-told c =
-    let in-loop = to-in-loop-from-known-told c in
-    in-loop .before
-
-abbrev to-byte-field : tie.After-check-members Inv-loop μ-loop → tie.After-byte-field Inv-loop μ-loop
-to-byte-field c =
-    let at-match-keys2 = c .before .before .before in
-    at-match-keys2 .before
-
-abbrev to-in-loop-from-check-members : tie.After-check-members Inv-loop μ-loop → tie.In-loop Inv-loop μ-loop
-to-in-loop-from-check-members c =
-    let after-byte-field = to-byte-field c in
-    after-byte-field .before
-
-abbrev to-loop-from-check-members : tie.After-check-members Inv-loop μ-loop → tie.At-loop Inv-loop μ-loop
-to-loop-from-check-members c =
-    let in-loop = to-in-loop-from-check-members c in
-    in-loop .before
-
-abbrev to-f2-from-known-told3 : tie.After-known-told3 Inv-loop μ-loop → tie.After-f2 Inv-loop μ-loop
-to-f2-from-known-told3 c =
-    let after-check-members = c .before .before .before in
-    after-check-members .before .before
-
-abbrev to-f2-from-known-told4 : tie.After-known-told4 Inv-loop μ-loop → tie.After-f2 Inv-loop μ-loop
-to-f2-from-known-told4 c =
-    let after-check-members = c .before .before .before in
-    after-check-members .before .before
-
 loop-holds : tie.Need-loop-holds Inv-loop μ-loop
 loop-holds c =
     (search needs, rw sub-zero)
@@ -62,7 +26,10 @@ loop-holds c =
 returns : tie.Need-returns Inv-loop μ-loop
 unfolding checkSet
 returns c =
-    (sym (to-loop-from-known-told c .loop .inv .1 ∙ each-refused _ _ _ _ _ _ (to-in-loop-from-known-told c .loop-test .taken) (rw (← (c .before .before .before .byte-field .ensures), c .before .f .given .1))), tt)
+    let after-byte-field = c .before .before .before in
+    let in-loop = after-byte-field .before in
+    let at-loop = in-loop .before in
+    (sym (at-loop .loop .inv .1 ∙ each-refused _ _ _ _ _ _ (in-loop .loop-test .taken) (rw (← (c .before .before .before .byte-field .ensures), c .before .f .given .1))), tt)
 
 add-check-members : tie.Need-add-check-members Inv-loop μ-loop
 add-check-members c =
@@ -74,17 +41,27 @@ check-members-requires c κs =
 
 returns-2 : tie.Need-returns-2 Inv-loop μ-loop
 unfolding checkSet
-returns-2 c = (
-  sym (to-loop-from-check-members (c .before .before .before) .loop .inv .1 ∙ each-refused _ _ _ _ _ _ (to-in-loop-from-check-members (c .before .before .before) .loop-test .taken) (rw (← (to-byte-field (c .before .before .before) .byte-field .ensures), to-f2-from-known-told3 c .f2 .given .1) (sym (c .before .before .before .check-members .ensures .0) ∙ c .before .r .given .1))),
-  tt,
-)
+returns-2 c =
+    let after-check-members = c .before .before .before in
+    let after-f2 = after-check-members .before .before in
+    let after-byte-field = after-f2 .before .before in
+    let in-loop = after-byte-field .before in
+    let at-loop = in-loop .before in (
+      sym (at-loop .loop .inv .1 ∙ each-refused _ _ _ _ _ _ (in-loop .loop-test .taken) (rw (← (after-byte-field .byte-field .ensures), after-f2 .f2 .given .1) (sym (c .before .before .before .check-members .ensures .0) ∙ c .before .r .given .1))),
+      tt,
+    )
 
 loop-again : tie.Need-loop-again Inv-loop μ-loop
 unfolding checkSet
-loop-again c = (
-  (rw (c .before .r2 .given .1) at (c .before .before .before .check-members .ensures .1)),
-  to-loop-from-check-members (c .before .before .before) .loop .inv .1 ∙ each-more _ _ _ _ _ (to-in-loop-from-check-members (c .before .before .before) .loop-test .taken) (rw (← (to-byte-field (c .before .before .before) .byte-field .ensures), to-f2-from-known-told4 c .f2 .given .1) (sym (c .before .before .before .check-members .ensures .0) ∙ c .before .r2 .given .1)),
-)
+loop-again c =
+    let after-check-members = c .before .before .before in
+    let after-f2 = after-check-members .before .before in
+    let after-byte-field = after-f2 .before .before in
+    let in-loop = after-byte-field .before in
+    let at-loop = in-loop .before in (
+      (rw (c .before .r2 .given .1) at (c .before .before .before .check-members .ensures .1)),
+      at-loop .loop .inv .1 ∙ each-more _ _ _ _ _ (in-loop .loop-test .taken) (rw (← (after-byte-field .byte-field .ensures), after-f2 .f2 .given .1) (sym (c .before .before .before .check-members .ensures .0) ∙ c .before .r2 .given .1)),
+    )
 
 returns-3 : tie.Need-returns-3 Inv-loop μ-loop
 returns-3 c =

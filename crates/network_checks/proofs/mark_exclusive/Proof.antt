@@ -21,27 +21,6 @@ Inv-loop s start a marks₀ at₀ k₀ marks at k =
 abbrev μ-loop : tie.MeasureT-loop
 μ-loop s start a marks₀ at₀ k₀ marks at k = a - k
 
--- from a place to an earlier one
-abbrev to-start : tie.After-is-exclusive Inv-loop μ-loop → tie.Start Inv-loop μ-loop
-to-start c =
-    let after-shared-slice-known = c .before .before .before in
-    after-shared-slice-known .before
-
-abbrev to-loop-from-aggregate-end : tie.After-aggregate-end Inv-loop μ-loop → tie.At-loop Inv-loop μ-loop
-to-loop-from-aggregate-end c =
-    let in-loop = c .before .before .before in
-    in-loop .before
-
-abbrev to-in-loop : tie.After-mark-sets Inv-loop μ-loop → tie.In-loop Inv-loop μ-loop
-to-in-loop c =
-    let after-is-exclusive = c .before .before .before in
-    after-is-exclusive .before
-
-abbrev to-loop-from-mark-sets : tie.After-mark-sets Inv-loop μ-loop → tie.At-loop Inv-loop μ-loop
-to-loop-from-mark-sets c =
-    let in-loop = to-in-loop c in
-    in-loop .before
-
 loop-holds : tie.Need-loop-holds Inv-loop μ-loop
 unfolding recordsEnd
 loop-holds c =
@@ -60,23 +39,27 @@ mark-sets-requires c κs =
 
 loop-again : tie.Need-loop-again Inv-loop μ-loop
 loop-again c =
-    let at-loop = to-loop-from-mark-sets c in
-    let start = to-start (c .before .before .before) in (
+    let after-is-exclusive = c .before .before .before in
+    let in-loop = after-is-exclusive .before in
+    let at-loop = in-loop .before in
+    let start = at-loop .before .before in (
       search needs,
       c .mark-sets .ensures .0 ∙ ap (aggregateEnd (start .args .s .now)) (at-loop .loop .inv .1) ∙ sym (end-more (aggregateEnd (start .args .s .now)) _ _),
-      at-loop .loop .inv .2 ∙ mark-aggregate (start .args .s .now) _ _ _ (at-loop .loop .marks) (to-in-loop c .loop-test .taken)
+      at-loop .loop .inv .2 ∙ mark-aggregate (start .args .s .now) _ _ _ (at-loop .loop .marks) (in-loop .loop-test .taken)
           ∙ rw (sym (c .before .before .before .is-exclusive .ensures) ∙ c .before .before .if1 .taken, c .mark-sets .ensures .0, c .mark-sets .ensures .1),
     )
 
 aggregate-end-requires : tie.Need-aggregate-end-requires Inv-loop μ-loop
 aggregate-end-requires c κs =
-    let start = to-start (c .before) in
+    let at-loop = c .before .before .before in
+    let start = at-loop .before .before in
     subst (AggregatePassed (start .args .s .now) 256) (sym (c .before .before .before .loop .inv .1)) (start .pre .1 _ (c .before .before .loop-test .taken)) .within
 
 loop-again-2 : tie.Need-loop-again-2 Inv-loop μ-loop
 loop-again-2 c =
-    let at-loop = to-loop-from-aggregate-end c in
-    let start = to-start (c .before .before) in (
+    let in-loop = c .before .before .before in
+    let at-loop = in-loop .before in
+    let start = at-loop .before .before in (
       search needs,
       c .aggregate-end .ensures ∙ ap (aggregateEnd (start .args .s .now)) (at-loop .loop .inv .1) ∙ sym (end-more (aggregateEnd (start .args .s .now)) _ _),
       at-loop .loop .inv .2 ∙ mark-aggregate (start .args .s .now) _ _ _ (at-loop .loop .marks) (c .before .before .before .loop-test .taken)

@@ -21,13 +21,8 @@ abbrev μ-loop : tie.MeasureT-loop
 μ-loop s at marks₀ size k₀ marks k = size - k
 
 -- from a place to an earlier one
-abbrev to-start-from-loop : tie.After-loop Inv-loop μ-loop → tie.Start Inv-loop μ-loop
-to-start-from-loop c =
-    let after-shared-slice-known = c .before .before .before in
-    after-shared-slice-known .before
-
-abbrev to-start-from-in-loop : tie.In-loop Inv-loop μ-loop → tie.Start Inv-loop μ-loop
-to-start-from-in-loop c =
+abbrev to-start : tie.In-loop Inv-loop μ-loop → tie.Start Inv-loop μ-loop
+to-start c =
     let after-shared-slice-known = c .before .before .before in
     after-shared-slice-known .before
 
@@ -41,11 +36,11 @@ loop-holds c =
 
 member-requires : tie.Need-member-requires Inv-loop μ-loop
 member-requires c κs =
-    (to-start-from-in-loop c .pre .within, omega arith)
+    (to-start c .pre .within, omega arith)
 
 element-write-marks : tie.Need-element-write-marks Inv-loop μ-loop
 element-write-marks c =
-    omega (arith, c .wide16 .ensures .0, c .before .member .ensures, to-start-from-in-loop (c .before .before) .pre .members (c .before .before .before .loop .k) (omega arith))
+    omega (arith, c .wide16 .ensures .0, c .before .member .ensures, to-start (c .before .before) .pre .members (c .before .before .before .loop .k) (omega arith))
 
 loop-again : tie.Need-loop-again Inv-loop μ-loop
 loop-again c =
@@ -58,7 +53,9 @@ loop-again c =
 returns : tie.Need-returns Inv-loop μ-loop
 unfolding markAll
 returns c =
-    sym (c .before .loop .inv .1 ∙ rw (records-over (λ at. at + 2) _ _ _ (c .loop-test .left) (le16 (to-start-from-loop c .args .s .now))))
+    let after-shared-slice-known = c .before .before .before in
+    let start = after-shared-slice-known .before in
+    sym (c .before .loop .inv .1 ∙ rw (records-over (λ at. at + 2) _ _ _ (c .loop-test .left) (le16 (start .args .s .now))))
 
 pub mark-set-spec : {M : Type 1} → statement M
 mark-set-spec =

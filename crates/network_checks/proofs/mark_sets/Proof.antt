@@ -22,22 +22,6 @@ Inv-loop s at marks₀ count here₀ i₀ marks here i =
 abbrev μ-loop : tie.MeasureT-loop
 μ-loop s at marks₀ count here₀ i₀ marks here i = count - i
 
--- from a place to an earlier one
-abbrev to-start-from-loop : tie.After-loop Inv-loop μ-loop → tie.Start Inv-loop μ-loop
-to-start-from-loop c =
-    let after-shared-slice-known = c .before .before .before in
-    after-shared-slice-known .before
-
-abbrev to-start-from-mark-set-arg : tie.After-mark-set-arg Inv-loop μ-loop → tie.Start Inv-loop μ-loop
-to-start-from-mark-set-arg c =
-    let after-set-count = c .before .before .before in
-    after-set-count .before .before
-
-abbrev to-loop : tie.After-set-end Inv-loop μ-loop → tie.At-loop Inv-loop μ-loop
-to-loop c =
-    let in-loop = c .before .before .before in
-    in-loop .before
-
 set-count-requires : tie.Need-set-count-requires Inv-loop μ-loop
 set-count-requires c κs =
     fields-within _ _ _ (c .before .pre)
@@ -53,19 +37,22 @@ loop-holds c =
 
 mark-set-requires : tie.Need-mark-set-requires Inv-loop μ-loop
 mark-set-requires c κs =
-    let start = to-start-from-mark-set-arg c in
+    let after-set-count = c .before .before .before in
+    let start = after-set-count .before .before in
     subst (SetPassed (start .args .s .now) 256) (sym (c .before .before .loop .inv .1)) (start .pre .sets _ (omega arith))
 
 set-end-requires : tie.Need-set-end-requires Inv-loop μ-loop
 set-end-requires c κs =
-    let start = to-start-from-mark-set-arg (c .before) in
+    let at-loop = c .before .before .before in
+    let start = at-loop .before .before .before in
     let h = subst (SetPassed (start .args .s .now) 256) (sym (c .before .before .before .loop .inv .1)) (start .pre .sets _ (omega arith)) in
     omega (arith, h .within)
 
 loop-again : tie.Need-loop-again Inv-loop μ-loop
 loop-again c =
-    let at-loop = to-loop c in
-    let start = to-start-from-mark-set-arg (c .before .before) in (
+    let in-loop = c .before .before .before in
+    let at-loop = in-loop .before in
+    let start = at-loop .before .before .before in (
       search needs,
       c .set-end .ensures ∙ ap (setEnd (start .args .s .now)) (at-loop .loop .inv .1) ∙ sym (end-more (setEnd (start .args .s .now)) _ _),
       at-loop .loop .inv .2 ∙ mark-one-set (start .args .s .now) _ _ _ (at-loop .loop .marks) (c .before .before .before .loop-test .taken) ∙ rw (c .set-end .ensures, c .before .mark-set .ensures),
@@ -74,7 +61,8 @@ loop-again c =
 returns : tie.Need-returns Inv-loop μ-loop
 unfolding markSets
 returns c =
-    let start = to-start-from-loop c in (
+    let after-shared-slice-known = c .before .before .before in
+    let start = after-shared-slice-known .before in (
       c .before .loop .inv .1 ∙ ap (λ (k : ℕ). recordsEnd (setEnd (start .args .s .now)) k (start .args .at + 12)) (let q : c .before .loop .i ≡ c .before .before .set-count .result = omega arith in q ∙ c .before .before .set-count .ensures .0),
       sym (c .before .loop .inv .2 ∙ rw (records-over (setEnd (start .args .s .now)) _ _ _ (c .loop-test .left) (setAt (start .args .s .now)))),
     )

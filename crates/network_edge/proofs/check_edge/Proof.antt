@@ -45,21 +45,13 @@ unfolding checkEdge
 returns-2 c =
     (rw (← (c .before .before .before .node-field .ensures), c .before .f .given .1), tt)
 
--- from a place to an earlier one
-abbrev to-f2 : tie.After-known-told3 → tie.After-f2
-to-f2 c =
-    let after-node-field2 = c .before .before .before in
-    after-node-field2 .before .before
-
-abbrev to-node-field : tie.After-known-told3 → tie.After-node-field
-to-node-field c =
-    let after-f2 = to-f2 c in
-    after-f2 .before .before
-
 returns-3 : tie.Need-returns-3
 unfolding checkEdge
 returns-3 c =
-    (rw (← (to-node-field c .node-field .ensures), to-f2 c .f2 .given .1, ← (c .before .before .before .node-field2 .ensures), c .before .t .given .1), tt)
+    let after-node-field2 = c .before .before .before in
+    let after-f2 = after-node-field2 .before .before in
+    let after-node-field = after-f2 .before .before in
+    (rw (← (after-node-field .node-field .ensures), after-f2 .f2 .given .1, ← (c .before .before .before .node-field2 .ensures), c .before .t .given .1), tt)
 
 returns-4 : tie.Need-returns-4
 unfolding checkEdge

@@ -48,43 +48,19 @@ returns-4 c =
     let after-byte-field = after-k2 .before .before in
     (rw (← (after-byte-field .byte-field .ensures), after-k2 .k2 .given .1, ← (after-most-constant .most-constant .ensures), ← (after-byte-field2 .byte-field2 .ensures), after-c2 .c2 .given .1, ← (after-check-bound .check-bound .ensures), after-enum-told .enum-told .given .1, ← (after-check-bound2 .check-bound2 .ensures), after-hi .hi .given .1), tt)
 
--- from a place to an earlier one
-abbrev to-check-bound : tie.After-enum-told2 → tie.After-check-bound
-to-check-bound c =
-    let after-enum-told = c .before .before .before in
-    after-enum-told .before .before
-
-abbrev to-c2 : tie.After-enum-told2 → tie.After-c2
-to-c2 c =
-    let after-check-bound = to-check-bound c in
-    after-check-bound .before .before
-
-abbrev to-byte-field2 : tie.After-enum-told2 → tie.After-byte-field2
-to-byte-field2 c =
-    let after-c2 = to-c2 c in
-    after-c2 .before .before
-
-abbrev to-most-constant : tie.After-enum-told2 → tie.After-most-constant
-to-most-constant c =
-    let after-byte-field2 = to-byte-field2 c in
-    after-byte-field2 .before
-
-abbrev to-k2 : tie.After-enum-told2 → tie.After-k2
-to-k2 c =
-    let after-most-constant = to-most-constant c in
-    after-most-constant .before .before
-
-abbrev to-byte-field : tie.After-enum-told2 → tie.After-byte-field
-to-byte-field c =
-    let after-k2 = to-k2 c in
-    after-k2 .before .before
-
 returns-5 : tie.Need-returns-5
 unfolding checkNode
-returns-5 c = (
-  rw (← (to-byte-field c .byte-field .ensures), to-k2 c .k2 .given .1, ← (to-most-constant c .most-constant .ensures), ← (to-byte-field2 c .byte-field2 .ensures), to-c2 c .c2 .given .1, ← (to-check-bound c .check-bound .ensures), c .before .before .before .enum-told .given .1, ← (c .before .before .check-bound2 .ensures), c .enum-told2 .given .1),
-  omega (arith, bound-within _ _ _ _ _ (sym (c .before .before .check-bound2 .ensures) ∙ c .enum-told2 .given .1) .0),
-)
+returns-5 c =
+    let after-enum-told = c .before .before .before in
+    let after-check-bound = after-enum-told .before .before in
+    let after-c2 = after-check-bound .before .before in
+    let after-byte-field2 = after-c2 .before .before in
+    let after-most-constant = after-byte-field2 .before in
+    let after-k2 = after-most-constant .before .before in
+    let after-byte-field = after-k2 .before .before in (
+      rw (← (after-byte-field .byte-field .ensures), after-k2 .k2 .given .1, ← (after-most-constant .most-constant .ensures), ← (after-byte-field2 .byte-field2 .ensures), after-c2 .c2 .given .1, ← (after-check-bound .check-bound .ensures), c .before .before .before .enum-told .given .1, ← (c .before .before .check-bound2 .ensures), c .enum-told2 .given .1),
+      omega (arith, bound-within _ _ _ _ _ (sym (c .before .before .check-bound2 .ensures) ∙ c .enum-told2 .given .1) .0),
+    )
 
 pub check-node-spec : {M : Type 1} → statement M
 check-node-spec =

@@ -27,21 +27,6 @@ to-start c =
     let after-shared-slice-known = c .before .before .before in
     after-shared-slice-known .before
 
-abbrev to-else1-from-then8 : tie.Then8 → tie.Else1
-to-else1-from-then8 c =
-    let else3 = c .before .before .before in
-    else3 .before
-
-abbrev to-else3 : tie.After-check-virtual-storage → tie.Else3
-to-else3 c =
-    let else5 = c .before .before .before in
-    else5 .before
-
-abbrev to-else1-from-check-virtual-storage : tie.After-check-virtual-storage → tie.Else1
-to-else1-from-check-virtual-storage c =
-    let else3 = to-else3 c in
-    else3 .before
-
 check-edge-requires : tie.Need-check-edge-requires
 check-edge-requires c κs =
     (search needs, to-start c .pre .1 (c .before .if3 .taken), omega arith)
@@ -68,14 +53,19 @@ returns-6 c =
 returns-7 : tie.Need-returns-7
 unfolding checkRanked
 returns-7 c =
-    (rw (ne-eqb _ _ (to-else1-from-then8 c .if1 .left), ne-eqb _ _ (c .before .before .before .if3 .left), ne-eqb _ _ (c .before .before .if5 .left), eq-eqb _ _ (c .before .if7 .taken), le-ltb _ _ (c .if8 .taken)), tt)
+    let else3 = c .before .before .before in
+    let else1 = else3 .before in
+    (rw (ne-eqb _ _ (else1 .if1 .left), ne-eqb _ _ (c .before .before .before .if3 .left), ne-eqb _ _ (c .before .before .if5 .left), eq-eqb _ _ (c .before .if7 .taken), le-ltb _ _ (c .if8 .taken)), tt)
 
 returns-8 : tie.Need-returns-8
 unfolding checkRanked
-returns-8 c = (
-  rw (ne-eqb _ _ (to-else1-from-check-virtual-storage c .if1 .left), ne-eqb _ _ (to-else3 c .if3 .left), ne-eqb _ _ (c .before .before .before .if5 .left), eq-eqb _ _ (c .before .before .if7 .taken), lt-ltb _ _ (c .before .if8 .left)) (c .check-virtual-storage .ensures .0),
-  c .check-virtual-storage .ensures .1,
-)
+returns-8 c =
+    let else5 = c .before .before .before in
+    let else3 = else5 .before in
+    let else1 = else3 .before in (
+      rw (ne-eqb _ _ (else1 .if1 .left), ne-eqb _ _ (else3 .if3 .left), ne-eqb _ _ (c .before .before .before .if5 .left), eq-eqb _ _ (c .before .before .if7 .taken), lt-ltb _ _ (c .before .if8 .left)) (c .check-virtual-storage .ensures .0),
+      c .check-virtual-storage .ensures .1,
+    )
 
 returns-9 : tie.Need-returns-9
 unfolding checkRanked

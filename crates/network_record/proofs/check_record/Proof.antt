@@ -15,59 +15,43 @@ unfolding checkRecord
 returns c =
     (rw (lt-leb (c .before .before .args .at + 2) (length (c .before .before .args .s .now)) (omega arith)), tt)
 
--- from a place to an earlier one
-abbrev to-start-from-else2 : tie.Else2 → tie.Start
-to-start-from-else2 c =
-    let after-shared-slice-known = c .before .before .before in
-    after-shared-slice-known .before
-
-abbrev to-start-from-then2 : tie.Then2 → tie.Start
-to-start-from-then2 c =
-    let after-shared-slice-known = c .before .before .before in
-    after-shared-slice-known .before
-
-abbrev to-else2-from-known-told : tie.After-known-told → tie.Else2
-to-else2-from-known-told c =
-    let after-check-ranked = c .before .before .before in
-    after-check-ranked .before
-
-abbrev to-mark-rank-from-known-told : tie.After-known-told → tie.After-mark-rank
-to-mark-rank-from-known-told c =
-    let else2 = to-else2-from-known-told c in
-    else2 .before
-
-abbrev to-check-ranked : tie.Then3 → tie.After-check-ranked
-to-check-ranked c =
-    let at-match-keys2 = c .before .before .before in
-    at-match-keys2 .before
-
-abbrev to-else2-from-then3 : tie.Then3 → tie.Else2
-to-else2-from-then3 c =
-    let after-check-ranked = to-check-ranked c in
-    after-check-ranked .before
-
-abbrev to-mark-rank-from-then3 : tie.Then3 → tie.After-mark-rank
-to-mark-rank-from-then3 c =
-    let else2 = to-else2-from-then3 c in
-    else2 .before
-
 returns-2 : tie.Need-returns-2
 unfolding checkRecord
 returns-2 c =
-    let start = to-start-from-then2 c in
+    let after-shared-slice-known = c .before .before .before in
+    let start = after-shared-slice-known .before in
     (rw (le-leb (start .args .at + 2) (length (start .args .s .now)) (omega arith), ← (c .before .mark-rank .ensures), lt-ltb _ _ (c .if2 .taken)), tt)
+
+-- from a place to an earlier one
+abbrev to-start : tie.Else2 → tie.Start
+to-start c =
+    let after-shared-slice-known = c .before .before .before in
+    after-shared-slice-known .before
+
+abbrev to-else2 : tie.After-known-told → tie.Else2
+to-else2 c =
+    let after-check-ranked = c .before .before .before in
+    after-check-ranked .before
+
+abbrev to-mark-rank : tie.After-known-told → tie.After-mark-rank
+to-mark-rank c =
+    let else2 = to-else2 c in
+    else2 .before
 
 check-ranked-requires : tie.Need-check-ranked-requires
 check-ranked-requires c κs =
-    let start = to-start-from-else2 c in
+    let start = to-start c in
     (omega arith, λ q. let h = start .pre .1 (omega (arith, q)) in omega (arith, h), start .pre .2)
 
 returns-3 : tie.Need-returns-3
 returns-3 c =
-    let after-check-ranked = to-check-ranked c in
+    let at-match-keys2 = c .before .before .before in
+    let after-check-ranked = at-match-keys2 .before in
+    let else2 = after-check-ranked .before in
+    let after-mark-rank = else2 .before in
     let e = sym (after-check-ranked .check-ranked .ensures .0) ∙ c .before .before .r2 .given .1 in
     let h = ranked-node _ _ _ _ _ _ _ _ e (c .if3 .taken) in (
-      sym (in-order _ _ _ _ _ _ _ _ _ (omega arith) (to-mark-rank-from-then3 c .mark-rank .ensures) (to-else2-from-then3 c .if2 .left) e ∙ rw (eq-eqb _ _ (c .if3 .taken))),
+      sym (in-order _ _ _ _ _ _ _ _ _ (omega arith) (after-mark-rank .mark-rank .ensures) (else2 .if2 .left) e ∙ rw (eq-eqb _ _ (c .if3 .taken))),
       (omega arith, h .0, h .1, (rw (c .before .before .r2 .given .1) at (after-check-ranked .check-ranked .ensures .1))),
     )
 
@@ -100,7 +84,7 @@ returns-5 c =
 
 returns-6 : tie.Need-returns-6
 returns-6 c =
-    (sym (in-order _ _ _ _ _ _ _ _ _ (omega arith) (to-mark-rank-from-known-told c .mark-rank .ensures) (to-else2-from-known-told c .if2 .left) (sym (c .before .before .before .check-ranked .ensures .0) ∙ c .before .r .given .1)), tt)
+    (sym (in-order _ _ _ _ _ _ _ _ _ (omega arith) (to-mark-rank c .mark-rank .ensures) (to-else2 c .if2 .left) (sym (c .before .before .before .check-ranked .ensures .0) ∙ c .before .r .given .1)), tt)
 
 returns-7 : tie.Need-returns-7
 returns-7 c =

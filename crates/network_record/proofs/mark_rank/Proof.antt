@@ -15,61 +15,35 @@ unfolding markRank
 returns-2 c =
     rw (c .before .before .if1 .taken, ne-eqb _ _ (c .if2 .left))
 
--- from a place to an earlier one
-abbrev to-else1-from-else4 : tie.Else4 → tie.Else1
-to-else1-from-else4 c =
-    let after-shared-slice-known3 = c .before .before .before in
-    after-shared-slice-known3 .before
-
-abbrev to-else1-from-then4 : tie.Then4 → tie.Else1
-to-else1-from-then4 c =
-    let after-shared-slice-known3 = c .before .before .before in
-    after-shared-slice-known3 .before
-
-abbrev to-else1-from-shared-slice-known6 : tie.After-shared-slice-known6 → tie.Else1
-to-else1-from-shared-slice-known6 c =
-    let else3 = c .before .before .before in
-    else3 .before .before
-
-abbrev to-else3-from-else7 : tie.Else7 → tie.Else3
-to-else3-from-else7 c =
-    let after-shared-slice-known5 = c .before .before .before in
-    after-shared-slice-known5 .before
-
-abbrev to-else1-from-else7 : tie.Else7 → tie.Else1
-to-else1-from-else7 c =
-    let else3 = to-else3-from-else7 c in
-    else3 .before .before
-
-abbrev to-else3-from-else6 : tie.Else6 → tie.Else3
-to-else3-from-else6 c =
-    let after-shared-slice-known5 = c .before .before .before in
-    after-shared-slice-known5 .before
-
-abbrev to-else3-from-then6 : tie.Then6 → tie.Else3
-to-else3-from-then6 c =
-    let after-shared-slice-known5 = c .before .before .before in
-    after-shared-slice-known5 .before
-
 returns-3 : tie.Need-returns-3
 unfolding markRank
 returns-3 c =
-    rw (ne-eqb _ _ (to-else1-from-then4 c .if1 .left), c .before .before .if3 .taken, c .if4 .taken)
+    let after-shared-slice-known3 = c .before .before .before in
+    let else1 = after-shared-slice-known3 .before in
+    rw (ne-eqb _ _ (else1 .if1 .left), c .before .before .if3 .taken, c .if4 .taken)
 
 returns-4 : tie.Need-returns-4
 unfolding markRank
 returns-4 c =
-    rw (ne-eqb _ _ (to-else1-from-else4 c .if1 .left), c .before .before .if3 .taken, ne-eqb _ _ (c .if4 .left))
+    let after-shared-slice-known3 = c .before .before .before in
+    let else1 = after-shared-slice-known3 .before in
+    rw (ne-eqb _ _ (else1 .if1 .left), c .before .before .if3 .taken, ne-eqb _ _ (c .if4 .left))
 
 returns-5 : tie.Need-returns-5
 unfolding markRank
 returns-5 c =
-    rw (ne-eqb _ _ (to-else1-from-shared-slice-known6 (c .before) .if1 .left), ne-eqb _ _ (to-else3-from-then6 c .if3 .left), c .before .before .if5 .taken, c .if6 .taken)
+    let after-shared-slice-known5 = c .before .before .before in
+    let else3 = after-shared-slice-known5 .before in
+    let else1 = else3 .before .before in
+    rw (ne-eqb _ _ (else1 .if1 .left), ne-eqb _ _ (else3 .if3 .left), c .before .before .if5 .taken, c .if6 .taken)
 
 returns-6 : tie.Need-returns-6
 unfolding markRank
 returns-6 c =
-    rw (ne-eqb _ _ (to-else1-from-shared-slice-known6 (c .before) .if1 .left), ne-eqb _ _ (to-else3-from-else6 c .if3 .left), c .before .before .if5 .taken, ne-eqb _ _ (c .if6 .left))
+    let after-shared-slice-known5 = c .before .before .before in
+    let else3 = after-shared-slice-known5 .before in
+    let else1 = else3 .before .before in
+    rw (ne-eqb _ _ (else1 .if1 .left), ne-eqb _ _ (else3 .if3 .left), c .before .before .if5 .taken, ne-eqb _ _ (c .if6 .left))
 
 returns-7 : tie.Need-returns-7
 unfolding markRank
@@ -92,7 +66,10 @@ returns-8 c =
 returns-9 : tie.Need-returns-9
 unfolding markRank
 returns-9 c =
-    rw (ne-eqb _ _ (to-else1-from-else7 c .if1 .left), ne-eqb _ _ (to-else3-from-else7 c .if3 .left), ne-eqb _ _ (c .before .before .if5 .left), ne-eqb _ _ (c .if7 .left))
+    let after-shared-slice-known5 = c .before .before .before in
+    let else3 = after-shared-slice-known5 .before in
+    let else1 = else3 .before .before in
+    rw (ne-eqb _ _ (else1 .if1 .left), ne-eqb _ _ (else3 .if3 .left), ne-eqb _ _ (c .before .before .if5 .left), ne-eqb _ _ (c .if7 .left))
 
 pub mark-rank-spec : {M : Type 1} → statement M
 mark-rank-spec =

@@ -4,21 +4,13 @@ use borrow.Author.Needs.{needs}
 use Rattle.network_virtual_storage.proofs.check_dates.Statement.{statement}
 use Rattle.network_virtual_storage.proofs.check_dates.Tie as tie
 
--- from a place to an earlier one
-abbrev to-most-date : tie.After-known-told → tie.After-most-date
-to-most-date c =
-    let after-byte-field = c .before .before .before in
-    after-byte-field .before .before
-
-abbrev to-least-date : tie.After-known-told → tie.After-least-date
-to-least-date c =
-    let after-most-date = to-most-date c in
-    after-most-date .before
-
 returns : tie.Need-returns
 unfolding checkDates
 returns c =
-    rw (← (to-least-date c .least-date .ensures), ← (to-most-date c .most-date .ensures), ← (c .before .before .before .byte-field .ensures), c .before .a .given .1)
+    let after-byte-field = c .before .before .before in
+    let after-most-date = after-byte-field .before .before in
+    let after-least-date = after-most-date .before in
+    rw (← (after-least-date .least-date .ensures), ← (after-most-date .most-date .ensures), ← (c .before .before .before .byte-field .ensures), c .before .a .given .1)
 
 returns-2 : tie.Need-returns-2
 unfolding checkDates

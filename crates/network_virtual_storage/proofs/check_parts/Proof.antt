@@ -19,32 +19,6 @@ Inv-loop s place nodes count at here₀ i₀ here i =
 abbrev μ-loop : tie.MeasureT-loop
 μ-loop s place nodes count at here₀ i₀ here i = count - i
 
--- from a place to an earlier one
-abbrev to-in-loop-from-known-told : tie.After-known-told Inv-loop μ-loop → tie.In-loop Inv-loop μ-loop
-to-in-loop-from-known-told c =
-    let after-node-field = c .before .before .before in
-    after-node-field .before
-
-abbrev to-loop-from-known-told : tie.After-known-told Inv-loop μ-loop → tie.At-loop Inv-loop μ-loop
-to-loop-from-known-told c =
-    let in-loop = to-in-loop-from-known-told c in
-    in-loop .before
-
-abbrev to-node-field : tie.After-enum-told2 Inv-loop μ-loop → tie.After-node-field Inv-loop μ-loop
-to-node-field c =
-    let after-enum-told = c .before .before .before in
-    after-enum-told .before .before
-
-abbrev to-in-loop-from-enum-told2 : tie.After-enum-told2 Inv-loop μ-loop → tie.In-loop Inv-loop μ-loop
-to-in-loop-from-enum-told2 c =
-    let after-node-field = to-node-field c in
-    after-node-field .before
-
-abbrev to-loop-from-enum-told2 : tie.After-enum-told2 Inv-loop μ-loop → tie.At-loop Inv-loop μ-loop
-to-loop-from-enum-told2 c =
-    let in-loop = to-in-loop-from-enum-told2 c in
-    in-loop .before
-
 loop-holds : tie.Need-loop-holds Inv-loop μ-loop
 loop-holds c =
     (search needs, rw sub-zero)
@@ -52,7 +26,10 @@ loop-holds c =
 returns : tie.Need-returns Inv-loop μ-loop
 unfolding checkPart
 returns c =
-    (sym (to-loop-from-known-told c .loop .inv .1 ∙ each-refused _ _ _ _ _ _ (to-in-loop-from-known-told c .loop-test .taken) (rw (← (c .before .before .before .node-field .ensures), c .before .f .given .1))), tt)
+    let after-node-field = c .before .before .before in
+    let in-loop = after-node-field .before in
+    let at-loop = in-loop .before in
+    (sym (at-loop .loop .inv .1 ∙ each-refused _ _ _ _ _ _ (in-loop .loop-test .taken) (rw (← (c .before .before .before .node-field .ensures), c .before .f .given .1))), tt)
 
 add-check-factor : tie.Need-add-check-factor Inv-loop μ-loop
 add-check-factor c =
@@ -75,10 +52,14 @@ add-here c =
 
 loop-again : tie.Need-loop-again Inv-loop μ-loop
 unfolding checkPart
-loop-again c = (
-  omega (arith, factor-within _ _ _ _ (sym (c .before .before .check-factor .ensures) ∙ c .enum-told2 .given .1) .0),
-  to-loop-from-enum-told2 c .loop .inv .1 ∙ each-more _ _ _ _ _ (to-in-loop-from-enum-told2 c .loop-test .taken) (rw (← (to-node-field c .node-field .ensures), c .before .before .before .enum-told .given .1, ← (c .before .before .check-factor .ensures), c .enum-told2 .given .1)),
-)
+loop-again c =
+    let after-enum-told = c .before .before .before in
+    let after-node-field = after-enum-told .before .before in
+    let in-loop = after-node-field .before in
+    let at-loop = in-loop .before in (
+      omega (arith, factor-within _ _ _ _ (sym (c .before .before .check-factor .ensures) ∙ c .enum-told2 .given .1) .0),
+      at-loop .loop .inv .1 ∙ each-more _ _ _ _ _ (in-loop .loop-test .taken) (rw (← (after-node-field .node-field .ensures), c .before .before .before .enum-told .given .1, ← (c .before .before .check-factor .ensures), c .enum-told2 .given .1)),
+    )
 
 returns-3 : tie.Need-returns-3 Inv-loop μ-loop
 returns-3 c =

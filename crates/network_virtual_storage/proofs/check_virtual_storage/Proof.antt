@@ -16,21 +16,13 @@ unfolding checkVirtualStorage
 returns c =
     (rw (← (c .before .before .before .byte-field .ensures), c .before .k .given .1), tt)
 
--- from a place to an earlier one
-abbrev to-k2 : tie.After-known-told3 → tie.After-k2
-to-k2 c =
-    let after-check-dates = c .before .before .before in
-    after-check-dates .before .before
-
-abbrev to-byte-field : tie.After-known-told3 → tie.After-byte-field
-to-byte-field c =
-    let after-k2 = to-k2 c in
-    after-k2 .before .before
-
 returns-2 : tie.Need-returns-2
 unfolding checkVirtualStorage
 returns-2 c =
-    (rw (← (to-byte-field c .byte-field .ensures), to-k2 c .k2 .given .1, ← (c .before .before .before .check-dates .ensures), c .before .d .given .1), tt)
+    let after-check-dates = c .before .before .before in
+    let after-k2 = after-check-dates .before .before in
+    let after-byte-field = after-k2 .before .before in
+    (rw (← (after-byte-field .byte-field .ensures), after-k2 .k2 .given .1, ← (c .before .before .before .check-dates .ensures), c .before .d .given .1), tt)
 
 returns-3 : tie.Need-returns-3
 unfolding checkVirtualStorage

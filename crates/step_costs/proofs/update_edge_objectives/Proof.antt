@@ -45,7 +45,9 @@ loop-holds c =
     let after-fill-f64 = c .before .before in
     let after-wide3 = after-fill-f64 .before .before in
     let after-wide2 = after-wide3 .before .before in
-    let start = to-start (after-wide2 .before .before) in
+    let after-shared-slice-known3 = after-wide2 .before .before .before in
+    let after-shared-slice-known = after-shared-slice-known3 .before .before .before in
+    let start = after-shared-slice-known .before in
     added-none (start .args .file .now) (start .args .shape .now) (start .args .col-obj-coef .now) _ (omega arith) (after-fill-f64 .fill-f64 .ensures ∙ rw (after-wide2 .wide2 .ensures .0, after-wide3 .wide3 .ensures .0, zero-literal))
 
 edge-cost-requires : tie.Need-edge-cost-requires Inv-loop μ-loop
@@ -81,11 +83,15 @@ slice-write-col-obj-coef c =
 
 loop-again : tie.Need-loop-again Inv-loop μ-loop
 loop-again c =
-    let after-wide4 = to-wide4 c in
+    let after-shared-slice-known7 = c .before .before .before in
+    let after-wide4 = after-shared-slice-known7 .before in
     let in-loop = after-wide4 .before .before in
     let at-loop = in-loop .before in
-    let after-wide = to-wide (at-loop .before .before .before) in
-    let start = to-start after-wide in
+    let after-fill-f64 = at-loop .before .before .before in
+    let after-shared-slice-known5 = after-fill-f64 .before .before .before in
+    let after-wide = after-shared-slice-known5 .before .before .before in
+    let after-shared-slice-known2 = after-wide .before .before .before in
+    let start = after-shared-slice-known2 .before .before in
     let fit = start .pre .6 (ofShape (start .args .shape .now)) refl in
     rw (after-wide4 .wide4 .ensures .0) (added-more _ _ _ _ _ _ (at-loop .loop .inv) (omega (arith, in-loop .loop-test .taken, after-wide .wide .ensures .0)) fit _ (c .before .edge-cost .ensures))
 
@@ -95,7 +101,8 @@ same-length c =
 
 returns : tie.Need-returns Inv-loop μ-loop
 returns c =
-    let after-fill-f64 = to-fill-f64 c in
+    let after-col-obj-coef = c .before .before .before in
+    let after-fill-f64 = after-col-obj-coef .before in
     let after-wide3 = after-fill-f64 .before .before in
     let after-wide2 = after-wide3 .before .before in
     let after-wide = after-wide2 .before .before in

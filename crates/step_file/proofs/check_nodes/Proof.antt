@@ -23,10 +23,10 @@ abbrev μ-loop : tie.MeasureT-loop
 μ-loop file shape nodes word₀ at₀ i₀ word at i = nodes - i
 
 -- from a place to an earlier one
-abbrev to-start : tie.After-wide Inv-loop μ-loop → tie.Start Inv-loop μ-loop
+abbrev to-start : tie.At-loop Inv-loop μ-loop → tie.Start Inv-loop μ-loop
 to-start c =
-    let after-shared-slice-known = c .before .before .before in
-    after-shared-slice-known .before
+    let after-shared-slice-known2 = c .before .before .before in
+    after-shared-slice-known2 .before .before
 
 loop-holds : tie.Need-loop-holds Inv-loop μ-loop
 loop-holds c =
@@ -39,7 +39,8 @@ returns c =
     let in-loop = after-check-node .before .before .before in
     let at-loop = in-loop .before in
     let after-wide = at-loop .before in
-    let start = to-start after-wide in
+    let after-shared-slice-known = after-wide .before .before .before in
+    let start = after-shared-slice-known .before in
     let told = sym (after-check-node .check-node .ensures) ∙ c .before .node .given .1 in
     let left = nodes-refused _ (nodeEntry (ofShape (start .args .shape .now))) _ _ _ _ _ _ (in-loop .loop-test .taken) told in
     λ s e. rw (nodes-of s (start .args .shape .now) e, ← (after-wide .wide .ensures .0)) (sym (at-loop .loop .inv .3 ∙ left))
@@ -50,7 +51,7 @@ loop-again c =
     let after-check-node = c .before .before in
     let in-loop = after-check-node .before .before .before in
     let at-loop = in-loop .before in
-    let start = to-start (at-loop .before) in (
+    let start = to-start at-loop in (
       search needs,
       search needs,
       search needs,
@@ -60,7 +61,8 @@ loop-again c =
 returns-2 : tie.Need-returns-2 Inv-loop μ-loop
 returns-2 c =
     let after-wide = c .before .before in
-    let start = to-start after-wide in
+    let after-shared-slice-known = after-wide .before .before .before in
+    let start = after-shared-slice-known .before in
     λ s e. rw (nodes-of s (start .args .shape .now) e, ← (after-wide .wide .ensures .0)) (sym (c .before .loop .inv .3 ∙ nodes-done _ (nodeEntry (ofShape (start .args .shape .now))) _ _ _ _ (c .loop-test .left)))
 
 pub check-nodes-spec : {M : Type 1} → statement M

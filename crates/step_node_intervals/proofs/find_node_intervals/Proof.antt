@@ -17,10 +17,10 @@ abbrev μ-loop : tie.MeasureT-loop
 μ-loop file shape days sentinel work₀ nodes i₀ work i = nodes - i
 
 -- from a place to an earlier one
-abbrev to-start : tie.After-wide Inv-loop μ-loop → tie.Start Inv-loop μ-loop
+abbrev to-start : tie.At-loop Inv-loop μ-loop → tie.Start Inv-loop μ-loop
 to-start c =
-    let after-shared-slice-known2 = c .before .before .before in
-    after-shared-slice-known2 .before .before
+    let after-slice-known = c .before .before .before in
+    after-slice-known .before .before .before
 
 abbrev to-loop : tie.Then1 Inv-loop μ-loop → tie.At-loop Inv-loop μ-loop
 to-loop c =
@@ -42,7 +42,8 @@ returns c =
     let in-loop = after-narrow16 .before in
     let at-loop = in-loop .before in
     let after-wide = at-loop .before in
-    let start = to-start after-wide in
+    let after-shared-slice-known2 = after-wide .before .before .before in
+    let start = after-shared-slice-known2 .before .before in
     let a = start .args in
     let is = after-node-interval .node-interval .ensures ∙ ap (nodeNumbered (a .sentinel) (a .days) (a .shape .now) (a .file .now)) (after-narrow16 .narrow16 .ensures) in
     rw (← (after-wide .wide .ensures .0)) (passed-stops _ _ (in-loop .loop-test .taken) is (c .before .is-crossed .ensures) (at-loop .loop .inv) 14 (c .if1 .taken))
@@ -59,7 +60,7 @@ loop-again c =
     let after-narrow16 = after-node-interval .before in
     let in-loop = after-narrow16 .before in
     let at-loop = in-loop .before in
-    let start = to-start (at-loop .before) in
+    let start = to-start at-loop in
     let a = start .args in
     let is = after-node-interval .node-interval .ensures ∙ ap (nodeNumbered (a .sentinel) (a .days) (a .shape .now) (a .file .now)) (after-narrow16 .narrow16 .ensures) in
     passed-more _ _ (in-loop .loop-test .taken) is (c .before .is-crossed .ensures) (at-loop .loop .inv) (at-loop .loop .i) (sym (zero-add (at-loop .loop .i))) (search needs) (search needs) (c .if1 .left)

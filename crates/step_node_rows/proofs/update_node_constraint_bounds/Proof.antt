@@ -14,23 +14,6 @@ Inv-loop row-lower₀ row-upper₀ elements₀ columns row-starts shape work nod
 abbrev μ-loop : tie.MeasureT-loop
 μ-loop row-lower₀ row-upper₀ elements₀ columns row-starts shape work node-rows at₀ i₀ row-lower row-upper elements at i = node-rows - i
 
--- from a place to an earlier one
-abbrev to-start : tie.After-wide Inv-loop μ-loop → tie.Start Inv-loop μ-loop
-to-start c =
-    let after-shared-slice-known3 = c .before .before .before in
-    let after-slice-known3 = after-shared-slice-known3 .before .before .before in
-    after-slice-known3 .before .before .before
-
-abbrev to-in-loop : tie.After-update-node-row Inv-loop μ-loop → tie.In-loop Inv-loop μ-loop
-to-in-loop c =
-    let after-update-node-row-arg = c .before .before .before in
-    after-update-node-row-arg .before
-
-abbrev to-update-node-row : tie.After-slice-known6 Inv-loop μ-loop → tie.After-update-node-row Inv-loop μ-loop
-to-update-node-row c =
-    let after-row-upper = c .before .before .before in
-    after-row-upper .before .before .before
-
 loop-holds : tie.Need-loop-holds Inv-loop μ-loop
 loop-holds c =
     applied-none _ _ _ _ _ _ _ _
@@ -40,7 +23,9 @@ update-node-row-requires c κs =
     let in-loop = c .before .before .before in
     let at-loop = in-loop .before in
     let after-wide = at-loop .before in
-    let start = to-start after-wide in
+    let after-shared-slice-known3 = after-wide .before .before .before in
+    let after-slice-known3 = after-shared-slice-known3 .before .before .before in
+    let start = after-slice-known3 .before .before .before in
     let l = at-loop .loop in (
       long-still (start .pre .0) (l .inv .lower-long) (l .inv .upper-long) (l .inv .elements-long),
       start .pre .1,
@@ -50,11 +35,15 @@ update-node-row-requires c κs =
 
 loop-again : tie.Need-loop-again Inv-loop μ-loop
 loop-again c =
-    let after-update-node-row = to-update-node-row c in
-    let in-loop = to-in-loop after-update-node-row in
+    let after-row-upper = c .before .before .before in
+    let after-update-node-row = after-row-upper .before .before .before in
+    let after-update-node-row-arg = after-update-node-row .before .before .before in
+    let in-loop = after-update-node-row-arg .before in
     let at-loop = in-loop .before in
     let after-wide = at-loop .before in
-    let start = to-start after-wide in
+    let after-shared-slice-known3 = after-wide .before .before .before in
+    let after-slice-known3 = after-shared-slice-known3 .before .before .before in
+    let start = after-slice-known3 .before .before .before in
     let l = at-loop .loop in
     applied-more _ _ _ _ _ _ _ _ (l .inv) _ _ _ (in-loop .loop-test .taken)
     (rw (l .inv .place) (start .pre .3 (l .i) (omega (arith, in-loop .loop-test .taken, after-wide .wide .ensures .0)) .node)) (after-update-node-row .update-node-row .kept .0) (after-update-node-row .update-node-row .kept .1 .0)

@@ -21,30 +21,10 @@ to-wide c =
     let after-shared-slice-known6 = c .before .before .before in
     after-shared-slice-known6 .before .before
 
-abbrev to-wide2-from-apply-row-bounds-arg2 : tie.After-apply-row-bounds-arg2 → tie.After-wide2
-to-wide2-from-apply-row-bounds-arg2 c =
+abbrev to-wide2 : tie.After-apply-row-bounds-arg2 → tie.After-wide2
+to-wide2 c =
     let after-shared-slice-known7 = c .before .before .before in
     after-shared-slice-known7 .before
-
-abbrev to-wide2-from-then2 : tie.Then2 → tie.After-wide2
-to-wide2-from-then2 c =
-    let else1 = c .before .before .before in
-    else1 .before .before
-
-abbrev to-else1-from-set-coefficient-arg : tie.After-set-coefficient-arg → tie.Else1
-to-else1-from-set-coefficient-arg c =
-    let after-shared-slice-known8 = c .before .before .before in
-    after-shared-slice-known8 .before
-
-abbrev to-else1-from-struct-known : tie.After-struct-known → tie.Else1
-to-else1-from-struct-known c =
-    let after-shared-slice-known9 = c .before .before .before in
-    after-shared-slice-known9 .before .before
-
-abbrev to-apply-row-bounds : tie.After-slice-known5 → tie.After-apply-row-bounds
-to-apply-row-bounds c =
-    let after-row-lower = c .before .before .before in
-    after-row-lower .before
 
 held-interval-requires : tie.Need-held-interval-requires
 held-interval-requires c κs =
@@ -53,7 +33,7 @@ held-interval-requires c κs =
 
 apply-row-bounds-requires : tie.Need-apply-row-bounds-requires
 apply-row-bounds-requires c κs =
-    let after-wide2 = to-wide2-from-apply-row-bounds-arg2 c in
+    let after-wide2 = to-wide2 c in
     let start = to-start (after-wide2 .before .before .before) in (
       omega (arith, after-wide2 .wide2 .ensures .0, start .pre .2 .row, start .pre .1 .rows .rows, start .pre .0 .lower-long),
       omega (arith, after-wide2 .wide2 .ensures .0, start .pre .2 .row, start .pre .1 .rows .rows, start .pre .0 .upper-long),
@@ -61,12 +41,15 @@ apply-row-bounds-requires c κs =
 
 returns : tie.Need-returns
 returns c =
-    let after-apply-row-bounds = to-apply-row-bounds c in
+    let after-row-lower = c .before .before .before in
+    let after-apply-row-bounds = after-row-lower .before in
     let then1 = after-apply-row-bounds .before .before .before in
     let after-wide2 = then1 .before .before in
     let after-held-interval = after-wide2 .before .before in
     let after-wide = after-held-interval .before in
-    let start = to-start after-wide in
+    let after-shared-slice-known3 = after-wide .before .before .before in
+    let after-slice-known3 = after-shared-slice-known3 .before .before .before in
+    let start = after-slice-known3 .before .before .before in
     λ s rows w.
     let a = start .args in
     let t = over s (a .columns .now) (a .row-starts .now) (a .shape .now) in
@@ -82,9 +65,13 @@ add-t28 c =
 
 set-coefficient-requires : tie.Need-set-coefficient-requires
 set-coefficient-requires c κs =
-    let else1 = to-else1-from-set-coefficient-arg c in
+    let after-shared-slice-known8 = c .before .before .before in
+    let else1 = after-shared-slice-known8 .before in
     let after-wide2 = else1 .before .before in
-    let start = to-start (after-wide2 .before .before .before) in
+    let after-wide = after-wide2 .before .before .before in
+    let after-shared-slice-known3 = after-wide .before .before .before in
+    let after-slice-known3 = after-shared-slice-known3 .before .before .before in
+    let start = after-slice-known3 .before .before .before in
     let r = after-wide2 .wide2 .result in (
       omega (arith, after-wide2 .wide2 .ensures .0, start .pre .2 .row, start .pre .1 .rows .rows, start .pre .1 .rows .starts-long),
       omega (arith, start-under (start .pre .1 .rows .starts) (r + 1) (omega (arith, after-wide2 .wide2 .ensures .0, start .pre .2 .row)), start .pre .1 .rows .kept),
@@ -97,10 +84,13 @@ returns-2 : tie.Need-returns-2
 returns-2 c =
     let after-set-coefficient = c .before .before in
     let then2 = after-set-coefficient .before .before in
-    let after-wide2 = to-wide2-from-then2 then2 in
+    let else1 = then2 .before .before .before in
+    let after-wide2 = else1 .before .before in
     let after-held-interval = after-wide2 .before .before in
     let after-wide = after-held-interval .before in
-    let start = to-start after-wide in
+    let after-shared-slice-known3 = after-wide .before .before .before in
+    let after-slice-known3 = after-shared-slice-known3 .before .before .before in
+    let start = after-slice-known3 .before .before .before in
     λ s rows w.
     let a = start .args in
     let t = over s (a .columns .now) (a .row-starts .now) (a .shape .now) in
@@ -109,9 +99,13 @@ returns-2 c =
 
 set-coefficient-requires-2 : tie.Need-set-coefficient-requires-2
 set-coefficient-requires-2 c κs =
-    let else1 = to-else1-from-struct-known c in
+    let after-shared-slice-known9 = c .before .before .before in
+    let else1 = after-shared-slice-known9 .before .before in
     let after-wide2 = else1 .before .before in
-    let start = to-start (after-wide2 .before .before .before) in
+    let after-wide = after-wide2 .before .before .before in
+    let after-shared-slice-known3 = after-wide .before .before .before in
+    let after-slice-known3 = after-shared-slice-known3 .before .before .before in
+    let start = after-slice-known3 .before .before .before in
     let r = after-wide2 .wide2 .result in (
       omega (arith, after-wide2 .wide2 .ensures .0, start .pre .2 .row, start .pre .1 .rows .rows, start .pre .1 .rows .starts-long),
       omega (arith, start-under (start .pre .1 .rows .starts) (r + 1) (omega (arith, after-wide2 .wide2 .ensures .0, start .pre .2 .row)), start .pre .1 .rows .kept),
@@ -128,7 +122,9 @@ returns-3 c =
     let after-wide2 = else1 .before .before in
     let after-held-interval = after-wide2 .before .before in
     let after-wide = after-held-interval .before in
-    let start = to-start after-wide in
+    let after-shared-slice-known3 = after-wide .before .before .before in
+    let after-slice-known3 = after-shared-slice-known3 .before .before .before in
+    let start = after-slice-known3 .before .before .before in
     λ s rows w.
     let a = start .args in
     let t = over s (a .columns .now) (a .row-starts .now) (a .shape .now) in

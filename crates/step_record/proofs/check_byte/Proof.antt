@@ -13,27 +13,18 @@ unfolding checkByte
 returns c =
     rw (lt-leb (c .before .args .at + 1) (length (c .before .args .file .now)) (omega arith))
 
--- from a place to an earlier one
-abbrev to-start-from-else2 : tie.Else2 → tie.Start
-to-start-from-else2 c =
-    let else1 = c .before .before .before in
-    else1 .before
-
-abbrev to-start-from-then2 : tie.Then2 → tie.Start
-to-start-from-then2 c =
-    let else1 = c .before .before .before in
-    else1 .before
-
 returns-2 : tie.Need-returns-2
 unfolding checkByte
 returns-2 c =
-    let start = to-start-from-then2 c in
+    let else1 = c .before .before .before in
+    let start = else1 .before in
     rw (le-leb (start .args .at + 1) (length (start .args .file .now)) (omega arith), c .if2 .taken)
 
 returns-3 : tie.Need-returns-3
 unfolding checkByte
 returns-3 c =
-    let start = to-start-from-else2 c in
+    let else1 = c .before .before .before in
+    let start = else1 .before in
     rw (le-leb (start .args .at + 1) (length (start .args .file .now)) (omega arith), c .if2 .left)
 
 pub check-byte-spec : {M : Type 1} → statement M

@@ -8,16 +8,12 @@ use borrow.Author.Needs.{needs}
 use Rattle.step_row_bounds.proofs.apply_row_bounds.Statement.{statement}
 use Rattle.step_row_bounds.proofs.apply_row_bounds.Tie as tie
 
--- from a place to an earlier one
-abbrev to-start : tie.After-tighten → tie.Start
-to-start c =
-    let after-slice-known2 = c .before .before .before in
-    after-slice-known2 .before .before
-
 returns : tie.Need-returns
 unfolding tighten
 returns c =
-    let a = to-start c .args in
+    let after-slice-known2 = c .before .before .before in
+    let start = after-slice-known2 .before .before in
+    let a = start .args in
     record {
       lowers = rw (c .tighten .ensures, getD-any (a .row-lower .now) (a .row) nan zero64 (omega arith));
       uppers = rw (c .tighten .ensures, getD-any (a .row-upper .now) (a .row) nan zero64 (omega arith));

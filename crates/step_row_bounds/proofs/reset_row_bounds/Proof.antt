@@ -6,18 +6,13 @@ use borrow.Author.Needs.{needs}
 use Rattle.step_row_bounds.proofs.reset_row_bounds.Statement.{statement}
 use Rattle.step_row_bounds.proofs.reset_row_bounds.Tie as tie
 
--- from a place to an earlier one
-abbrev to-fill-f64 : tie.After-high → tie.After-fill-f64
-to-fill-f64 c =
-    let after-row-lower = c .before .before .before in
-    after-row-lower .before
-
 returns : tie.Need-returns
 unfolding sentinels
 returns c =
     let after-fill-f642 = c .before .before in
     let after-high = after-fill-f642 .before in
-    let after-fill-f64 = to-fill-f64 after-high in
+    let after-row-lower = after-high .before .before .before in
+    let after-fill-f64 = after-row-lower .before in
     let after-low = after-fill-f64 .before in
     let after-wide = after-low .before .before in
     let after-kept-sentinel = after-wide .before .before in

@@ -74,9 +74,16 @@ update-node-constraint-bounds-requires c κs =
 apply-intervals-requires : tie.Need-apply-intervals-requires
 apply-intervals-requires c κs =
     let after-wide = c .before .before in
-    let after-update-node-constraint-bounds = to-update-node-constraint-bounds after-wide in
-    let after-reset-row-bounds = to-reset-row-bounds (after-update-node-constraint-bounds .before) in
-    let start = to-start (after-reset-row-bounds .before) in
+    let after-elements = after-wide .before .before .before in
+    let after-slice-known6 = after-elements .before .before .before in
+    let after-update-node-constraint-bounds = after-slice-known6 .before .before in
+    let after-update-node-constraint-bounds-arg = after-update-node-constraint-bounds .before .before .before in
+    let after-slice-known4 = after-update-node-constraint-bounds-arg .before .before .before in
+    let after-reset-row-bounds = after-slice-known4 .before .before in
+    let after-shared-slice-known4 = after-reset-row-bounds .before .before .before in
+    let after-shared-slice-known = after-shared-slice-known4 .before .before .before in
+    let after-slice-known = after-shared-slice-known .before .before .before in
+    let start = after-slice-known .before in
     let p = start .pre in
     let f = fits (start) in (
       rw (after-wide .wide .ensures .0) (f .aggregates),
@@ -89,10 +96,19 @@ apply-intervals-requires c κs =
 apply-intervals-requires-2 : tie.Need-apply-intervals-requires-2
 apply-intervals-requires-2 c κs =
     let after-wide2 = c .before .before in
-    let after-apply-intervals = to-apply-intervals after-wide2 in
-    let after-update-node-constraint-bounds = to-update-node-constraint-bounds (after-apply-intervals .before .before .before) in
-    let after-reset-row-bounds = to-reset-row-bounds (after-update-node-constraint-bounds .before) in
-    let start = to-start (after-reset-row-bounds .before) in
+    let after-row-upper3 = after-wide2 .before .before .before in
+    let after-apply-intervals = after-row-upper3 .before .before .before in
+    let after-wide = after-apply-intervals .before .before .before in
+    let after-elements = after-wide .before .before .before in
+    let after-slice-known6 = after-elements .before .before .before in
+    let after-update-node-constraint-bounds = after-slice-known6 .before .before in
+    let after-update-node-constraint-bounds-arg = after-update-node-constraint-bounds .before .before .before in
+    let after-slice-known4 = after-update-node-constraint-bounds-arg .before .before .before in
+    let after-reset-row-bounds = after-slice-known4 .before .before in
+    let after-shared-slice-known4 = after-reset-row-bounds .before .before .before in
+    let after-shared-slice-known = after-shared-slice-known4 .before .before .before in
+    let after-slice-known = after-shared-slice-known .before .before .before in
+    let start = after-slice-known .before in
     let p = start .pre in
     let f = fits (start) in (
       rw (after-wide2 .wide2 .ensures .0) (f .virtualStorages),

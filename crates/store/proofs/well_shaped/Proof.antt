@@ -16,28 +16,18 @@ use Rattle.store.proofs.well_shaped.Statement.{statement}
 use Rattle.store.proofs.well_shaped.Tie as tie
 
 -- from a place to an earlier one
-abbrev to-start : tie.After-shared-slice-known4 → tie.Start
+abbrev to-start : tie.Else1 → tie.Start
 to-start c =
-    let after-shared-slice-known2 = c .before .before .before in
-    after-shared-slice-known2 .before .before
-
-abbrev to-shared-slice-known4 : tie.After-columns-rise → tie.After-shared-slice-known4
-to-shared-slice-known4 c =
-    let else1 = c .before .before .before in
-    else1 .before
+    let after-shared-slice-known3 = c .before .before .before in
+    after-shared-slice-known3 .before .before .before
 
 abbrev to-else1 : tie.After-nodes-fit → tie.Else1
 to-else1 c =
     let after-starts-rise = c .before .before .before in
     after-starts-rise .before
 
-abbrev to-columns-rise : tie.After-aggregates-fit → tie.After-columns-rise
-to-columns-rise c =
-    let after-nodes-fit = c .before .before .before in
-    after-nodes-fit .before
-
 abbrev start : tie.Else1 → tie.Start
-start c = to-start (c .before)
+start c = to-start c
 
 abbrev words : tie.Else1 → List ℕ
 words c = start c .args .shape .now
@@ -58,14 +48,16 @@ rows c =
 returns : tie.Need-returns
 unfolding wellShaped
 returns c =
+    let after-shared-slice-known3 = c .before .before .before in
+    let start = after-shared-slice-known3 .before .before .before in
     λ s ec er es.
-    let t = c .before .before .counts-fit .result && leb (getD (to-start (c .before) .args .shape .now) 0 0) 1 in
+    let t = c .before .before .counts-fit .result && leb (getD (start .args .shape .now) 0 0) 1 in
     let p : (countsFit s && leb (sentinelCode s) 1) ≡ false = rw (← (c .before .before .counts-fit .ensures s es), es) (not-true t (c .if1 .taken)) in
     rw p
 
 starts-rise-requires : tie.Need-starts-rise-requires
 starts-rise-requires c κs =
-    let start = to-start (c .before) in
+    let start = to-start c in
     (start .pre .1, start .pre .2, counts c .rows)
 
 returns-2 : tie.Need-returns-2
@@ -79,11 +71,11 @@ columns-rise-requires c κs =
 
 nodes-fit-requires : tie.Need-nodes-fit-requires
 nodes-fit-requires c κs =
-    (to-start (to-shared-slice-known4 c) .pre .2, counts (c .before .before .before) .nodes)
+    (to-start (c .before .before .before) .pre .2, counts (c .before .before .before) .nodes)
 
 edges-fit-requires : tie.Need-edges-fit-requires
 edges-fit-requires c κs =
-    (to-start (to-shared-slice-known4 (c .before)) .pre .2, counts (to-else1 c) .edges)
+    (to-start (to-else1 c) .pre .2, counts (to-else1 c) .edges)
 
 node-rows-fit-requires : tie.Need-node-rows-fit-requires
 node-rows-fit-requires c κs =
@@ -91,11 +83,11 @@ node-rows-fit-requires c κs =
 
 aggregates-fit-requires : tie.Need-aggregates-fit-requires
 aggregates-fit-requires c κs =
-    (to-start (to-shared-slice-known4 (c .before .before .before)) .pre .2, counts (to-else1 (c .before .before)) .aggregates)
+    (to-start (to-else1 (c .before .before)) .pre .2, counts (to-else1 (c .before .before)) .aggregates)
 
 virtual-storages-fit-requires : tie.Need-virtual-storages-fit-requires
 virtual-storages-fit-requires c κs =
-    (to-start (to-shared-slice-known4 (to-columns-rise c)) .pre .2, counts (to-else1 (c .before .before .before)) .virtualStorages)
+    (to-start (to-else1 (c .before .before .before)) .pre .2, counts (to-else1 (c .before .before .before)) .virtualStorages)
 
 returns-3 : tie.Need-returns-3
 unfolding wellShaped

@@ -33,6 +33,32 @@ returns-3 c =
     let i3 = c .if3 in
     rw (es, lt-ltb _ _ (i1 .left), lt-ltb _ _ (i2 .left), lt-leb _ _ (i3 .taken))
 
+returns-4 : tie.Need-returns-4
+unfolding nodeRowFits
+returns-4 c =
+    let after-shared-slice-known9 = c .before .before .before in
+    let else1 = after-shared-slice-known9 .before in
+    λ s ec er es.
+    let i1 = else1 .if1 in
+    let i2 = c .before .before .if2 in
+    let i3 = c .before .if3 in
+    let i4 = c .if4 in
+    rw (es, lt-ltb _ _ (i1 .left), lt-ltb _ _ (i2 .left), le-leb _ _ (i3 .left), eq-eqb _ _ (i4 .taken))
+
+returns-5 : tie.Need-returns-5
+unfolding nodeRowFits
+returns-5 c =
+    let else3 = c .before .before .before in
+    let else2 = else3 .before in
+    let else1 = else2 .before .before in
+    λ s ec er es.
+    let i1 = else1 .if1 in
+    let i2 = else2 .if2 in
+    let i3 = c .before .before .before .if3 in
+    let i4 = c .before .before .if4 in
+    let i5 = c .if5 in
+    rw (es, lt-ltb _ _ (i1 .left), lt-ltb _ _ (i2 .left), le-leb _ _ (i3 .left), ne-eqb _ _ (i4 .left), le-ltb _ _ (i5 .taken))
+
 -- from a place to an earlier one
 abbrev to-start : tie.After-wide → tie.Start
 to-start c =
@@ -43,46 +69,10 @@ to-start c =
     let after-shared-slice-known = after-shared-slice-known4 .before .before .before in
     after-shared-slice-known .before
 
-abbrev to-else1-from-then4 : tie.Then4 → tie.Else1
-to-else1-from-then4 c =
-    let after-shared-slice-known9 = c .before .before .before in
-    after-shared-slice-known9 .before
-
-abbrev to-else2 : tie.Then5 → tie.Else2
-to-else2 c =
-    let else3 = c .before .before .before in
-    else3 .before
-
-abbrev to-else1-from-then5 : tie.Then5 → tie.Else1
-to-else1-from-then5 c =
-    let else2 = to-else2 c in
-    else2 .before .before
-
 abbrev to-wide : tie.After-shared-slice-known13 → tie.After-wide
 to-wide c =
     let after-wide-start = c .before .before .before in
     after-wide-start .before .before
-
-returns-4 : tie.Need-returns-4
-unfolding nodeRowFits
-returns-4 c =
-    λ s ec er es.
-    let i1 = to-else1-from-then4 c .if1 in
-    let i2 = c .before .before .if2 in
-    let i3 = c .before .if3 in
-    let i4 = c .if4 in
-    rw (es, lt-ltb _ _ (i1 .left), lt-ltb _ _ (i2 .left), le-leb _ _ (i3 .left), eq-eqb _ _ (i4 .taken))
-
-returns-5 : tie.Need-returns-5
-unfolding nodeRowFits
-returns-5 c =
-    λ s ec er es.
-    let i1 = to-else1-from-then5 c .if1 in
-    let i2 = to-else2 c .if2 in
-    let i3 = c .before .before .before .if3 in
-    let i4 = c .before .before .if4 in
-    let i5 = c .if5 in
-    rw (es, lt-ltb _ _ (i1 .left), lt-ltb _ _ (i2 .left), le-leb _ _ (i3 .left), ne-eqb _ _ (i4 .left), le-ltb _ _ (i5 .taken))
 
 row-holds-requires : tie.Need-row-holds-requires
 row-holds-requires c κs =

@@ -11,19 +11,16 @@ use Rattle.store_rows.proofs.columns_rise.Statement.{statement}
 use Rattle.store_rows.proofs.columns_rise.Tie as tie
 
 -- from a place to an earlier one
-abbrev to-start : tie.After-wide → tie.Start
+abbrev to-start : tie.After-row-count → tie.Start
 to-start c =
-    let after-shared-slice-known2 = c .before .before .before in
-    after-shared-slice-known2 .before .before
-
-abbrev to-wide : tie.After-row-count → tie.After-wide
-to-wide c =
     let after-shared-slice-known6 = c .before .before .before in
-    after-shared-slice-known6 .before .before
+    let after-shared-slice-known4 = after-shared-slice-known6 .before .before .before in
+    let after-shared-slice-known = after-shared-slice-known4 .before .before .before in
+    after-shared-slice-known .before
 
 start-falls-requires : tie.Need-start-falls-requires
 start-falls-requires c κs =
-    (search needs, search needs, λ r lt. omega (arith, start-under (to-start (to-wide c) .pre .starts) (r + 1) (omega arith)))
+    (search needs, search needs, λ r lt. omega (arith, start-under (to-start c .pre .starts) (r + 1) (omega arith)))
 
 returns : tie.Need-returns
 unfolding rowColumnsRise columnsOfRow
@@ -32,7 +29,8 @@ returns c =
     let after-falls = after-row-count .before in
     let after-columns-under = after-falls .before in
     let after-wide = after-columns-under .before .before .before in
-    let start = to-start after-wide in
+    let after-shared-slice-known2 = after-wide .before .before .before in
+    let start = after-shared-slice-known2 .before .before in
     λ s ec er es. rw (ec, er, es, after-columns-under .columns-under .ensures, after-falls .falls .ensures, c .start-falls .ensures, after-wide .wide .ensures .0, after-row-count .row-count .ensures) (sym (rising _ _ (start .pre .starts) (search needs)))
 
 pub columns-rise-spec : {M : Type 1} → statement M

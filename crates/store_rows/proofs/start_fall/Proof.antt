@@ -18,16 +18,12 @@ unfolding startFall fallAt
 returns-2 c =
     (rw (lt-ltb _ _ (c .before .if1 .left), c .if2 .taken), search needs)
 
--- from a place to an earlier one
-abbrev to-else1 : tie.After-fall-of → tie.Else1
-to-else1 c =
-    let else2 = c .before .before .before in
-    else2 .before
-
 returns-3 : tie.Need-returns-3
 unfolding startFall
 returns-3 c =
-    (rw (lt-ltb _ _ (to-else1 c .if1 .left)) (c .fall-of .ensures .0 ∙ sym (fall-is _ _ (omega arith))), c .fall-of .ensures .1)
+    let else2 = c .before .before .before in
+    let else1 = else2 .before in
+    (rw (lt-ltb _ _ (else1 .if1 .left)) (c .fall-of .ensures .0 ∙ sym (fall-is _ _ (omega arith))), c .fall-of .ensures .1)
 
 pub start-fall-spec : {M : Type 1} → statement M
 start-fall-spec =

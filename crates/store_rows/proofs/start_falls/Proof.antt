@@ -13,25 +13,17 @@ Inv-loop columns row-starts rows sum₀ r₀ sum r = (r ≤ rows) × Summed (row
 abbrev μ-loop : tie.MeasureT-loop
 μ-loop columns row-starts rows sum₀ r₀ sum r = rows - r
 
--- from a place to an earlier one
-abbrev to-in-loop : tie.After-wide-start2 Inv-loop μ-loop → tie.In-loop Inv-loop μ-loop
-to-in-loop c =
-    let after-shared-slice-known3 = c .before .before .before in
-    after-shared-slice-known3 .before
-
-abbrev to-start : tie.After-wide-start2 Inv-loop μ-loop → tie.Start Inv-loop μ-loop
-to-start c =
-    let in-loop = to-in-loop c in
-    let after-shared-slice-known = in-loop .before .before .before in
-    after-shared-slice-known .before
-
 loop-holds : tie.Need-loop-holds Inv-loop μ-loop
 loop-holds c =
     (search needs, summed-none _ _)
 
 start-fall-requires : tie.Need-start-fall-requires Inv-loop μ-loop
 start-fall-requires c κs =
-    rw (c .wide-start2 .ensures .0) (to-start c .pre .2 _ (to-in-loop c .loop-test .taken))
+    let after-shared-slice-known3 = c .before .before .before in
+    let in-loop = after-shared-slice-known3 .before in
+    let after-shared-slice-known = in-loop .before .before .before in
+    let start = after-shared-slice-known .before in
+    rw (c .wide-start2 .ensures .0) (start .pre .2 _ (in-loop .loop-test .taken))
 
 loop-again : tie.Need-loop-again Inv-loop μ-loop
 unfolding rowFall

@@ -4,16 +4,12 @@ use borrow.Author.Needs.{needs}
 use Rattle.store_shape.proofs.counts_fit.Statement.{statement}
 use Rattle.store_shape.proofs.counts_fit.Tie as tie
 
--- from a place to an earlier one
-abbrev to-row-count : tie.After-shared-slice-known9 → tie.After-row-count
-to-row-count c =
-    let after-shared-slice-known6 = c .before .before .before in
-    after-shared-slice-known6 .before
-
 returns : tie.Need-returns
 unfolding countsFit
 returns c =
-    λ s e. rw (e, to-row-count c .row-count .ensures)
+    let after-shared-slice-known6 = c .before .before .before in
+    let after-row-count = after-shared-slice-known6 .before in
+    λ s e. rw (e, after-row-count .row-count .ensures)
 
 pub counts-fit-spec : {M : Type 1} → statement M
 counts-fit-spec =
