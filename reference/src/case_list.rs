@@ -1,4 +1,4 @@
-//! The two files of the program `crates/cases`: hand-made cases, and from the mark on the sample.
+//! The two files of the program `crates/test_cases`: hand-made cases, and from the mark on the sample.
 use crate::commands::{self, Command, MOST};
 use crate::replay::without_signs_of_zeros;
 use crate::sample::{MARK, Sample};
@@ -11,7 +11,7 @@ pub struct CaseList {
 
 /// The folder that CASES names, by default the program's.
 pub fn folder() -> String {
-    std::env::var("CASES").unwrap_or(concat!(env!("CARGO_MANIFEST_DIR"), "/../crates/cases").into())
+    std::env::var("CASES").unwrap_or(concat!(env!("CARGO_MANIFEST_DIR"), "/../crates/test_cases").into())
 }
 
 impl CaseList {

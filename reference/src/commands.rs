@@ -1,4 +1,4 @@
-//! The commands that the program `crates/cases` replays: a letter and two numbers of two bytes, low byte first; bytes behind them for T, B and S.
+//! The commands that the program `crates/test_cases` replays: a letter and two numbers of two bytes, low byte first; bytes behind them for T, B and S.
 use crate::Sentinel;
 
 /// A step whose runs all have their full length; under it, the run of that number is lent one short.

@@ -1,4 +1,4 @@
-//! What the program `crates/cases` writes for its commands, as far as the reference can tell.
+//! What the program `crates/test_cases` writes for its commands, as far as the reference can tell.
 use crate::commands::{Command, FULL_LENGTH};
 use crate::{Reference, Refusal};
 

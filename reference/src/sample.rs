@@ -1,4 +1,4 @@
-//! The sample of a seed's networks in `crates/cases`: commands, and the reference's answers to them.
+//! The sample of a seed's networks in `crates/test_cases`: commands, and the reference's answers to them.
 //!
 //! Cases are taken in the seed's order until COUNT are taken. A third are accepted networks, and each refusal 1 to 11 has an equal share of the
 //! rest: a case is left out if the share of its build's answer is full, if a file of its is too long for a command, or if its commands and

@@ -1,4 +1,4 @@
-//! The answers that stand in `crates/cases` are the reference's, wherever it has one; its sample has every answer.
+//! The answers that stand in `crates/test_cases` are the reference's, wherever it has one; its sample has every answer.
 use pywr_reference::case_list::{self, CaseList};
 use pywr_reference::commands::{self, Command, FULL_LENGTH};
 use pywr_reference::replay::{Replay, without_signs_of_zeros};

@@ -1,4 +1,4 @@
-# Builds for crates/cases: the worked example, each refusal from 1 to 11 at its smallest, and both sides of each ceiling. Used by cases.py.
+# Builds for crates/test_cases: the worked example, each refusal from 1 to 11 at its smallest, and both sides of each ceiling. Used by cases.py.
 import math
 
 from make import INPUT, LINK, OUTPUT, aggregate, edge, node, virtual_storage

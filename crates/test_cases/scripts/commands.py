@@ -1,4 +1,4 @@
-# Commands of crates/cases, and the lines that it must write for them. Used by cases.py.
+# Commands of crates/test_cases, and the lines that it must write for them. Used by cases.py.
 import struct
 
 from steps import programme_text

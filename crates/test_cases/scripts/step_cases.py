@@ -1,4 +1,4 @@
-# Steps for crates/cases: document 01's cases, each refusal from 12 to 17 but 15, each limit, short runs, misshapen stores, lists of steps.
+# Steps for crates/test_cases: document 01's cases, each refusal from 12 to 17 but 15, each limit, short runs, misshapen stores, lists of steps.
 # Each number expected is document 01's. Used by cases.py.
 import math
 import struct

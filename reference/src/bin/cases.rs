@@ -1,4 +1,4 @@
-//! cases [SEED COUNT]: writes the sample of COUNT networks of SEED with the reference's answers behind the hand-made cases of `crates/cases`
+//! cases [SEED COUNT]: writes the sample of COUNT networks of SEED with the reference's answers behind the hand-made cases of `crates/test_cases`
 //! (CASES names another folder), in place of the one that stands there.
 //! cases --check [SEED COUNT]: writes nothing, and fails if another sample or another answer stands there.
 use pywr_reference::case_list::{self, CaseList};
