@@ -91,8 +91,8 @@ loop-again : tie.Need-loop-again Inv-loop μ-loop
 loop-again c =
     let after-add-constant-rows = to-add-constant-rows (c .before .before .before) in
     let at-loop = to-loop (c .before .before .before) in
-    let start = to-start (to-loop (c .before .before .before)) in (
-      search needs,
+    let start = to-start at-loop in (
+      omega (arith, to-in-loop c .loop-test .taken),
       (λ rows h. node-more (constantRowsFrom (start .args .sentinel) (columnMap (networkOf (start .args .s .now) (start .args .c)))) (by-node _ _) _ _ _ _ _ _ _ _ _ _ _ (at-loop .loop .inv .1 rows h) (to-in-loop c .loop-test .taken) _ (to-narrow16 (to-add-constant-rows (c .before .before .before)) .narrow16 .ensures) _ _ _ (after-add-constant-rows .add-constant-rows .ensures) _ (c .before .r .given .1)),
       after-add-constant-rows .add-constant-rows .kept .1 .1 .1 .1 .1 .1 .1 .1 .1 .1 .1 .1 .0 ∙ at-loop .loop .inv .2,
       after-add-constant-rows .add-constant-rows .kept .1 .1 .1 .1 .1 .1 .1 .1 .1 .1 .1 .1 .1 .0 ∙ at-loop .loop .inv .3,

@@ -1,5 +1,6 @@
 -- `build_exclusive_sets::add_sets` meets its contract: the first i sets were added where they were not known. Assumes nothing.
-use Prim.Native.Nat.{_-_}
+use mathlib.Core.Path.{sym, subst}
+use Prim.Native.Nat.{ℕ, _-_}
 use native.Mathlib.Omega.{arith}
 use Rattle.network_laws.specs.Passed.{SetPassed}
 use Rattle.build_exclusive_sets.proofs.Accepted.{fields-within}
@@ -28,8 +29,8 @@ to-in-loop c =
 -- the set that stands next
 fits : (c : tie.In-loop Inv-loop μ-loop) → SetPassed (to-start c .args .s .now) 256 (c .before .loop .here)
 fits c =
-    let after-shared-slice-known = c .before .before .before in
-    let start = after-shared-slice-known .before in rw (c .before .loop .inv .stands) (start .pre .0 .sets (c .before .loop .i) (omega (arith, c .before .loop .inv .size, c .loop-test .taken)))
+    subst (λ (at : ℕ). SetPassed (to-start c .args .s .now) 256 at) (sym (c .before .loop .inv .stands))
+    (to-start c .pre .0 .sets (c .before .loop .i) (omega (arith, c .before .loop .inv .size, c .loop-test .taken)))
 
 set-count-requires : tie.Need-set-count-requires Inv-loop μ-loop
 set-count-requires c κs =

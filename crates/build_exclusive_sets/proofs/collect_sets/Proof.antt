@@ -1,6 +1,6 @@
 -- `build_exclusive_sets::collect_sets` meets its contract: the sets of the first i aggregates were collected. Assumes nothing.
-use Prim.Native.Nat.{_-_}
-use mathlib.Core.Path.{sym, _∙_}
+use Prim.Native.Nat.{ℕ, _-_}
+use mathlib.Core.Path.{sym, subst, _∙_}
 use native.Mathlib.Omega.{arith}
 use Rattle.network_laws.specs.Passed.{AggregatePassed}
 use Rattle.build_exclusive_sets.proofs.Accepted.{fields-within, few-bytes, aggregate-passed-256}
@@ -35,8 +35,8 @@ to-in-loop c =
 -- the aggregate that stands next
 fits : (c : tie.In-loop Inv-loop μ-loop) → AggregatePassed (to-start (c .before) .args .s .now) 256 (c .before .loop .at)
 fits c =
-    let after-struct-known = c .before .before .before in
-    let start = after-struct-known .before .before in rw (c .before .loop .inv .stands) (aggregate-passed-256 _ _ _ _ _ _ (start .pre .0) (c .before .loop .i) (c .loop-test .taken))
+    subst (λ (at : ℕ). AggregatePassed (to-start (c .before) .args .s .now) 256 at) (sym (c .before .loop .inv .stands))
+    (aggregate-passed-256 _ _ _ _ _ _ (to-start (c .before) .pre .0) (c .before .loop .i) (c .loop-test .taken))
 
 loop-holds : tie.Need-loop-holds Inv-loop μ-loop
 loop-holds c =
