@@ -105,7 +105,7 @@ module _ (s : Sentinel) (file : List ℕ) (c : Counts) (firstIn nextIn firstOut 
           elements = g .elements;
           «node_rows» = n .count;
           aggregates = c .aggregates;
-          virtualStorages = c .«virtual_storages»;
+          «virtual_storages» = c .«virtual_storages»;
         }
 
     sets-are : length (exclusiveSets net) ≡ sets₀
