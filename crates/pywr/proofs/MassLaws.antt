@@ -1,7 +1,7 @@
 -- Mass rows: kept or dropped, they are met exactly if the links balance. Assumes nothing.
 use mathlib.Core.Path.{_≡_, refl, sym, ap, _∙_, subst}
 use mathlib.Core.Logic.{_⊎_, inl, inr, _↔_}
-use Prim.Native.Nat.{ℕ, zero, suc, _+_, _*_, _^_, _<_, zero-le, suc-le-suc, compare, Ordering, Ordering·lt, Ordering·eq, Ordering·gt}
+use Prim.Native.Nat.{ℕ, zero, suc, _+_, _*_, _^_, _<_, zero-le, suc-le-suc}
 use native.Mathlib.Nat.{add-zero, add-suc, suc-add, zero-add, eq-of-mul-eq-mul-right, zero-mul, mul-pos}
 use native.Mathlib.Omega.{arith}
 use mathlib.Core.Bool.{Bool, true, false, cond, not, _&&_}
@@ -10,7 +10,7 @@ use mathlib.Core.Option.{Option, some, Option·getD}
 use lib.ListN.{length, getElem?}
 use lib.IntN.{ℤ, pos, negsuc, negℤ, _+ℤ_, _-ℤ_, +ℤ-invr, natAbs, -ℤ-+ℤ-cancel}
 use lib.Signed.{leZ}
-use lib.Dec.{T, isEq, eqb, leb, eqb→eq, eqb-refl, leb→le}
+use lib.Dec.{T, eqb, leb, eqb→eq, eqb-refl, leb→le}
 use lib.Ieee.{Float, neg, le, lt, eq, ofBits}
 use lib.Ieee.Fits.{and-i, and-l, and-r}
 use Rattle.pywr.specs.declared.Sentinel.{Sentinel}
@@ -18,12 +18,13 @@ use Rattle.pywr.specs.declared.Sentinel.the-variants.{Infinity, Largest}
 use Rattle.pywr.specs.Numbers.{zero64, one64, high, low}
 use Rattle.pywr.specs.Network.{link, Node, Edge, Network, keepIf, source, target, incoming, outgoing}
 use Rattle.pywr.specs.ColEdgeMap.{columns, columnAt, MappedEdge, withColumns, mappedEdges}
-use Rattle.pywr.specs.Rows.{Element, insert, addElement, addOn, ColumnMap, columnMap, columnsWith, columnsInto, columnsOutOf, massRow}
+use Rattle.pywr.specs.Rows.{Element, addElement, addOn, ColumnMap, columnMap, columnsWith, columnsInto, columnsOutOf, massRow}
 use Rattle.pywr.specs.Programme.{Row}
 use Rattle.pywr.specs.FixedRows.{massRowsFrom}
 use Rattle.pywr.specs.Plans.{exact, meets, Plan, unit, signed, isFinite, scaled, lowerMet, upperMet, allFrom}
 use Rattle.pywr.specs.Allows.{inflow, outflow}
 use Rattle.pywr.specs.Admits.{onColumn, rowSum, rowMet}
+use Rattle.pywr.proofs.ElementLaws.{add-none, add-cases}
 use Rattle.pywr.proofs.ExactLaws.{unit-pos}
 use Rattle.pywr.proofs.LinkLaws.{NoSelf, ends-sound, one-column-single}
 use Rattle.pywr.proofs.AmountLaws.{Carries, mass-sum}
@@ -36,29 +37,12 @@ pub data HasColumn (c : ℕ) : List Element → Type 0 where
   there : {e : Element} {es : List Element} → HasColumn c es → HasColumn c (e ∷ es)
 
 pub added : (c : ℕ) (x : Float) (row : List Element) → HasColumn c (addElement c x row)
-unfolding addElement insert
-added c x [] = here refl
-added c x (e ∷ es) = go (added c x es) (compare c (e .column))
-  where
-    go : HasColumn c (addElement c x es) → (o : Ordering) → HasColumn c (insert o c x e es (addElement c x es))
-    go ih Ordering·lt = here refl
-    go ih Ordering·eq = here refl
-    go ih Ordering·gt = there ih
+added c x [] = rw (add-none c x) (here refl)
+added c x (e ∷ es) = add-cases c x e es (HasColumn c) (λ h. here refl) (λ h. here refl) (λ h. there (added c x es))
 
 still : (c d : ℕ) (x : Float) (row : List Element) → HasColumn c row → HasColumn c (addElement d x row)
-unfolding addElement insert
-still c d x (e ∷ es) (here q) = go (compare d (e .column)) refl
-  where
-    go : (o : Ordering) → compare d (e .column) ≡ o → HasColumn c (insert o d x e es (addElement d x es))
-    go Ordering·lt r = there (here q)
-    go Ordering·eq r = here (eqb→eq d (e .column) (subst (λ (o : Ordering). T (isEq o)) (sym r) tt) ∙ q)
-    go Ordering·gt r = here q
-still c d x (e ∷ es) (there h) = go (still c d x es h) (compare d (e .column))
-  where
-    go : HasColumn c (addElement d x es) → (o : Ordering) → HasColumn c (insert o d x e es (addElement d x es))
-    go ih Ordering·lt = there (there h)
-    go ih Ordering·eq = there h
-    go ih Ordering·gt = there ih
+still c d x (e ∷ es) (here q) = add-cases d x e es (HasColumn c) (λ h. there (here q)) (λ h. here (h ∙ q)) (λ h. here q)
+still c d x (e ∷ es) (there h) = add-cases d x e es (HasColumn c) (λ l. there (there h)) (λ l. there h) (λ l. there (still c d x es h))
 
 still-on : (c : ℕ) (cs : List ℕ) (x : Float) (row : List Element) → HasColumn c row → HasColumn c (addOn cs x row)
 unfolding addOn

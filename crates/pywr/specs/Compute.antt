@@ -10,7 +10,7 @@ use Rattle.pywr.specs.Network.{noNode, kindOf, keepIf, listed, anyListed
 use Rattle.pywr.specs.NetworkFile.{constantFits, readNode, joins, badEdge, readEdge, readMembers, readSets, readAggregate, readParts, readVirtualStorage, markAt, inOrder, hasRoom, withNode, withEdge, withAggregate, withVirtualStorage, readBody, between, mostConstant, activeFits, leastDate, mostDate, readRecord, readRecords, firstRefused, isEmpty, unconnectedLink, badConstant, refusedIf, checkNetwork, parseNetwork}
 use Rattle.pywr.specs.ColEdgeMap.{columns, columnAt, put, putNew, addSimpleEdge, addEqualEdges, single, sharesWith, placeEdge, placeEdges, withColumns, mappedEdges, columnOf}
 use Rattle.pywr.specs.ExclusiveSets.{sameSet, hasSet, addSets, setsFrom, exclusiveSets, setNumber, timesIn, setsWithNode}
-use Rattle.pywr.specs.Rows.{insert, addElement, addOn, columnMap, columnsWith, columnsInto, columnsOutOf, addNode, nodeRow, massRow, addNodes, addSetsOf, aggregateRow, addParts, virtualStorageRow, upperRow, lowerRow, addActive, exclusivityRow}
+use Rattle.pywr.specs.Rows.{addElement, addOn, columnMap, columnsWith, columnsInto, columnsOutOf, addNode, nodeRow, massRow, addNodes, addSetsOf, aggregateRow, addParts, virtualStorageRow, upperRow, lowerRow, addActive, exclusivityRow}
 use Rattle.pywr.specs.VariableRows.{sameRow, position, addVariableRows, addVariableRow}
 use Rattle.pywr.specs.VaryingRows.{exclusiveRequests, requestsBySets, requestsFrom, freshRow}
 use Rattle.pywr.specs.FixedRows.{massRowsFrom, upperCoefficient, lowerCoefficient, exclusiveRows, constantRows, constantRowsFrom, exclusivityRows}
@@ -43,7 +43,7 @@ reading = 0
 
 -- columns, rows and programmes
 unfoldable pub building : ℕ
-unfolding columnAt put putNew addSimpleEdge addEqualEdges single sharesWith placeEdge placeEdges columns withColumns mappedEdges columnOf sameSet hasSet addSets setsFrom exclusiveSets setNumber timesIn setsWithNode insert addElement addOn columnMap columnsWith columnsInto columnsOutOf addNode nodeRow massRow addNodes addSetsOf aggregateRow addParts virtualStorageRow upperRow lowerRow addActive exclusivityRow sameRow position addVariableRow addVariableRows exclusiveRequests requestsBySets requestsFrom freshRow massRowsFrom upperCoefficient lowerCoefficient exclusiveRows constantRows constantRowsFrom exclusivityRows edgeColumn setColumn allColumns nodeShape placedNodeRows placedVirtualStorages requestedRow assemble programmeOf elementCount underCeilings build
+unfolding columnAt put putNew addSimpleEdge addEqualEdges single sharesWith placeEdge placeEdges columns withColumns mappedEdges columnOf sameSet hasSet addSets setsFrom exclusiveSets setNumber timesIn setsWithNode addElement addOn columnMap columnsWith columnsInto columnsOutOf addNode nodeRow massRow addNodes addSetsOf aggregateRow addParts virtualStorageRow upperRow lowerRow addActive exclusivityRow sameRow position addVariableRow addVariableRows exclusiveRequests requestsBySets requestsFrom freshRow massRowsFrom upperCoefficient lowerCoefficient exclusiveRows constantRows constantRowsFrom exclusivityRows edgeColumn setColumn allColumns nodeShape placedNodeRows placedVirtualStorages requestedRow assemble programmeOf elementCount underCeilings build
 building = 0
 
 -- step files and steps

@@ -1,8 +1,8 @@
 -- The rows: elements that rise by column, and what each maker of a row puts into it (builder.rs). Assumes nothing.
-use Prim.Native.Nat.{ℕ, _+_, compare, Ordering, Ordering·lt, Ordering·eq, Ordering·gt}
+use Prim.Native.Nat.{ℕ, _+_}
 use mathlib.Core.List.{List, [], _∷_}
 use mathlib.Core.Bool.{cond}
-use lib.Dec.{eqb}
+use lib.Dec.{ltb, eqb}
 use lib.Ieee.{Float, binary64, add, neg}
 use Rattle.pywr.specs.Numbers.{zero64, one64}
 use Rattle.pywr.specs.Network.{output, storage, Node, Aggregate, Part, VirtualStorage, Network, kindOf, keepIf}
@@ -17,14 +17,12 @@ abbrev pub element : ℕ → Float → Element
 element column value = record { column = column; value = value }
 
 -- add_element: "Elements of a row rise by column; repeats add, from 0.0."
-unfoldable pub insert : Ordering → ℕ → Float → Element → List Element → List Element → List Element
-insert Ordering·lt c x e es more = element c (add binary64 zero64 x) ∷ e ∷ es
-insert Ordering·eq c x e es more = element c (add binary64 (e .value) x) ∷ es
-insert Ordering·gt c x e es more = e ∷ more
-
 unfoldable pub addElement : ℕ → Float → List Element → List Element
-addElement c x [] = element c (add binary64 zero64 x) ∷ []
-addElement c x (e ∷ es) = insert (compare c (e .column)) c x e es (addElement c x es)
+addElement column value [] = element column (add binary64 zero64 value) ∷ []
+addElement column value (e ∷ es) =
+    cond (ltb column (e .column)) (element column (add binary64 zero64 value) ∷ e ∷ es)
+    (cond (eqb column (e .column)) (element column (add binary64 (e .value) value) ∷ es)
+    (e ∷ addElement column value es))
 
 -- the same factor added on each column of a list, in order
 unfoldable pub addOn : List ℕ → Float → List Element → List Element
