@@ -2,9 +2,9 @@
 -- Assumes nothing.
 use Prim.Native.Nat.{ℕ, suc}
 use mathlib.Core.List.{List, [], _∷_}
-use mathlib.Core.Bool.{cond}
+use mathlib.Core.Bool.{cond, _&&_}
 use mathlib.Core.Option.{Option, none, some, Option·getD}
-use lib.ListN.{length, getD, set, replicate}
+use lib.ListN.{length, getD, getElem?, set, replicate}
 use lib.Dec.{eqb}
 use Rattle.pywr.specs.Network.{link, Edge, Network, kindOf, incoming, outgoing}
 
@@ -36,11 +36,7 @@ addEqualEdges none none e before c = put before (c .count) (putNew e c)
 
 -- "An edge leaving a link with one edge in and one out shares that incoming edge's column": that incoming edge
 unfoldable pub single : List ℕ → List ℕ → Option ℕ
-single [] out = none
-single (i ∷ []) [] = none
-single (i ∷ []) (o ∷ []) = some i
-single (i ∷ []) (o ∷ p ∷ out) = none
-single (i ∷ j ∷ into) out = none
+single into out = cond (eqb (length into) 1 && eqb (length out) 1) (getElem? into 0) none
 
 unfoldable pub sharesWith : Network → Edge → Option ℕ
 sharesWith net e = cond (eqb (kindOf (net .nodes) (e .from)) link) (single (incoming net (e .from)) (outgoing net (e .from))) none
