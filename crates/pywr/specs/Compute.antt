@@ -4,7 +4,7 @@ use Prim.Native.Nat.{ℕ}
 use mathlib.Core.List.{flatMap}
 use lib.Ieee.{add, sub, div, neg, lt, le, eq, round, ofBits, toBits, nanBits}
 use Rattle.pywr.specs.Result.{_>>=_, need}
-use Rattle.pywr.specs.Bytes.{le16, le32, le64, u8, u16, u32, bits64, checked}
+use Rattle.pywr.specs.Bytes.{u8, u16, u32, bits64, checked}
 use Rattle.pywr.specs.Numbers.{double, zero64, one64, two64, million, millionth, trillion, leastDays, mostDays, high, low, lesser, greater, isFlow, isSmall, isDays, ofPattern}
 use Rattle.pywr.specs.Network.{noNode, kindOf, keepIf, listed, anyListed, isExclusive, edgesWith, incoming, outgoing}
 use Rattle.pywr.specs.NetworkFile.{constantFits, readNode, joins, badEdge, readEdge, readMembers, readSets, readAggregate, readParts, readVirtualStorage, markAt, inOrder, hasRoom, withNode, withEdge, withAggregate, withVirtualStorage, readBody, between, mostConstant, activeFits, leastDate, mostDate, readRecord, readRecords, firstRefused, isEmpty, unconnectedLink, badConstant, refusedIf, checkNetwork, parseNetwork}
@@ -20,7 +20,7 @@ use Rattle.pywr.specs.Period.{isActive, virtualInterval}
 use Rattle.pywr.specs.StepFile.{expectMark, daysIn, readDate, boundFits, volumeFits, boundsRead, readNodeStep, readNodeSteps, readAggregateStep, readAggregateSteps, readVirtualStorageStep, readVirtualStorageSteps, readStep}
 use Rattle.pywr.specs.StepIntervals.{intervals, nodeInterval, nodeIntervals, virtualStorageIntervals, isCrossed, firstCrossed, unless, ordered}
 use Rattle.pywr.specs.Costs.{outgoingCost, incomingCost, edgeCost, kindAt, costAt, stepCosts, addCosts}
-use Rattle.pywr.specs.Step.{adjust, bounded, applyRowBounds, setCoefficient, withCoefficient, applyInterval, applyNodeRows, applyIntervals, rowOf, periodOf, stepRows, periods, withCosts, stepped}
+use Rattle.pywr.specs.Step.{adjust, withBounds, applyRowBounds, setCoefficient, withCoefficient, applyInterval, applyNodeRows, applyIntervals, rowOf, periodOf, stepRows, periods, withCosts, stepped}
 use Rattle.pywr.specs.Store.{storeHasRoom, sentinelOf, rowTypeOf, entries, nodeEntry, edgeEntry, nodeRowEntry, virtualStorageEntry, shapeOf, elementsOf, columnsOfRow, rowEntry, columnEntry, programmeIn}
 use Rattle.pywr.specs.Misshapen.{countsFit, startsRise, columnsRise, rowColumnsRise, nodeFits, edgeFits, nodeRowFits, aggregateFits, virtualStorageFits, allEntries, wellShaped}
 use Rattle.pywr.specs.Written.{sentinelWord, rowTypeWord, flagWord, nodeWords, edgeWords, nodeRowWords, virtualStorageWords, integerColumns, countWords, shapeAfter, startsFrom, columnsIn, valuesIn, lowerOf, upperOf, rowsOf, builtStore, steppedStore}
@@ -48,7 +48,7 @@ building = 0
 
 -- step files and steps
 unfoldable pub stepping : ℕ
-unfolding tighten sentinels intervalOf storageBounds virtualBounds isActive virtualInterval expectMark daysIn readDate boundFits volumeFits boundsRead readNodeStep readNodeSteps readAggregateStep readAggregateSteps readVirtualStorageStep readVirtualStorageSteps readStep nodeInterval nodeIntervals virtualStorageIntervals intervals isCrossed firstCrossed unless ordered outgoingCost incomingCost edgeCost kindAt costAt addCosts stepCosts adjust bounded applyRowBounds setCoefficient withCoefficient applyInterval applyNodeRows applyIntervals rowOf periodOf stepRows periods withCosts stepped
+unfolding tighten sentinels intervalOf storageBounds virtualBounds isActive virtualInterval expectMark daysIn readDate boundFits volumeFits boundsRead readNodeStep readNodeSteps readAggregateStep readAggregateSteps readVirtualStorageStep readVirtualStorageSteps readStep nodeInterval nodeIntervals virtualStorageIntervals intervals isCrossed firstCrossed unless ordered outgoingCost incomingCost edgeCost kindAt costAt addCosts stepCosts adjust withBounds applyRowBounds setCoefficient withCoefficient applyInterval applyNodeRows applyIntervals rowOf periodOf stepRows periods withCosts stepped
 stepping = 0
 
 -- stores and calls
