@@ -21,11 +21,11 @@ use Rattle.pywr.specs.ColEdgeMap.{columns, columnAt, MappedEdge, withCol
 use Rattle.pywr.specs.Rows.{Element, addElement, addOn, ColumnMap, columnMap, columnsWith, columnsInto, columnsOutOf, massRow}
 use Rattle.pywr.specs.Programme.{Row}
 use Rattle.pywr.specs.FixedRows.{massRowsFrom}
-use Rattle.pywr.specs.Plans.{exact, meets, Plan, unit, signed, isFinite, scaled, lowerMet, upperMet, allFrom}
+use Rattle.pywr.specs.Plans.{exact, meets, Plan, unitsInOne, signed, isFinite, timesOne, lowerMet, upperMet, allFrom}
 use Rattle.pywr.specs.Allows.{inflow, outflow}
 use Rattle.pywr.specs.Admits.{onColumn, rowSum, rowMet}
 use Rattle.pywr.proofs.ElementLaws.{add-none, add-cases}
-use Rattle.pywr.proofs.ExactLaws.{unit-pos}
+use Rattle.pywr.proofs.ExactLaws.{units-pos}
 use Rattle.pywr.proofs.LinkLaws.{NoSelf, ends-sound, one-column-single}
 use Rattle.pywr.proofs.AmountLaws.{Carries, mass-sum}
 use Rattle.pywr.proofs.EvenLaws.{amounts, flow-amounts, mapped-edge-of}
@@ -163,7 +163,7 @@ zero-both (pos n) h = let k = leb→le n 0 (and-r (leb 0 n) (leb n 0) h) in ap p
 zero-both (negsuc n) h = absurd h
 
 pub zero-met : (w : Sentinel) (v : ℤ) → T (meets w (record { lower = zero64; upper = zero64 }) v) ↔ (v ≡ pos 0)
-unfolding meets lowerMet upperMet le lt eq low high neg ofBits isFinite zero64 exact signed scaled unit
+unfolding meets lowerMet upperMet le lt eq low high neg ofBits isFinite zero64 exact signed timesOne unitsInOne
 zero-met Infinity v = (zero-both v, λ e. rw e tt)
 zero-met Largest v = (zero-both v, λ e. rw e tt)
 
@@ -171,17 +171,17 @@ abs-neg-pos : (m : ℕ) → natAbs (negℤ (pos m)) ≡ m
 abs-neg-pos zero = refl
 abs-neg-pos (suc m) = refl
 
-scaled-zero : (z : ℤ) → scaled z ≡ pos 0 → z ≡ pos 0
-unfolding scaled
-scaled-zero (pos n) h = ap pos (eq-of-mul-eq-mul-right unit unit-pos n 0 (ap natAbs h ∙ sym (zero-mul unit)))
-scaled-zero (negsuc n) h =
-    let z : suc n * unit ≡ 0 = sym (abs-neg-pos (suc n * unit)) ∙ ap natAbs h in
-    let p : 0 < suc n * unit = mul-pos (suc-le-suc zero-le) unit-pos in
+times-one-zero : (z : ℤ) → timesOne z ≡ pos 0 → z ≡ pos 0
+unfolding timesOne
+times-one-zero (pos n) h = ap pos (eq-of-mul-eq-mul-right unitsInOne units-pos n 0 (ap natAbs h ∙ sym (zero-mul unitsInOne)))
+times-one-zero (negsuc n) h =
+    let z : suc n * unitsInOne ≡ 0 = sym (abs-neg-pos (suc n * unitsInOne)) ∙ ap natAbs h in
+    let p : 0 < suc n * unitsInOne = mul-pos (suc-le-suc zero-le) units-pos in
     absurd (omega arith)
 
-pub scaled-of-zero : scaled (pos 0) ≡ pos 0
-unfolding scaled
-scaled-of-zero = ap pos (zero-mul unit)
+pub times-one-of-zero : timesOne (pos 0) ≡ pos 0
+unfolding timesOne
+times-one-of-zero = ap pos (zero-mul unitsInOne)
 
 diff-zero : (a b : ℕ) → pos a -ℤ pos b ≡ pos 0 → a ≡ b
 diff-zero a b h =
@@ -233,10 +233,10 @@ module _ (w : Sentinel) (net : Network) (noself : NoSelf net) (plan : Plan) (lon
 
   kept-met : (n : ℕ) → Met w g plan (record { lower = zero64; upper = zero64; elements = massRow g n }) ↔ (inflow net plan n ≡ outflow net plan n)
   kept-met n =
-      let s : rowSum g plan (massRow g n) ≡ scaled (pos (inflow net plan n) -ℤ pos (outflow net plan n)) = mass-sum net plan long carries n room in
+      let s : rowSum g plan (massRow g n) ≡ timesOne (pos (inflow net plan n) -ℤ pos (outflow net plan n)) = mass-sum net plan long carries n room in
       let z = zero-met w (rowSum g plan (massRow g n)) in (
-        λ h. diff-zero (inflow net plan n) (outflow net plan n) (scaled-zero _ (sym s ∙ z .0 h)),
-        λ e. z .1 (s ∙ ap scaled (ap (λ (k : ℕ). pos k -ℤ pos (outflow net plan n)) e ∙ +ℤ-invr (pos (outflow net plan n))) ∙ scaled-of-zero),
+        λ h. diff-zero (inflow net plan n) (outflow net plan n) (times-one-zero _ (sym s ∙ z .0 h)),
+        λ e. z .1 (s ∙ ap timesOne (ap (λ (k : ℕ). pos k -ℤ pos (outflow net plan n)) e ∙ +ℤ-invr (pos (outflow net plan n))) ∙ times-one-of-zero),
       )
 
   abbrev massOf : ℕ → Row

@@ -25,8 +25,8 @@ use Rattle.pywr.specs.Store.{storeHasRoom, sentinelOf, rowTypeOf, entrie
 use Rattle.pywr.specs.Misshapen.{countsFit, startsRise, columnsRise, rowColumnsRise, nodeFits, edgeFits, nodeRowFits, aggregateFits, virtualStorageFits, allEntries, wellShaped}
 use Rattle.pywr.specs.Written.{sentinelWord, rowTypeWord, flagWord, nodeWords, edgeWords, nodeRowWords, virtualStorageWords, integerColumns, countWords, shapeAfter, startsFrom, columnsIn, valuesIn, lowerOf, upperOf, rowsOf, builtStore, steppedStore}
 use Rattle.pywr.specs.Calls.{cleared, buildRoom, buildAnswer, storeOfBuild, buildStore, buildWords, buildNumbers, stepRoom, stepRead, stepIntervals, stepAnswer, storeOfStep, stepStore, stepWork, isAccepted, rowAnswer, partOf, rowPart}
-use Rattle.pywr.specs.Plans.{exact, meets, unit, signed, isFinite, scaled, lowerMet, upperMet, allFrom}
-use Rattle.pywr.specs.Allows.{allows, flowWith, inflow, outflow, nodeAmount, nodesAmount, setsAmount, partsAmount, balanced, ownInterval, nodeMeets, aggregateMeets, virtualStorageMeets, onAmount, exclusiveMeets, memberMeets, setsMeet, onCount, exclusivityMeets}
+use Rattle.pywr.specs.Plans.{exact, meets, unitsInOne, signed, isFinite, timesOne, lowerMet, upperMet, allFrom}
+use Rattle.pywr.specs.Allows.{allows, flowWith, inflow, outflow, nodeAmount, nodesAmount, setsAmount, partsSum, balanced, ownInterval, nodeMeets, aggregateMeets, virtualStorageMeets, onAmount, exclusiveMeets, memberMeets, setsMeet, onCount, exclusivityMeets}
 use Rattle.pywr.specs.Admits.{admits, carried, equalInColumn, onColumn, rowSum, rowMet, columnMet}
 use Rattle.pywr.specs.Correspondence.{storeAfter, reports, lastAccepted, periodsOf, readBy, allowsRead, allowsUnder, networkAllows, programmeAdmits, exclusiveConstant, isWhole, factorsWhole, anyAccepted}
 use Rattle.pywr.specs.FileBytes.{w16, w32, w64, varying, constant, edge, setBytes, exclusive, date, nodeStep, aggregateStep}
@@ -58,7 +58,7 @@ storing = 0
 
 -- plans and the lists of steps
 unfoldable pub planning : ℕ
-unfolding unit signed exact isFinite scaled lowerMet upperMet meets allFrom flowWith inflow outflow nodeAmount nodesAmount setsAmount partsAmount balanced ownInterval nodeMeets aggregateMeets virtualStorageMeets onAmount exclusiveMeets memberMeets setsMeet onCount exclusivityMeets allows carried equalInColumn onColumn rowSum rowMet columnMet admits storeAfter reports lastAccepted periodsOf readBy allowsRead allowsUnder networkAllows programmeAdmits exclusiveConstant isWhole factorsWhole anyAccepted
+unfolding unitsInOne signed exact isFinite timesOne lowerMet upperMet meets allFrom flowWith inflow outflow nodeAmount nodesAmount setsAmount partsSum balanced ownInterval nodeMeets aggregateMeets virtualStorageMeets onAmount exclusiveMeets memberMeets setsMeet onCount exclusivityMeets allows carried equalInColumn onColumn rowSum rowMet columnMet admits storeAfter reports lastAccepted periodsOf readBy allowsRead allowsUnder networkAllows programmeAdmits exclusiveConstant isWhole factorsWhole anyAccepted
 planning = 0
 
 -- the bytes of files

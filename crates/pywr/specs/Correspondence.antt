@@ -18,7 +18,7 @@ use Rattle.pywr.specs.StepFile.{StepFile, readStep}
 use Rattle.pywr.specs.StepIntervals.{intervals}
 use Rattle.pywr.specs.Store.{Store, programmeIn}
 use Rattle.pywr.specs.Calls.{buildAnswer, buildStore, stepAnswer, stepStore, isAccepted}
-use Rattle.pywr.specs.Plans.{exact, Plan, unit, allFrom}
+use Rattle.pywr.specs.Plans.{exact, Plan, unitsInOne, allFrom}
 use Rattle.pywr.specs.Allows.{allows}
 use Rattle.pywr.specs.Admits.{admits}
 
@@ -82,7 +82,7 @@ exclusiveConstant net = allFrom (λ (n : ℕ) (x : Node). not (isExclusive (net 
 
 -- virtual-storage factors are whole, at most 1,000,000 in magnitude
 unfoldable pub isWhole : Part → Bool
-isWhole p = eqb (natAbs (exact (p .factor)) % unit) 0 && leb (natAbs (exact (p .factor)) / unit) 1000000
+isWhole p = eqb (natAbs (exact (p .factor)) % unitsInOne) 0 && leb (natAbs (exact (p .factor)) / unitsInOne) 1000000
 
 unfoldable pub factorsWhole : Network → Bool
 factorsWhole net = allFrom (λ (n : ℕ) (v : VirtualStorage). allFrom (λ (k : ℕ) (p : Part). isWhole p) 0 (v .parts)) 0 (net .virtualStorages)
