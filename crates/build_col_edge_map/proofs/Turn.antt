@@ -15,6 +15,7 @@ use Rattle.pywr.specs.Bytes.{byte, le16}
 use Rattle.pywr.specs.Network.{link, Edge, Network, source, target, edgesWith, incoming, outgoing}
 use Rattle.pywr.specs.ColEdgeMap.{Columns, columns, columnAt, putNew, addSimpleEdge, addEqualEdges, single, sharesWith, placeEdge, placeEdges}
 use Rattle.pywr.proofs.ColumnLaws.{put-length, new-length}
+use Rattle.pywr.proofs.LinkLaws.{many, single-is}
 use Rattle.network_edge.specs.Edge.{edgeAt}
 use Rattle.network_laws.specs.NetworkAt.{nodesAt, edgesAt, networkAt}
 use Rattle.network_laws.proofs.Index.{edge-count, edge-index}
@@ -50,8 +51,8 @@ unfolding single
 no-out [] out z = refl
 no-out (i ∷ []) [] z = refl
 no-out (i ∷ []) (o ∷ []) z = absurd (omega arith)
-no-out (i ∷ []) (o ∷ p ∷ out) z = refl
-no-out (i ∷ j ∷ into) out z = refl
+no-out (i ∷ []) (o ∷ p ∷ out) z = rw (many o p out)
+no-out (i ∷ j ∷ into) out z = rw (many i j into)
 
 one-out : (into out : List ℕ) → code (only out) ≢ 0 → single into out ≡ only into
 unfolding single
@@ -59,7 +60,7 @@ one-out [] out f = refl
 one-out (i ∷ []) [] f = absurd (f refl)
 one-out (i ∷ []) (o ∷ []) f = refl
 one-out (i ∷ []) (o ∷ p ∷ out) f = absurd (f refl)
-one-out (i ∷ j ∷ into) out f = refl
+one-out (i ∷ j ∷ into) out f = rw (many i j into)
 
 module _ (kind : ℕ) (into out : List ℕ) where
   pub not-link : kind ≢ 2 → 0 ≡ code (sharesAcross kind into out)
@@ -73,16 +74,12 @@ module _ (kind : ℕ) (into out : List ℕ) where
 
   -- it is one of the edges in
   in-under : (size : ℕ) (next : List ℕ) (first before : ℕ) → Linked size next first into → before ≡ code (sharesAcross kind into out) → before ≢ 0 → before - 1 < size
-  unfolding single
-  in-under size next first before l q f = go (eqb kind link) into out l q
+  in-under size next first before l q f = go (eqb kind link) (single into out) refl q
     where
-      go : (b : Bool) (is os : List ℕ) → Linked size next first is → before ≡ code (cond b (single is os) none) → before - 1 < size
-      go false is os m e = absurd (f e)
-      go true [] os m e = absurd (f e)
-      go true (i ∷ []) [] m e = absurd (f e)
-      go true (i ∷ []) (o ∷ []) m e = omega (arith, m .1)
-      go true (i ∷ []) (o ∷ p ∷ os) m e = absurd (f e)
-      go true (i ∷ j ∷ is) os m e = absurd (f e)
+      go : (b : Bool) (o : Option ℕ) → single into out ≡ o → before ≡ code (cond b o none) → before - 1 < size
+      go false o s e = absurd (f e)
+      go true none s e = absurd (f e)
+      go true (some p) s e = let m : Linked size next first (p ∷ []) = rw (single-is into out p s .into-is) at l in omega (arith, m .1)
 
 code-none : (o : Option ℕ) → code o ≡ 0 → o ≡ none
 code-none none q = refl

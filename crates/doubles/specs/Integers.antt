@@ -1,4 +1,4 @@
--- An integer as two naturals, z = plus z - less z, which `omega` reads; and equality, the larger and the smaller of two as tests. Assumes nothing.
+-- An integer as two naturals, z = plus z - less z; and equality, the larger and the smaller of two as tests. Assumes nothing.
 use Prim.Native.Nat.{ℕ, suc}
 use mathlib.Core.Bool.{Bool, false, cond}
 use lib.IntN.{ℤ, pos, negsuc}

@@ -29,7 +29,7 @@ abbrev pub Each : (Float → Type 0) → List Float → Type 0
 Each P [] = Unit {0}
 Each P (x ∷ xs) = P x × Each P xs
 
--- a run folded from the left, as a loop over a slice folds it
+-- a run folded from the left
 abbrev pub run : (Float → Float → Float) → Float → List Float → Float
 run op acc [] = acc
 run op acc (x ∷ xs) = run op (op acc x) xs

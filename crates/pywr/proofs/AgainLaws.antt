@@ -16,7 +16,7 @@ use Rattle.pywr.specs.Rows.{Element, element}
 use Rattle.pywr.specs.Programme.{Row, RowType, continuous, binaryUpper, binaryLower, NodeRow, Shape}
 use Rattle.pywr.specs.Interval.{sentinels}
 use Rattle.pywr.specs.StepIntervals.{Intervals}
-use Rattle.pywr.specs.Step.{adjust, bounded, applyRowBounds, setCoefficient, withCoefficient, applyInterval, applyNodeRows, applyIntervals, rowOf, stepRows}
+use Rattle.pywr.specs.Step.{adjust, withBounds, applyRowBounds, setCoefficient, withCoefficient, applyInterval, applyNodeRows, applyIntervals, rowOf, stepRows}
 use Rattle.pywr.specs.Written.{columnsIn}
 use Rattle.pywr.proofs.Represents.{SameColumns}
 use Rattle.pywr.proofs.ListLaws.{AllMem}
@@ -120,7 +120,7 @@ abbrev Either : {A : Type 0} → (A → A) → (A → A) → Type 0
 Either {A} g h = ((x : A) → g (h x) ≡ g x) ⊎ ((x : A) → g (h x) ≡ h (g x))
 
 bounds-past : (by : Interval) (d : ℕ) (y : Float) (r : Row) → applyRowBounds by (withCoefficient d y r) ≡ withCoefficient d y (applyRowBounds by r)
-unfolding applyRowBounds bounded withCoefficient
+unfolding applyRowBounds withBounds withCoefficient
 bounds-past by d y r = refl
 
 coefficient-either : (c d : ℕ) (x y : Float) → Either (withCoefficient c x) (withCoefficient d y)
@@ -170,24 +170,24 @@ module _ (w : Sentinel) (e : ℕ) (is : List Interval) where
 
 -- ---- the reset forgets the bounds
 
-reset-bounds : (i by : Interval) (r : ℕ) (rows : List Row) → map (bounded i) (adjust (applyRowBounds by) r rows) ≡ map (bounded i) rows
-unfolding adjust applyRowBounds bounded
+reset-bounds : (i by : Interval) (r : ℕ) (rows : List Row) → map (withBounds i) (adjust (applyRowBounds by) r rows) ≡ map (withBounds i) rows
+unfolding adjust applyRowBounds withBounds
 reset-bounds i by r [] = refl
 reset-bounds i by zero (x ∷ xs) = refl
-reset-bounds i by (suc r) (x ∷ xs) = ap (λ (l : List Row). bounded i x ∷ l) (reset-bounds i by r xs)
+reset-bounds i by (suc r) (x ∷ xs) = ap (λ (l : List Row). withBounds i x ∷ l) (reset-bounds i by r xs)
 
-reset-coefficient : (i : Interval) (c : ℕ) (y : Float) (r : ℕ) (rows : List Row) → map (bounded i) (adjust (withCoefficient c y) r rows) ≡ adjust (withCoefficient c y) r (map (bounded i) rows)
-unfolding adjust withCoefficient bounded
+reset-coefficient : (i : Interval) (c : ℕ) (y : Float) (r : ℕ) (rows : List Row) → map (withBounds i) (adjust (withCoefficient c y) r rows) ≡ adjust (withCoefficient c y) r (map (withBounds i) rows)
+unfolding adjust withCoefficient withBounds
 reset-coefficient i c y r [] = refl
 reset-coefficient i c y zero (x ∷ xs) = refl
-reset-coefficient i c y (suc r) (x ∷ xs) = ap (λ (l : List Row). bounded i x ∷ l) (reset-coefficient i c y r xs)
+reset-coefficient i c y (suc r) (x ∷ xs) = ap (λ (l : List Row). withBounds i x ∷ l) (reset-coefficient i c y r xs)
 
-reset-again : (i : Interval) (rows : List Row) → map (bounded i) (map (bounded i) rows) ≡ map (bounded i) rows
-unfolding bounded
+reset-again : (i : Interval) (rows : List Row) → map (withBounds i) (map (withBounds i) rows) ≡ map (withBounds i) rows
+unfolding withBounds
 reset-again i [] = refl
-reset-again i (x ∷ xs) = ap (λ (l : List Row). bounded i x ∷ l) (reset-again i xs)
+reset-again i (x ∷ xs) = ap (λ (l : List Row). withBounds i x ∷ l) (reset-again i xs)
 
-reset-intervals : (i : Interval) (rs : List ℕ) (is : List Interval) (rows : List Row) → map (bounded i) (applyIntervals rs is rows) ≡ map (bounded i) rows
+reset-intervals : (i : Interval) (rs : List ℕ) (is : List Interval) (rows : List Row) → map (withBounds i) (applyIntervals rs is rows) ≡ map (withBounds i) rows
 unfolding applyIntervals
 reset-intervals i [] is rows = refl
 reset-intervals i (r ∷ rs) [] rows = refl
@@ -195,7 +195,7 @@ reset-intervals i (r ∷ rs) (j ∷ is) rows = reset-intervals i rs is (adjust (
 
 module _ (w : Sentinel) (e : ℕ) (is js : List Interval) (ns : List NodeRow) where
   abbrev again : List Row → List Row
-  again rows = applyNodeRows w e is ns (map (bounded (sentinels w)) rows)
+  again rows = applyNodeRows w e is ns (map (withBounds (sentinels w)) rows)
 
   one-forgotten : (t : RowType) (n : NodeRow) (i : Interval) → n .rowType ≡ t → List·Memᴰ n ns → (rows : List Row) → again (adjust (applyInterval t (e + n .set) i) (n .row) rows) ≡ again rows
   unfolding applyInterval binary
@@ -218,7 +218,7 @@ step-again w shape i j rows =
     let rest : List Row → List Row = (λ (a : List Row). applyIntervals (map rowOf (shape .virtualStorages)) (i .virtualStorages) (applyIntervals (shape .aggregates) (i .aggregates) (applyNodeRows w (shape .edgeColumns) (i .nodes) (shape .nodeRows) a))) in
     ap rest (reset-intervals (sentinels w) _ _ _ ∙ reset-intervals (sentinels w) _ _ _)
     ∙ ap (λ (a : List Row). applyIntervals (map rowOf (shape .virtualStorages)) (i .virtualStorages) (applyIntervals (shape .aggregates) (i .aggregates) a))
-    (all-forgotten w (shape .edgeColumns) (i .nodes) (j .nodes) (shape .nodeRows) (shape .nodeRows) (λ n m. m) (map (bounded (sentinels w)) rows))
+    (all-forgotten w (shape .edgeColumns) (i .nodes) (j .nodes) (shape .nodeRows) (shape .nodeRows) (λ n m. m) (map (withBounds (sentinels w)) rows))
     ∙ ap rest (reset-again (sentinels w) rows)
 
 -- ---- a step keeps every row's columns
@@ -238,7 +238,7 @@ adjust-columns g h zero (x ∷ xs) = SameColumns.more (h x) (same-self xs)
 adjust-columns g h (suc r) (x ∷ xs) = SameColumns.more refl (adjust-columns g h r xs)
 
 bounds-columns : (by : Interval) (x : Row) → columnsIn (applyRowBounds by x) ≡ columnsIn x
-unfolding columnsIn applyRowBounds bounded
+unfolding columnsIn applyRowBounds withBounds
 bounds-columns by x = refl
 
 interval-columns : (t : RowType) (c : ℕ) (i : Interval) (x : Row) → columnsIn (applyInterval t c i x) ≡ columnsIn x
@@ -259,8 +259,8 @@ intervals-columns [] is rows = same-self rows
 intervals-columns (r ∷ rs) [] rows = same-self rows
 intervals-columns (r ∷ rs) (i ∷ is) rows = same-then _ _ rows (intervals-columns rs is (adjust (applyRowBounds i) r rows)) (adjust-columns (applyRowBounds i) (bounds-columns i) r rows)
 
-reset-columns : (i : Interval) (rows : List Row) → SameColumns (map (bounded i) rows) rows
-unfolding columnsIn bounded
+reset-columns : (i : Interval) (rows : List Row) → SameColumns (map (withBounds i) rows) rows
+unfolding columnsIn withBounds
 reset-columns i [] = SameColumns.none
 reset-columns i (x ∷ xs) = SameColumns.more refl (reset-columns i xs)
 

@@ -18,8 +18,8 @@ use Rattle.pywr.specs.Numbers.{one64}
 use Rattle.pywr.specs.Network.{output, storage, Edge, Aggregate, Part, VirtualStorage, Network, kindOf, keepIf, source, target}
 use Rattle.pywr.specs.ColEdgeMap.{columns, MappedEdge, withColumns, mappedEdges}
 use Rattle.pywr.specs.Rows.{Element, addOn, ColumnMap, columnMap, columnsWith, columnsInto, columnsOutOf, addNode, nodeRow, massRow, addNodes, addSetsOf, aggregateRow, addParts, virtualStorageRow}
-use Rattle.pywr.specs.Plans.{exact, Plan, unit, signed, scaled}
-use Rattle.pywr.specs.Allows.{flowWith, inflow, outflow, nodeAmount, nodesAmount, setsAmount, partsAmount}
+use Rattle.pywr.specs.Plans.{exact, Plan, unitsInOne, signed, timesOne}
+use Rattle.pywr.specs.Allows.{flowWith, inflow, outflow, nodeAmount, nodesAmount, setsAmount, partsSum}
 use Rattle.pywr.specs.Admits.{onColumn, rowSum}
 use Rattle.pywr.proofs.ExactLaws.{exact-neg}
 use Rattle.pywr.proofs.SumLaws.{grid, Upto, AllUpto, onColumns, add-on, add-on-upto, all-wider}
@@ -33,9 +33,9 @@ pub one-upto : Upto 0 1 one64
 unfolding one64 mag
 one-upto = record { grain = one-grain false; most = le-refl (1 * 2 ^ 1074) }
 
-pub one-exact : exact one64 ≡ pos unit
+pub one-exact : exact one64 ≡ pos unitsInOne
 unfolding exact one64 signed
-one-exact = ap pos (ap (λ (k : ℕ). k / 1) (one-mul unit) ∙ div-one unit)
+one-exact = ap pos (ap (λ (k : ℕ). k / 1) (one-mul unitsInOne) ∙ div-one unitsInOne)
 
 -- every factor is a multiple of 1 / 2 ^ g, at most m of these from 0
 pub data Factors (g m : ℕ) : List Part → Type 0 where
@@ -188,18 +188,18 @@ module _ (net : Network) (plan : Plan) (long : length (net .edges) ≡ length (c
   -- ---- lists of nodes, and of sets
 
   pub nodes-sum : (ns : List ℕ) (b : ℕ) (row : List Element) → AllUpto 0 b row → b + length ns * share 1 < 2 ^ 53
-      → rowSum f plan (addNodes f ns row) ≡ pos unit *ℤ nodesAmount net plan ns +ℤ rowSum f plan row
+      → rowSum f plan (addNodes f ns row) ≡ pos unitsInOne *ℤ nodesAmount net plan ns +ℤ rowSum f plan row
   unfolding addNodes nodesAmount
-  nodes-sum [] b row us h = sym (ap (λ (z : ℤ). z +ℤ rowSum f plan row) (*ℤ-zero (pos unit)) ∙ +ℤ-idl (rowSum f plan row))
+  nodes-sum [] b row us h = sym (ap (λ (z : ℤ). z +ℤ rowSum f plan row) (*ℤ-zero (pos unitsInOne)) ∙ +ℤ-idl (rowSum f plan row))
   nodes-sum (n ∷ ns) b row us h =
       let t : suc (length ns) * share 1 ≡ length ns * share 1 + share 1 = suc-mul (length ns) (share 1) in
       let r : ℤ = rowSum f plan row in
       let one = node-sum n one64 1 one-upto b row us (omega arith) in
       nodes-sum ns (b + share 1) (addNode f n one64 row) (node-upto n one64 1 one-upto b row us (omega arith)) (omega arith)
-      ∙ ap (λ (z : ℤ). pos unit *ℤ nodesAmount net plan ns +ℤ z) (one ∙ ap (λ (z : ℤ). z *ℤ nodeAmount net plan n +ℤ r) one-exact)
-      ∙ sym (+ℤ-assoc (pos unit *ℤ nodesAmount net plan ns) (pos unit *ℤ nodeAmount net plan n) r)
+      ∙ ap (λ (z : ℤ). pos unitsInOne *ℤ nodesAmount net plan ns +ℤ z) (one ∙ ap (λ (z : ℤ). z *ℤ nodeAmount net plan n +ℤ r) one-exact)
+      ∙ sym (+ℤ-assoc (pos unitsInOne *ℤ nodesAmount net plan ns) (pos unitsInOne *ℤ nodeAmount net plan n) r)
       ∙ ap (λ (z : ℤ). z +ℤ r)
-      (+ℤ-comm (pos unit *ℤ nodesAmount net plan ns) (pos unit *ℤ nodeAmount net plan n) ∙ sym (mul-addℤ (pos unit) (nodeAmount net plan n) (nodesAmount net plan ns)))
+      (+ℤ-comm (pos unitsInOne *ℤ nodesAmount net plan ns) (pos unitsInOne *ℤ nodeAmount net plan n) ∙ sym (mul-addℤ (pos unitsInOne) (nodeAmount net plan n) (nodesAmount net plan ns)))
 
   pub nodes-upto : (ns : List ℕ) (b : ℕ) (row : List Element) → AllUpto 0 b row → b + length ns * share 1 < 2 ^ 53 → AllUpto 0 (b + length ns * share 1) (addNodes f ns row)
   unfolding addNodes
@@ -210,24 +210,24 @@ module _ (net : Network) (plan : Plan) (long : length (net .edges) ≡ length (c
       (nodes-upto ns (b + share 1) (addNode f n one64 row) (node-upto n one64 1 one-upto b row us (omega arith)) (omega arith))
 
   pub sets-sum : (ss : List (List ℕ)) (b : ℕ) (row : List Element) → AllUpto 0 b row → b + memberships ss * share 1 < 2 ^ 53
-      → rowSum f plan (addSetsOf f ss row) ≡ pos unit *ℤ setsAmount net plan ss +ℤ rowSum f plan row
+      → rowSum f plan (addSetsOf f ss row) ≡ pos unitsInOne *ℤ setsAmount net plan ss +ℤ rowSum f plan row
   unfolding addSetsOf setsAmount memberships
-  sets-sum [] b row us h = sym (ap (λ (z : ℤ). z +ℤ rowSum f plan row) (*ℤ-zero (pos unit)) ∙ +ℤ-idl (rowSum f plan row))
+  sets-sum [] b row us h = sym (ap (λ (z : ℤ). z +ℤ rowSum f plan row) (*ℤ-zero (pos unitsInOne)) ∙ +ℤ-idl (rowSum f plan row))
   sets-sum (s ∷ ss) b row us h =
       let k : ℕ = share 1 in
       let t : (length s + memberships ss) * k ≡ length s * k + memberships ss * k = add-mul (length s) (memberships ss) k in
       let r : ℤ = rowSum f plan row in
       sets-sum ss (b + length s * k) (addNodes f s row) (nodes-upto s b row us (omega arith)) (omega arith)
-      ∙ ap (λ (z : ℤ). pos unit *ℤ setsAmount net plan ss +ℤ z) (nodes-sum s b row us (omega arith))
-      ∙ sym (+ℤ-assoc (pos unit *ℤ setsAmount net plan ss) (pos unit *ℤ nodesAmount net plan s) r)
+      ∙ ap (λ (z : ℤ). pos unitsInOne *ℤ setsAmount net plan ss +ℤ z) (nodes-sum s b row us (omega arith))
+      ∙ sym (+ℤ-assoc (pos unitsInOne *ℤ setsAmount net plan ss) (pos unitsInOne *ℤ nodesAmount net plan s) r)
       ∙ ap (λ (z : ℤ). z +ℤ r)
-      (+ℤ-comm (pos unit *ℤ setsAmount net plan ss) (pos unit *ℤ nodesAmount net plan s) ∙ sym (mul-addℤ (pos unit) (nodesAmount net plan s) (setsAmount net plan ss)))
+      (+ℤ-comm (pos unitsInOne *ℤ setsAmount net plan ss) (pos unitsInOne *ℤ nodesAmount net plan s) ∙ sym (mul-addℤ (pos unitsInOne) (nodesAmount net plan s) (setsAmount net plan ss)))
 
   -- ---- a virtual storage's parts
 
   pub parts-sum : {g : ℕ} (m : ℕ) (ps : List Part) → Factors g m ps → (b : ℕ) (row : List Element) → AllUpto g b row → b + length ps * share m < 2 ^ 53
-      → rowSum f plan (addParts f ps row) ≡ partsAmount net plan ps +ℤ rowSum f plan row
-  unfolding addParts partsAmount
+      → rowSum f plan (addParts f ps row) ≡ partsSum net plan ps +ℤ rowSum f plan row
+  unfolding addParts partsSum
   parts-sum m [] no-more b row us h = sym (+ℤ-idl (rowSum f plan row))
   parts-sum m (p ∷ ps) (one-more u fs) b row us h =
       let t : suc (length ps) * share m ≡ length ps * share m + share m = suc-mul (length ps) (share m) in
@@ -236,33 +236,33 @@ module _ (net : Network) (plan : Plan) (long : length (net .edges) ≡ length (c
       let ux = neg-upto m (p .factor) u in
       let a : ℤ = negℤ (exact (p .factor)) *ℤ nodeAmount net plan (p .node) in
       parts-sum m ps fs (b + share m) (addNode f (p .node) x row) (node-upto (p .node) x m ux b row us (omega arith)) (omega arith)
-      ∙ ap (λ (z : ℤ). partsAmount net plan ps +ℤ z) (node-sum (p .node) x m ux b row us (omega arith) ∙ ap (λ (z : ℤ). z *ℤ nodeAmount net plan (p .node) +ℤ r) (exact-neg (p .factor)))
-      ∙ sym (+ℤ-assoc (partsAmount net plan ps) a r)
-      ∙ ap (λ (z : ℤ). z +ℤ r) (+ℤ-comm (partsAmount net plan ps) a)
+      ∙ ap (λ (z : ℤ). partsSum net plan ps +ℤ z) (node-sum (p .node) x m ux b row us (omega arith) ∙ ap (λ (z : ℤ). z *ℤ nodeAmount net plan (p .node) +ℤ r) (exact-neg (p .factor)))
+      ∙ sym (+ℤ-assoc (partsSum net plan ps) a r)
+      ∙ ap (λ (z : ℤ). z +ℤ r) (+ℤ-comm (partsSum net plan ps) a)
 
   -- ---- the rows
 
-  pub aggregate-sum : (a : Aggregate) → memberships (a .sets) * share 1 < 2 ^ 53 → rowSum f plan (aggregateRow f a) ≡ scaled (setsAmount net plan (a .sets))
-  unfolding aggregateRow scaled rowSum
-  aggregate-sum a h = sets-sum (a .sets) 0 [] AllUpto.none (omega arith) ∙ +ℤ-idr (pos unit *ℤ setsAmount net plan (a .sets)) ∙ *ℤ-comm (pos unit) (setsAmount net plan (a .sets))
+  pub aggregate-sum : (a : Aggregate) → memberships (a .sets) * share 1 < 2 ^ 53 → rowSum f plan (aggregateRow f a) ≡ timesOne (setsAmount net plan (a .sets))
+  unfolding aggregateRow timesOne rowSum
+  aggregate-sum a h = sets-sum (a .sets) 0 [] AllUpto.none (omega arith) ∙ +ℤ-idr (pos unitsInOne *ℤ setsAmount net plan (a .sets)) ∙ *ℤ-comm (pos unitsInOne) (setsAmount net plan (a .sets))
 
-  pub virtual-storage-sum : {g : ℕ} (m : ℕ) (v : VirtualStorage) → Factors g m (v .parts) → length (v .parts) * share m < 2 ^ 53 → rowSum f plan (virtualStorageRow f v) ≡ partsAmount net plan (v .parts)
+  pub virtual-storage-sum : {g : ℕ} (m : ℕ) (v : VirtualStorage) → Factors g m (v .parts) → length (v .parts) * share m < 2 ^ 53 → rowSum f plan (virtualStorageRow f v) ≡ partsSum net plan (v .parts)
   unfolding virtualStorageRow rowSum
-  virtual-storage-sum m v fs h = parts-sum m (v .parts) fs 0 [] AllUpto.none (omega arith) ∙ +ℤ-idr (partsAmount net plan (v .parts))
+  virtual-storage-sum m v fs h = parts-sum m (v .parts) fs 0 [] AllUpto.none (omega arith) ∙ +ℤ-idr (partsSum net plan (v .parts))
 
-  pub nodeRow-sum : (n : ℕ) → share 1 < 2 ^ 53 → rowSum f plan (nodeRow f n) ≡ scaled (nodeAmount net plan n)
-  unfolding nodeRow scaled rowSum
+  pub nodeRow-sum : (n : ℕ) → share 1 < 2 ^ 53 → rowSum f plan (nodeRow f n) ≡ timesOne (nodeAmount net plan n)
+  unfolding nodeRow timesOne rowSum
   nodeRow-sum n h =
       node-sum n one64 1 one-upto 0 [] AllUpto.none (omega arith)
       ∙ +ℤ-idr (exact one64 *ℤ nodeAmount net plan n)
       ∙ ap (λ (z : ℤ). z *ℤ nodeAmount net plan n) one-exact
-      ∙ *ℤ-comm (pos unit) (nodeAmount net plan n)
+      ∙ *ℤ-comm (pos unitsInOne) (nodeAmount net plan n)
 
   -- a mass row: inflow less outflow
-  pub mass-sum : (n : ℕ) → share 1 < 2 ^ 53 → rowSum f plan (massRow f n) ≡ scaled (pos (inflow net plan n) -ℤ pos (outflow net plan n))
-  unfolding massRow scaled rowSum columnMap
+  pub mass-sum : (n : ℕ) → share 1 < 2 ^ 53 → rowSum f plan (massRow f n) ≡ timesOne (pos (inflow net plan n) -ℤ pos (outflow net plan n))
+  unfolding massRow timesOne rowSum columnMap
   mass-sum n h =
       both-sum n one64 1 one-upto 0 [] AllUpto.none (omega arith)
       ∙ +ℤ-idr (exact one64 *ℤ (pos (inflow net plan n) -ℤ pos (outflow net plan n)))
       ∙ ap (λ (z : ℤ). z *ℤ (pos (inflow net plan n) -ℤ pos (outflow net plan n))) one-exact
-      ∙ *ℤ-comm (pos unit) (pos (inflow net plan n) -ℤ pos (outflow net plan n))
+      ∙ *ℤ-comm (pos unitsInOne) (pos (inflow net plan n) -ℤ pos (outflow net plan n))

@@ -17,8 +17,8 @@ use Rattle.pywr.specs.declared.Sentinel.the-variants.{Infinity, Largest}
 use Rattle.pywr.specs.declared.Interval.{Interval}
 use Rattle.pywr.specs.Numbers.{high, low, lesser, greater}
 use Rattle.pywr.specs.Interval.{tighten}
-use Rattle.pywr.specs.Plans.{exact, meets, unit, isFinite, scaled, lowerMet, upperMet}
-use Rattle.pywr.proofs.ExactLaws.{unit-pos, exact-rank}
+use Rattle.pywr.specs.Plans.{exact, meets, unitsInOne, isFinite, timesOne, lowerMet, upperMet}
+use Rattle.pywr.proofs.ExactLaws.{units-pos, exact-rank}
 
 -- what a bound has to be: a double, and no NaN
 abbrev pub IsBound : Float → Type 0
@@ -29,37 +29,37 @@ unfolding high ofBits fits
 high-bound Infinity = (tt, tt)
 high-bound Largest = (tt, tt)
 
-scaled-rank : (x : Float) → T (fits binary64 x) → T (finite x) → scaled (exact x) ≡ pos unit *ℤ rank binary64 x
-unfolding scaled
-scaled-rank x p n = *ℤ-comm (exact x) (pos unit) ∙ ap (λ (z : ℤ). pos unit *ℤ z) (exact-rank x p n)
+times-one-rank : (x : Float) → T (fits binary64 x) → T (finite x) → timesOne (exact x) ≡ pos unitsInOne *ℤ rank binary64 x
+unfolding timesOne
+times-one-rank x p n = *ℤ-comm (exact x) (pos unitsInOne) ∙ ap (λ (z : ℤ). pos unitsInOne *ℤ z) (exact-rank x p n)
 
-pub lower-is : (w : Sentinel) (x : Float) (v : ℤ) → IsBound x → lowerMet w x v ≡ meetsLower binary64 unit (high w) v x
+pub lower-is : (w : Sentinel) (x : Float) (v : ℤ) → IsBound x → lowerMet w x v ≡ meetsLower binary64 unitsInOne (high w) v x
 unfolding lowerMet isFinite low
 lower-is w nan v b = absurd (b .1)
 lower-is w (inf s) v b = refl
-lower-is w (fin s m e) v b = ap (λ (z : ℤ). le (fin s m e) (neg (high w)) || leZ z v) (scaled-rank (fin s m e) (b .0) tt)
+lower-is w (fin s m e) v b = ap (λ (z : ℤ). le (fin s m e) (neg (high w)) || leZ z v) (times-one-rank (fin s m e) (b .0) tt)
 
-pub upper-is : (w : Sentinel) (x : Float) (v : ℤ) → IsBound x → upperMet w x v ≡ meetsUpper binary64 unit (high w) v x
+pub upper-is : (w : Sentinel) (x : Float) (v : ℤ) → IsBound x → upperMet w x v ≡ meetsUpper binary64 unitsInOne (high w) v x
 unfolding upperMet isFinite
 upper-is w nan v b = absurd (b .1)
 upper-is w (inf s) v b = refl
-upper-is w (fin s m e) v b = ap (λ (z : ℤ). le (high w) (fin s m e) || leZ v z) (scaled-rank (fin s m e) (b .0) tt)
+upper-is w (fin s m e) v b = ap (λ (z : ℤ). le (high w) (fin s m e) || leZ v z) (times-one-rank (fin s m e) (b .0) tt)
 
 -- what meets a bound meets every weaker one
 pub lower-mono : (w : Sentinel) (x y : Float) (v : ℤ) → IsBound x → IsBound y → T (le x y) → T (lowerMet w y v) → T (lowerMet w x v)
-lower-mono w x y v bx by h k = rw (lower-is w x v bx) (lower-weaker binary64 unit unit-pos (high w) (high-bound w) v x y bx by h (subst T (lower-is w y v by) k))
+lower-mono w x y v bx by h k = rw (lower-is w x v bx) (lower-weaker binary64 unitsInOne units-pos (high w) (high-bound w) v x y bx by h (subst T (lower-is w y v by) k))
 
 pub upper-mono : (w : Sentinel) (x y : Float) (v : ℤ) → IsBound x → IsBound y → T (le x y) → T (upperMet w x v) → T (upperMet w y v)
-upper-mono w x y v bx by h k = rw (upper-is w y v by) (upper-weaker binary64 unit unit-pos (high w) (high-bound w) v x y bx by h (subst T (upper-is w x v bx) k))
+upper-mono w x y v bx by h k = rw (upper-is w y v by) (upper-weaker binary64 unitsInOne units-pos (high w) (high-bound w) v x y bx by h (subst T (upper-is w x v bx) k))
 
 module _ (w : Sentinel) (v : ℤ) (x y : Float) (bx : IsBound x) (by : IsBound y) where
   greater-met : T (lowerMet w (greater x y) v) ↔ (T (lowerMet w x v) × T (lowerMet w y v))
   unfolding greater
-  greater-met = rw (lower-is w (larger x y) v (larger-num binary64 x y bx by), lower-is w x v bx, lower-is w y v by) (lower-both binary64 unit unit-pos (high w) (high-bound w) v x y bx by)
+  greater-met = rw (lower-is w (larger x y) v (larger-num binary64 x y bx by), lower-is w x v bx, lower-is w y v by) (lower-both binary64 unitsInOne units-pos (high w) (high-bound w) v x y bx by)
 
   lesser-met : T (upperMet w (lesser x y) v) ↔ (T (upperMet w x v) × T (upperMet w y v))
   unfolding lesser
-  lesser-met = rw (upper-is w (smaller x y) v (smaller-num binary64 x y bx by), upper-is w x v bx, upper-is w y v by) (upper-both binary64 unit unit-pos (high w) (high-bound w) v x y bx by)
+  lesser-met = rw (upper-is w (smaller x y) v (smaller-num binary64 x y bx by), upper-is w x v bx, upper-is w y v by) (upper-both binary64 unitsInOne units-pos (high w) (high-bound w) v x y bx by)
 
 pub record IsInterval (i : Interval) : Type 0 where
   pub lower : IsBound (i .lower)

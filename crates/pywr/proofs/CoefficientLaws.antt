@@ -24,10 +24,10 @@ use Rattle.pywr.specs.declared.Sentinel.{Sentinel}
 use Rattle.pywr.specs.declared.Sentinel.the-variants.{Infinity, Largest}
 use Rattle.pywr.specs.Numbers.{double, zero64, million, millionth, high, low, lesser, greater}
 use Rattle.pywr.specs.Network.{Part}
-use Rattle.pywr.specs.Plans.{exact, meets, unit, signed, isFinite, scaled, lowerMet, upperMet}
+use Rattle.pywr.specs.Plans.{exact, meets, unitsInOne, signed, isFinite, timesOne, lowerMet, upperMet}
 use Rattle.pywr.specs.Allows.{onAmount}
 use Rattle.pywr.specs.Correspondence.{isWhole}
-use Rattle.pywr.proofs.ExactLaws.{unit-pos, finite-is, exact-rank, exact-neg}
+use Rattle.pywr.proofs.ExactLaws.{units-pos, finite-is, exact-rank, exact-neg}
 use Rattle.pywr.proofs.BoundLaws.{IsBound, high-bound, lower-mono, upper-mono}
 use Rattle.pywr.proofs.SumLaws.{grid, Upto}
 use Rattle.pywr.proofs.NumberLaws.{FiniteFit}
@@ -35,27 +35,27 @@ use Rattle.pywr.proofs.ReadLaws.{PartOk}
 
 -- ---- integers
 
-pub nonneg-scaled : (z : ℤ) → leZ (pos 0) (scaled z) ≡ leZ (pos 0) z
-unfolding scaled
-nonneg-scaled z = ap₂ (λ (a b : ℤ). leZ a b) (sym (*ℤ-zero (pos unit))) (*ℤ-comm z (pos unit)) ∙ scale-le unit (pos 0) z unit-pos
+pub nonneg-times-one : (z : ℤ) → leZ (pos 0) (timesOne z) ≡ leZ (pos 0) z
+unfolding timesOne
+nonneg-times-one z = ap₂ (λ (a b : ℤ). leZ a b) (sym (*ℤ-zero (pos unitsInOne))) (*ℤ-comm z (pos unitsInOne)) ∙ scale-le unitsInOne (pos 0) z units-pos
 
 -- what a coefficient and an amount sum to
-pub scaled-less : (a b : ℤ) → scaled a +ℤ (negℤ (pos unit) *ℤ b +ℤ pos 0) ≡ scaled (a -ℤ b)
-unfolding scaled
-scaled-less a b =
-    ap (λ (y : ℤ). a *ℤ pos unit +ℤ y) (+ℤ-idr (negℤ (pos unit) *ℤ b) ∙ *ℤ-comm (negℤ (pos unit)) b ∙ mul-negℤ b (pos unit) ∙ sym (neg-mulℤ b (pos unit))) ∙ sym (add-mulℤ a (negℤ b) (pos unit))
+pub times-one-less : (a b : ℤ) → timesOne a +ℤ (negℤ (pos unitsInOne) *ℤ b +ℤ pos 0) ≡ timesOne (a -ℤ b)
+unfolding timesOne
+times-one-less a b =
+    ap (λ (y : ℤ). a *ℤ pos unitsInOne +ℤ y) (+ℤ-idr (negℤ (pos unitsInOne) *ℤ b) ∙ *ℤ-comm (negℤ (pos unitsInOne)) b ∙ mul-negℤ b (pos unitsInOne) ∙ sym (neg-mulℤ b (pos unitsInOne))) ∙ sym (add-mulℤ a (negℤ b) (pos unitsInOne))
 
-pub less-scaled : (a b : ℤ) → scaled (negℤ a) +ℤ (pos unit *ℤ b +ℤ pos 0) ≡ scaled (b -ℤ a)
-unfolding scaled
-less-scaled a b =
-    ap (λ (y : ℤ). negℤ a *ℤ pos unit +ℤ y) (+ℤ-idr (pos unit *ℤ b) ∙ *ℤ-comm (pos unit) b)
-    ∙ +ℤ-comm (negℤ a *ℤ pos unit) (b *ℤ pos unit)
-    ∙ sym (add-mulℤ b (negℤ a) (pos unit))
+pub less-times-one : (a b : ℤ) → timesOne (negℤ a) +ℤ (pos unitsInOne *ℤ b +ℤ pos 0) ≡ timesOne (b -ℤ a)
+unfolding timesOne
+less-times-one a b =
+    ap (λ (y : ℤ). negℤ a *ℤ pos unitsInOne +ℤ y) (+ℤ-idr (pos unitsInOne *ℤ b) ∙ *ℤ-comm (pos unitsInOne) b)
+    ∙ +ℤ-comm (negℤ a *ℤ pos unitsInOne) (b *ℤ pos unitsInOne)
+    ∙ sym (add-mulℤ b (negℤ a) (pos unitsInOne))
 
-pub on-scaled : (on : Bool) (x : Float) → exact x *ℤ pos (cond on unit 0) ≡ scaled (onAmount on x)
-unfolding scaled onAmount
-on-scaled true x = refl
-on-scaled false x = *ℤ-zero (exact x) ∙ sym (ap pos (zero-mul unit))
+pub on-times-one : (on : Bool) (x : Float) → exact x *ℤ pos (cond on unitsInOne 0) ≡ timesOne (onAmount on x)
+unfolding timesOne onAmount
+on-times-one true x = refl
+on-times-one false x = *ℤ-zero (exact x) ∙ sym (ap pos (zero-mul unitsInOne))
 
 pub on-neg : (on : Bool) (x : Float) → onAmount on (neg x) ≡ negℤ (onAmount on x)
 unfolding onAmount
@@ -65,7 +65,7 @@ on-neg false x = refl
 -- ---- bounds 0 and the high sentinel
 
 pub zero-up : (w : Sentinel) (v : ℤ) → T (meets w (record { lower = zero64; upper = high w }) v) ↔ T (leZ (pos 0) v)
-unfolding meets lowerMet upperMet le lt eq low high neg ofBits isFinite zero64 exact signed scaled unit
+unfolding meets lowerMet upperMet le lt eq low high neg ofBits isFinite zero64 exact signed timesOne unitsInOne
 zero-up Infinity v = (λ h. and-l (leZ (pos 0) v) true h, λ h. and-i (leZ (pos 0) v) true h tt)
 zero-up Largest v = (λ h. and-l (leZ (pos 0) v) true h, λ h. and-i (leZ (pos 0) v) true h tt)
 
@@ -133,8 +133,8 @@ unfolding high ofBits
 high-rank Infinity = refl
 high-rank Largest = refl
 
-high-far : (w : Sentinel) → 1000 * unit < mag binary64 (high w)
-unfolding high ofBits mag unit
+high-far : (w : Sentinel) → 1000 * unitsInOne < mag binary64 (high w)
+unfolding high ofBits mag unitsInOne
 high-far Infinity = lit< tt
 high-far Largest = lit< tt
 
@@ -143,11 +143,11 @@ module _ (n : ℕ) (h : n ≤ 2 ^ 53) where
   unfolding double
   whole = ofNat binary64 false n h
 
-  whole-rank : rank binary64 (double n) ≡ pos (n * unit)
-  unfolding unit
+  whole-rank : rank binary64 (double n) ≡ pos (n * unitsInOne)
+  unfolding unitsInOne
   whole-rank = ap₂ (λ (s : Bool) (k : ℕ). with-sign s k) (whole .signIs) (whole .magIs)
 
-  whole-exact : exact (double n) ≡ pos (n * unit)
+  whole-exact : exact (double n) ≡ pos (n * unitsInOne)
   whole-exact = exact-rank (double n) (whole .fit) (whole .isFinite) ∙ whole-rank
 
   whole-finite : T (isFinite (double n))
@@ -157,47 +157,47 @@ module _ (n : ℕ) (h : n ≤ 2 ^ 53) where
   unfolding low
   not-low w t =
       let b : IsBound (high w) = high-bound w in
-      let k : T (leZ (pos (n * unit)) (negℤ (pos (mag binary64 (high w))))) = subst T (ap₂ (λ (y z : ℤ). leZ y z) whole-rank (neg-rank binary64 (high w) (b .1) ∙ ap negℤ (high-rank w))) (le→Z binary64 (double n) (neg (high w)) (double-bound n) (neg-num binary64 (high w) b) t) in
+      let k : T (leZ (pos (n * unitsInOne)) (negℤ (pos (mag binary64 (high w))))) = subst T (ap₂ (λ (y z : ℤ). leZ y z) whole-rank (neg-rank binary64 (high w) (b .1) ∙ ap negℤ (high-rank w))) (le→Z binary64 (double n) (neg (high w)) (double-bound n) (neg-num binary64 (high w) b) t) in
       let m : ℕ = mag binary64 (high w) in
       omega (ints, high-far w, neg-plus (pos m), neg-less (pos m))
 
   not-high : (w : Sentinel) → n ≤ 1000 → T (le (high w) (double n)) → ⊥
   not-high w l t =
-      let k : T (leZ (pos (mag binary64 (high w))) (pos (n * unit))) = subst T (ap₂ (λ (y z : ℤ). leZ y z) (high-rank w) whole-rank) (le→Z binary64 (high w) (double n) (high-bound w) (double-bound n) t) in
-      omega (tests, high-far w, mul-le-mul-right unit l)
+      let k : T (leZ (pos (mag binary64 (high w))) (pos (n * unitsInOne))) = subst T (ap₂ (λ (y z : ℤ). leZ y z) (high-rank w) whole-rank) (le→Z binary64 (high w) (double n) (high-bound w) (double-bound n) t) in
+      omega (tests, high-far w, mul-le-mul-right unitsInOne l)
 
 -- "min_active..max_active": a bound that is the double of a whole number, against a count
 module _ (w : Sentinel) (k : ℕ) (small : k ≤ 100) where
   abbrev v : ℤ
-  v = scaled (pos (k * unit))
+  v = timesOne (pos (k * unitsInOne))
 
-  scaled-le : (a b : ℕ) → T (leZ (scaled (pos (a * unit))) (scaled (pos (b * unit)))) ↔ (a ≤ b)
-  unfolding scaled
-  scaled-le a b =
-      (λ h. le-of-mul-le-mul-right (le-of-mul-le-mul-right (leb→le (a * unit * unit) (b * unit * unit) h) unit-pos) unit-pos, λ h. le→leb (a * unit * unit) (b * unit * unit) (mul-le-mul-right unit (mul-le-mul-right unit h)))
+  times-one-le : (a b : ℕ) → T (leZ (timesOne (pos (a * unitsInOne))) (timesOne (pos (b * unitsInOne)))) ↔ (a ≤ b)
+  unfolding timesOne
+  times-one-le a b =
+      (λ h. le-of-mul-le-mul-right (le-of-mul-le-mul-right (leb→le (a * unitsInOne * unitsInOne) (b * unitsInOne * unitsInOne) h) units-pos) units-pos, λ h. le→leb (a * unitsInOne * unitsInOne) (b * unitsInOne * unitsInOne) (mul-le-mul-right unitsInOne (mul-le-mul-right unitsInOne h)))
 
   lower-at : (n : ℕ) → n ≤ 101 → T (lowerMet w (double n) v) ↔ (n ≤ k)
   unfolding lowerMet
   lower-at n h =
       let few : n ≤ 2 ^ 53 = le-trans h (lit≤ tt) in
-      let e : exact (double n) ≡ pos (n * unit) = whole-exact n few in
+      let e : exact (double n) ≡ pos (n * unitsInOne) = whole-exact n few in
       let free : Bool = le (double n) (low w) in
       let f : Bool = isFinite (double n) in
-      let l : Bool = leZ (scaled (exact (double n))) v in (
-        λ t. or-elim free (f && l) t (λ u. absurd (not-low n few w u)) (λ u. scaled-le n k .0 (subst (λ (z : ℤ). T (leZ (scaled z) v)) e (and-r f l u))),
-        λ t. or-r free (f && l) (and-i f l (whole-finite n few) (subst (λ (z : ℤ). T (leZ (scaled z) v)) (sym e) (scaled-le n k .1 t))),
+      let l : Bool = leZ (timesOne (exact (double n))) v in (
+        λ t. or-elim free (f && l) t (λ u. absurd (not-low n few w u)) (λ u. times-one-le n k .0 (subst (λ (z : ℤ). T (leZ (timesOne z) v)) e (and-r f l u))),
+        λ t. or-r free (f && l) (and-i f l (whole-finite n few) (subst (λ (z : ℤ). T (leZ (timesOne z) v)) (sym e) (times-one-le n k .1 t))),
       )
 
   upper-at : (n : ℕ) → n ≤ 100 → T (upperMet w (double n) v) ↔ (k ≤ n)
   unfolding upperMet
   upper-at n h =
       let few : n ≤ 2 ^ 53 = le-trans h (lit≤ tt) in
-      let e : exact (double n) ≡ pos (n * unit) = whole-exact n few in
+      let e : exact (double n) ≡ pos (n * unitsInOne) = whole-exact n few in
       let free : Bool = le (high w) (double n) in
       let f : Bool = isFinite (double n) in
-      let l : Bool = leZ v (scaled (exact (double n))) in (
-        λ t. or-elim free (f && l) t (λ u. absurd (not-high n few w (le-trans h (lit≤ tt)) u)) (λ u. scaled-le k n .0 (subst (λ (z : ℤ). T (leZ v (scaled z))) e (and-r f l u))),
-        λ t. or-r free (f && l) (and-i f l (whole-finite n few) (subst (λ (z : ℤ). T (leZ v (scaled z))) (sym e) (scaled-le k n .1 t))),
+      let l : Bool = leZ v (timesOne (exact (double n))) in (
+        λ t. or-elim free (f && l) t (λ u. absurd (not-high n few w (le-trans h (lit≤ tt)) u)) (λ u. times-one-le k n .0 (subst (λ (z : ℤ). T (leZ v (timesOne z))) e (and-r f l u))),
+        λ t. or-r free (f && l) (and-i f l (whole-finite n few) (subst (λ (z : ℤ). T (leZ v (timesOne z))) (sym e) (times-one-le k n .1 t))),
       )
 
   lower-count : (m : ℕ) → T (lowerMet w (double m) v) ↔ T (leb m k)
@@ -216,11 +216,11 @@ module _ (w : Sentinel) (k : ℕ) (small : k ≤ 100) where
       under : suc m ≤ k → T (upperMet w (double m) v) → ⊥
       under l h = let g : k ≤ m = upper-at m (omega arith) .0 h in omega arith
 
-pub count-met : (w : Sentinel) (k : ℕ) → k ≤ 100 → (m n : ℕ) → T (meets w (record { lower = double m; upper = double n }) (scaled (pos (k * unit)))) ↔ T (leb m k && leb k n)
+pub count-met : (w : Sentinel) (k : ℕ) → k ≤ 100 → (m n : ℕ) → T (meets w (record { lower = double m; upper = double n }) (timesOne (pos (k * unitsInOne)))) ↔ T (leb m k && leb k n)
 unfolding meets
 count-met w k small m n =
-    let a : Bool = lowerMet w (double m) (scaled (pos (k * unit))) in
-    let b : Bool = upperMet w (double n) (scaled (pos (k * unit))) in
+    let a : Bool = lowerMet w (double m) (timesOne (pos (k * unitsInOne))) in
+    let b : Bool = upperMet w (double n) (timesOne (pos (k * unitsInOne))) in
     let l = lower-count w k small m in
     let u = upper-count w k small n in
     (λ h. and-i (leb m k) (leb k n) (l .0 (and-l a b h)) (u .0 (and-r a b h)), λ h. and-i a b (l .1 (and-l (leb m k) (leb k n) h)) (u .1 (and-r (leb m k) (leb k n) h)))
@@ -238,5 +238,5 @@ grid-factor g m x fit isFinite t =
     record { grain = record { fit = fit; isFinite = isFinite; count = n / u; is = whole }; most = le-trans (le-of-eq whole) (mul-le-mul-right u few) }
 
 pub whole-factor : (p : Part) → PartOk p → T (isWhole p) → Upto 0 1000000 (p .factor)
-unfolding isWhole unit
+unfolding isWhole unitsInOne
 whole-factor p ok t = grid-factor 0 1000000 (p .factor) (ok .fit) (ok .finite) t

@@ -13,14 +13,14 @@ use Rattle.doubles.proofs.Integers.{eqZ→eq}
 use Rattle.doubles.proofs.Units.{quotient-is-mag, eq-is}
 use Rattle.doubles.proofs.Sums.{add-zero-rank, add-zero-finite}
 use Rattle.pywr.specs.Numbers.{zero64}
-use Rattle.pywr.specs.Plans.{exact, unit, signed, isFinite}
+use Rattle.pywr.specs.Plans.{exact, unitsInOne, signed, isFinite}
 
-pub unit-pos : 0 < unit
-unfolding unit
-unit-pos = pow-pos 1074
+pub units-pos : 0 < unitsInOne
+unfolding unitsInOne
+units-pos = pow-pos 1074
 
 pub exact-rank : (x : Float) → T (fits binary64 x) → T (finite x) → exact x ≡ rank binary64 x
-unfolding exact signed unit
+unfolding exact signed unitsInOne
 exact-rank nan p n = absurd n
 exact-rank (inf s) p n = absurd n
 exact-rank (fin true m e) p n = ap (λ (k : ℕ). negℤ (pos k)) (quotient-is-mag binary64 true m e p)

@@ -26,7 +26,7 @@ use Rattle.pywr.specs.Rows.{Element, addElement, addOn, ColumnMap, colum
 use Rattle.pywr.specs.Programme.{Column, Row}
 use Rattle.pywr.specs.FixedRows.{upperCoefficient, lowerCoefficient, exclusiveRows, constantRows, constantRowsFrom, exclusivityRows}
 use Rattle.pywr.specs.Build.{edgeColumn, setColumn, allColumns}
-use Rattle.pywr.specs.Plans.{exact, meets, Plan, unit, signed, isFinite, scaled, lowerMet, upperMet, allFrom}
+use Rattle.pywr.specs.Plans.{exact, meets, Plan, unitsInOne, signed, isFinite, timesOne, lowerMet, upperMet, allFrom}
 use Rattle.pywr.specs.Allows.{nodeAmount, onAmount, exclusiveMeets, onCount}
 use Rattle.pywr.specs.Admits.{onColumn, rowSum, columnMet}
 use Rattle.pywr.proofs.SumLaws.{AllUpto}
@@ -41,7 +41,7 @@ use Rattle.pywr.proofs.MembershipLaws.{exclusive-lists, exclusive-liste
 use Rattle.pywr.proofs.ReadLaws.{Sound}
 use Rattle.pywr.proofs.FitLaws.{columns-long}
 use Rattle.pywr.proofs.NumberLaws.{FiniteFit}
-use Rattle.pywr.proofs.CoefficientLaws.{nonneg-scaled, scaled-less, less-scaled, on-scaled, on-neg, zero-up, upper-finite, lower-finite, count-met}
+use Rattle.pywr.proofs.CoefficientLaws.{nonneg-times-one, times-one-less, less-times-one, on-times-one, on-neg, zero-up, upper-finite, lower-finite, count-met}
 
 -- ---- a node's row stays under the edge columns
 
@@ -76,12 +76,12 @@ count-few plan (s ∷ ss) = go (plan .on s) (count-few plan ss)
     go true h = omega arith
     go false h = omega arith
 
-unit-comm : (k : ℕ) → pos unit *ℤ pos (k * unit) ≡ scaled (pos (k * unit))
-unfolding scaled
-unit-comm k = *ℤ-comm (pos unit) (pos (k * unit))
+units-comm : (k : ℕ) → pos unitsInOne *ℤ pos (k * unitsInOne) ≡ timesOne (pos (k * unitsInOne))
+unfolding timesOne
+units-comm k = *ℤ-comm (pos unitsInOne) (pos (k * unitsInOne))
 
-zero-one : (w : Sentinel) (b : Bool) → T (meets w (record { lower = zero64; upper = one64 }) (scaled (pos (cond b unit 0))))
-unfolding meets lowerMet upperMet le lt eq low high neg ofBits isFinite zero64 one64 exact signed scaled unit
+zero-one : (w : Sentinel) (b : Bool) → T (meets w (record { lower = zero64; upper = one64 }) (timesOne (pos (cond b unitsInOne 0))))
+unfolding meets lowerMet upperMet le lt eq low high neg ofBits isFinite zero64 one64 exact signed timesOne unitsInOne
 zero-one Infinity true = tt
 zero-one Infinity false = tt
 zero-one Largest true = tt
@@ -100,7 +100,7 @@ module _ (w : Sentinel) (net : Network) (sound : Sound net) (plan : Plan) (carri
   pub room : E * 1 + E * 1 < 2 ^ 53
   room = let e = sound .good .edgeCount in let a : E * 1 + E * 1 ≤ 1024 = omega arith in lt-of-le-of-lt a (lit< tt)
 
-  pub node-amount : (n : ℕ) → rowSum f plan (nodeRow f n) ≡ scaled (nodeAmount net plan n)
+  pub node-amount : (n : ℕ) → rowSum f plan (nodeRow f n) ≡ timesOne (nodeAmount net plan n)
   node-amount n = nodeRow-sum net plan (columns-long net) carries n room
 
   node-under : (n : ℕ) (x : Float) → Under (columnMap net .edgeColumns) (addNode f n x [])
@@ -124,27 +124,27 @@ module _ (w : Sentinel) (net : Network) (sound : Sound net) (plan : Plan) (carri
   onSet k = plan .on (getD (f .sets) k [])
 
   -- a coefficient c on the set's column, beside minus or plus the node's row
-  with-coefficient : (n k : ℕ) (x c : Float) → FiniteFit c → rowSum f plan (addElement (f .edgeColumns + k) c (addNode f n x [])) ≡ scaled (onAmount (onSet k) c) +ℤ rowSum f plan (addNode f n x [])
+  with-coefficient : (n k : ℕ) (x c : Float) → FiniteFit c → rowSum f plan (addElement (f .edgeColumns + k) c (addNode f n x [])) ≡ timesOne (onAmount (onSet k) c) +ℤ rowSum f plan (addNode f n x [])
   with-coefficient n k x c ok =
       coefficient-sum f plan (f .edgeColumns + k) c (ok .fit) (ok .finite) (addNode f n x []) (under-more (f .edgeColumns) (f .edgeColumns + k) (addNode f n x []) (omega arith) (node-under n x))
-      ∙ ap (λ (z : ℤ). z +ℤ rowSum f plan (addNode f n x [])) (ap (λ (m : ℕ). exact c *ℤ pos m) (set-column f plan k) ∙ on-scaled (onSet k) c)
+      ∙ ap (λ (z : ℤ). z +ℤ rowSum f plan (addNode f n x [])) (ap (λ (m : ℕ). exact c *ℤ pos m) (set-column f plan k) ∙ on-times-one (onSet k) c)
 
-  plus-node : (n : ℕ) → rowSum f plan (addNode f n one64 []) ≡ pos unit *ℤ nodeAmount net plan n +ℤ pos 0
+  plus-node : (n : ℕ) → rowSum f plan (addNode f n one64 []) ≡ pos unitsInOne *ℤ nodeAmount net plan n +ℤ pos 0
   unfolding rowSum
   plus-node n =
       node-sum net plan (columns-long net) carries n one64 1 one-upto 0 [] AllUpto.none (let r = room in omega arith)
       ∙ ap (λ (z : ℤ). z *ℤ nodeAmount net plan n +ℤ pos 0) one-exact
 
-  minus-node : (n : ℕ) → rowSum f plan (addNode f n (neg one64) []) ≡ negℤ (pos unit) *ℤ nodeAmount net plan n +ℤ pos 0
+  minus-node : (n : ℕ) → rowSum f plan (addNode f n (neg one64) []) ≡ negℤ (pos unitsInOne) *ℤ nodeAmount net plan n +ℤ pos 0
   unfolding rowSum
   minus-node n =
       node-sum net plan (columns-long net) carries n (neg one64) 1 (neg-upto 1 one64 one-upto) 0 [] AllUpto.none (let r = room in omega arith)
       ∙ ap (λ (z : ℤ). z *ℤ nodeAmount net plan n +ℤ pos 0) (exact-neg one64 ∙ ap negℤ one-exact)
 
-  above-zero : (v : ℤ) (a b : ℤ) → v ≡ scaled (a -ℤ b) → T (meets w (record { lower = zero64; upper = high w }) v) ↔ T (leZ b a)
+  above-zero : (v : ℤ) (a b : ℤ) → v ≡ timesOne (a -ℤ b) → T (meets w (record { lower = zero64; upper = high w }) v) ↔ T (leZ b a)
   above-zero v a b e =
       let z = zero-up w v in
-      let same : leZ (pos 0) v ≡ leZ b a = ap (leZ (pos 0)) e ∙ nonneg-scaled (a -ℤ b) ∙ difference-le b a in
+      let same : leZ (pos 0) v ≡ leZ b a = ap (leZ (pos 0)) e ∙ nonneg-times-one (a -ℤ b) ∙ difference-le b a in
       (λ h. subst T same (z .0 h), λ h. z .1 (subst T (sym same) h))
 
   -- "at most min(max, 1e6) when on and 0 when off"
@@ -153,7 +153,7 @@ module _ (w : Sentinel) (net : Network) (sound : Sound net) (plan : Plan) (carri
   upper-met n k max ok =
       let c : Float = lesser max million in
       above-zero (rowSum f plan (addElement (f .edgeColumns + k) c (addNode f n (neg one64) []))) (onAmount (onSet k) c) (nodeAmount net plan n)
-      (with-coefficient n k (neg one64) c ok ∙ ap (λ (z : ℤ). scaled (onAmount (onSet k) c) +ℤ z) (minus-node n) ∙ scaled-less (onAmount (onSet k) c) (nodeAmount net plan n))
+      (with-coefficient n k (neg one64) c ok ∙ ap (λ (z : ℤ). timesOne (onAmount (onSet k) c) +ℤ z) (minus-node n) ∙ times-one-less (onAmount (onSet k) c) (nodeAmount net plan n))
 
   -- "at least max(min, 1e-6) when on and 0 when off"
   lower-met : (n k : ℕ) (min : Float) → FiniteFit (neg (greater min millionth)) → Met w f plan (record { lower = zero64; upper = high w; elements = lowerRow f n k (lowerCoefficient min) }) ↔ T (leZ (onAmount (onSet k) (greater min millionth)) (nodeAmount net plan n))
@@ -162,8 +162,8 @@ module _ (w : Sentinel) (net : Network) (sound : Sound net) (plan : Plan) (carri
       let c : Float = greater min millionth in
       above-zero (rowSum f plan (addElement (f .edgeColumns + k) (neg c) (addNode f n one64 []))) (nodeAmount net plan n) (onAmount (onSet k) c)
       (with-coefficient n k one64 (neg c) ok
-      ∙ ap₂ (λ (y z : ℤ). scaled y +ℤ z) (on-neg (onSet k) c) (plus-node n)
-      ∙ less-scaled (onAmount (onSet k) c) (nodeAmount net plan n))
+      ∙ ap₂ (λ (y z : ℤ). timesOne y +ℤ z) (on-neg (onSet k) c) (plus-node n)
+      ∙ less-times-one (onAmount (onSet k) c) (nodeAmount net plan n))
 
   abbrev Rule : ℕ → ℕ → Interval → Type 0
   Rule n k i = T (exclusiveMeets (onSet k) i (nodeAmount net plan n))
@@ -201,7 +201,7 @@ module _ (w : Sentinel) (net : Network) (sound : Sound net) (plan : Plan) (carri
   -- ---- the rows of constant nodes
 
   pub record ConstantMet (n : ℕ) (x : Node) : Type 0 where
-    pub plain : T (not (isExclusive (net .aggregates) n)) → T (meets w (bounds x) (scaled (nodeAmount net plan n)))
+    pub plain : T (not (isExclusive (net .aggregates) n)) → T (meets w (bounds x) (timesOne (nodeAmount net plan n)))
     pub exclusive : (k : ℕ) → List·Memᴰ k (setsWithNode n 0 (f .sets)) → Rule n k (bounds x)
 
   constant-one : (n : ℕ) (x : Node) → getElem? (net .nodes) n ≡ some x → T (x .constant) → (l : List ℕ) → setsWithNode n 0 (f .sets) ≡ l → Every (Met w f plan) (constantRows w f n x l) ↔ ConstantMet n x
@@ -253,7 +253,7 @@ module _ (w : Sentinel) (net : Network) (sound : Sound net) (plan : Plan) (carri
       let known : Known (exclusiveSets net) (a .sets) = known-all (exclusiveSets net) (a .sets) (λ s k. from-known net s (record { aggregate = a; known = m; exclusive = t; has = k })) in
       let big : 0 + length (a .sets) ≤ 16 = omega arith in
       let sum = active-sum f plan (a .sets) known 0 [] AllUpto.none (lt-of-le-of-lt big (lit< tt)) in
-      let s : rowSum f plan (addActive f (a .sets) []) ≡ scaled (pos (onCount plan (a .sets) * unit)) = sum ∙ +ℤ-idr (exact one64 *ℤ pos (onCount plan (a .sets) * unit)) ∙ ap (λ (z : ℤ). z *ℤ pos (onCount plan (a .sets) * unit)) one-exact ∙ unit-comm (onCount plan (a .sets)) in
+      let s : rowSum f plan (addActive f (a .sets) []) ≡ timesOne (pos (onCount plan (a .sets) * unitsInOne)) = sum ∙ +ℤ-idr (exact one64 *ℤ pos (onCount plan (a .sets) * unitsInOne)) ∙ ap (λ (z : ℤ). z *ℤ pos (onCount plan (a .sets) * unitsInOne)) one-exact ∙ units-comm (onCount plan (a .sets)) in
       let r = count-met w (onCount plan (a .sets)) (let q : onCount plan (a .sets) ≤ 100 = omega arith in q) (a .minActive) (a .maxActive) in
       (λ h. r .0 (subst (λ (v : ℤ). T (meets w (record { lower = double (a .minActive); upper = double (a .maxActive) }) v)) s h), λ h. subst (λ (v : ℤ). T (meets w (record { lower = double (a .minActive); upper = double (a .maxActive) }) v)) (sym s) (r .1 h))
 
@@ -277,14 +277,14 @@ module _ (w : Sentinel) (net : Network) (sound : Sound net) (plan : Plan) (carri
 module _ (w : Sentinel) (g : ColumnMap) (plan : Plan) where
   edge-met : (n : ℕ) → T (columnMet w g plan n (edgeColumn w))
   unfolding columnMet edgeColumn
-  edge-met n = zero-up w (scaled (pos (onColumn g plan n))) .1 (rw (nonneg-scaled (pos (onColumn g plan n))) (le→leb 0 (onColumn g plan n) zero-le))
+  edge-met n = zero-up w (timesOne (pos (onColumn g plan n))) .1 (rw (nonneg-times-one (pos (onColumn g plan n))) (le→leb 0 (onColumn g plan n) zero-le))
 
   set-met : (n : ℕ) → g .edgeColumns ≤ n → T (columnMet w g plan n setColumn)
   unfolding columnMet setColumn
   set-met n h =
       let k : ℕ = n - g .edgeColumns in
       let e : g .edgeColumns + k ≡ n = omega arith in
-      subst (λ (m : ℕ). T (meets w (record { lower = zero64; upper = one64 }) (scaled (pos m)))) (sym (ap (onColumn g plan) (sym e) ∙ set-column g plan k)) (zero-one w (plan .on (getD (g .sets) k [])))
+      subst (λ (m : ℕ). T (meets w (record { lower = zero64; upper = one64 }) (timesOne (pos m)))) (sym (ap (onColumn g plan) (sym e) ∙ set-column g plan k)) (zero-one w (plan .on (getD (g .sets) k [])))
 
   sets-met : (k n : ℕ) → g .edgeColumns ≤ n → T (allFrom (columnMet w g plan) n (replicate k setColumn))
   unfolding allFrom
@@ -307,7 +307,7 @@ module _ (w : Sentinel) (g : ColumnMap) (plan : Plan) where
       let hu : c .upper ≡ d .upper = cc in
       let tl : map (λ (x : Column). x .lower) cs ≡ map (λ (x : Column). x .lower) ds = cc in
       let tu : map (λ (x : Column). x .upper) cs ≡ map (λ (x : Column). x .upper) ds = cc in
-      ap₂ (λ (a b : Bool). a && b) (ap₂ (λ (x y : Float). meets w (record { lower = x; upper = y }) (scaled (pos (onColumn g plan n)))) hl hu) (same-bounds cs ds (suc n) tl tu)
+      ap₂ (λ (a b : Bool). a && b) (ap₂ (λ (x y : Float). meets w (record { lower = x; upper = y }) (timesOne (pos (onColumn g plan n)))) hl hu) (same-bounds cs ds (suc n) tl tu)
 
   pub columns-met : (cs : List Column) → map (λ (c : Column). c .lower) cs ≡ map (λ (c : Column). c .lower) (allColumns w g) → map (λ (c : Column). c .upper) cs ≡ map (λ (c : Column). c .upper) (allColumns w g)
       → T (allFrom (columnMet w g plan) 0 cs)

@@ -1,6 +1,6 @@
 -- Rows that are joined: the row at a place has the sum of the row that was asked for. Assumes nothing.
 use mathlib.Core.Path.{_≡_, refl, sym, ap, ap₂, _∙_, subst}
-use Prim.Native.Nat.{ℕ, zero, suc, _<_, _≤_, suc-le-suc, zero-le, compare, Ordering, Ordering·lt, Ordering·eq, Ordering·gt}
+use Prim.Native.Nat.{ℕ, zero, suc, _<_, _≤_, suc-le-suc, zero-le}
 use native.Mathlib.Nat.{not-suc-le-zero, le-of-suc-le-suc}
 use native.Mathlib.Omega.{arith}
 use mathlib.Core.Bool.{Bool, true, false, cond, _&&_}
@@ -12,10 +12,11 @@ use lib.Dec.{T, eqb, ltb, eqb→eq, ltb→lt}
 use lib.Ieee.{Float, binary64, fits, eq}
 use lib.Ieee.Fits.{and-l, and-r, add-fits}
 use borrow.Author.Tests.{ltb-false}
-use Rattle.pywr.specs.Rows.{Element, insert, addElement, addOn, ColumnMap}
+use Rattle.pywr.specs.Rows.{Element, addElement, addOn, ColumnMap}
 use Rattle.pywr.specs.VariableRows.{sameRow, position, addVariableRows, Joined, addVariableRow}
 use Rattle.pywr.specs.Plans.{exact, Plan}
 use Rattle.pywr.specs.Admits.{onColumn, rowSum}
+use Rattle.pywr.proofs.ElementLaws.{add-none, add-cases}
 use Rattle.pywr.proofs.ExactLaws.{eq-exact}
 
 -- every factor is a double
@@ -24,14 +25,9 @@ pub data AllFit : List Element → Type 0 where
   more : {e : Element} {es : List Element} → T (fits binary64 (e .value)) → AllFit es → AllFit (e ∷ es)
 
 pub add-fit : (c : ℕ) (x : Float) (row : List Element) → AllFit row → AllFit (addElement c x row)
-unfolding addElement insert
-add-fit c x [] none = more (add-fits binary64 _ x) none
-add-fit c x (e ∷ es) (more h hs) = go (add-fit c x es hs) (compare c (e .column))
-  where
-    go : AllFit (addElement c x es) → (o : Ordering) → AllFit (insert o c x e es (addElement c x es))
-    go ih Ordering·lt = more (add-fits binary64 _ x) (more h hs)
-    go ih Ordering·eq = more (add-fits binary64 (e .value) x) hs
-    go ih Ordering·gt = more h ih
+add-fit c x [] none = rw (add-none c x) (more (add-fits binary64 _ x) none)
+add-fit c x (e ∷ es) (more h hs) =
+    add-cases c x e es AllFit (λ l. more (add-fits binary64 _ x) (more h hs)) (λ l. more (add-fits binary64 (e .value) x) hs) (λ l. more h (add-fit c x es hs))
 
 pub add-on-fit : (cs : List ℕ) (x : Float) (row : List Element) → AllFit row → AllFit (addOn cs x row)
 unfolding addOn

@@ -9,6 +9,7 @@ use mathlib.Core.List.{List, [], _∷_, List·Memᴰ, List·Memᴰ·head, List·
 use mathlib.Core.Option.{Option, none, some}
 use lib.ListN.{length, getElem?, length-replicate}
 use lib.Dec.{T, eqb, eqb→eq, eqb-refl}
+use borrow.Author.Tests.{ne-eqb}
 use Rattle.pywr.specs.Network.{link, Edge, Network, kindOf, keepIf, source, target, edgesWith, incoming, outgoing}
 use Rattle.pywr.specs.ColEdgeMap.{columns, Columns, columnAt, single, sharesWith}
 use Rattle.pywr.proofs.ColumnLaws.{Inside, Closed, Kept, places-kept, start, Paths, paths-closed, paths-start, Even, even-closed, even-start}
@@ -84,13 +85,17 @@ pub record Single (into out : List ℕ) (p : ℕ) : Type 0 where
   pub into-is : into ≡ p ∷ []
   pub out-is : out ≡ exit ∷ []
 
-single-is : (into out : List ℕ) (p : ℕ) → single into out ≡ some p → Single into out p
+-- two edges or more are not one
+pub many : (a b : ℕ) (rest : List ℕ) → eqb (length (a ∷ b ∷ rest)) 1 ≡ false
+many a b rest = ne-eqb (suc (suc (length rest))) 1 (λ q. omega arith)
+
+pub single-is : (into out : List ℕ) (p : ℕ) → single into out ≡ some p → Single into out p
 unfolding single
 single-is [] out p h = let z : _≡_ {A = ℕ} 0 1 = cc in absurd (omega arith)
 single-is (i ∷ []) [] p h = let z : _≡_ {A = ℕ} 0 1 = cc in absurd (omega arith)
 single-is (i ∷ []) (o ∷ []) p h = let q : i ≡ p = cc in record { exit = o; into-is = ap (λ (k : ℕ). k ∷ []) q; out-is = refl }
-single-is (i ∷ []) (o ∷ o′ ∷ out) p h = let z : _≡_ {A = ℕ} 0 1 = cc in absurd (omega arith)
-single-is (i ∷ j ∷ into) out p h = let z : _≡_ {A = ℕ} 0 1 = cc in absurd (omega arith)
+single-is (i ∷ []) (o ∷ o′ ∷ out) p h = let g = rw (many o o′ out) at h in let z : _≡_ {A = ℕ} 0 1 = cc in absurd (omega arith)
+single-is (i ∷ j ∷ into) out p h = let g = rw (many i j into) at h in let z : _≡_ {A = ℕ} 0 1 = cc in absurd (omega arith)
 
 shares-single : (net : Network) (x : Edge) (p : ℕ) → sharesWith net x ≡ some p → T (eqb (kindOf (net .nodes) (x .from)) link) × Single (incoming net (x .from)) (outgoing net (x .from)) p
 unfolding sharesWith

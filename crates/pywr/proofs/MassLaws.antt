@@ -1,7 +1,7 @@
 -- Mass rows: kept or dropped, they are met exactly if the links balance. Assumes nothing.
 use mathlib.Core.Path.{_≡_, refl, sym, ap, _∙_, subst}
 use mathlib.Core.Logic.{_⊎_, inl, inr, _↔_}
-use Prim.Native.Nat.{ℕ, zero, suc, _+_, _*_, _^_, _<_, zero-le, suc-le-suc, compare, Ordering, Ordering·lt, Ordering·eq, Ordering·gt}
+use Prim.Native.Nat.{ℕ, zero, suc, _+_, _*_, _^_, _<_, zero-le, suc-le-suc}
 use native.Mathlib.Nat.{add-zero, add-suc, suc-add, zero-add, eq-of-mul-eq-mul-right, zero-mul, mul-pos}
 use native.Mathlib.Omega.{arith}
 use mathlib.Core.Bool.{Bool, true, false, cond, not, _&&_}
@@ -10,7 +10,7 @@ use mathlib.Core.Option.{Option, some, Option·getD}
 use lib.ListN.{length, getElem?}
 use lib.IntN.{ℤ, pos, negsuc, negℤ, _+ℤ_, _-ℤ_, +ℤ-invr, natAbs, -ℤ-+ℤ-cancel}
 use lib.Signed.{leZ}
-use lib.Dec.{T, isEq, eqb, leb, eqb→eq, eqb-refl, leb→le}
+use lib.Dec.{T, eqb, leb, eqb→eq, eqb-refl, leb→le}
 use lib.Ieee.{Float, neg, le, lt, eq, ofBits}
 use lib.Ieee.Fits.{and-i, and-l, and-r}
 use Rattle.pywr.specs.declared.Sentinel.{Sentinel}
@@ -18,13 +18,14 @@ use Rattle.pywr.specs.declared.Sentinel.the-variants.{Infinity, Largest}
 use Rattle.pywr.specs.Numbers.{zero64, one64, high, low}
 use Rattle.pywr.specs.Network.{link, Node, Edge, Network, keepIf, source, target, incoming, outgoing}
 use Rattle.pywr.specs.ColEdgeMap.{columns, columnAt, MappedEdge, withColumns, mappedEdges}
-use Rattle.pywr.specs.Rows.{Element, insert, addElement, addOn, ColumnMap, columnMap, columnsWith, columnsInto, columnsOutOf, massRow}
+use Rattle.pywr.specs.Rows.{Element, addElement, addOn, ColumnMap, columnMap, columnsWith, columnsInto, columnsOutOf, massRow}
 use Rattle.pywr.specs.Programme.{Row}
 use Rattle.pywr.specs.FixedRows.{massRowsFrom}
-use Rattle.pywr.specs.Plans.{exact, meets, Plan, unit, signed, isFinite, scaled, lowerMet, upperMet, allFrom}
+use Rattle.pywr.specs.Plans.{exact, meets, Plan, unitsInOne, signed, isFinite, timesOne, lowerMet, upperMet, allFrom}
 use Rattle.pywr.specs.Allows.{inflow, outflow}
 use Rattle.pywr.specs.Admits.{onColumn, rowSum, rowMet}
-use Rattle.pywr.proofs.ExactLaws.{unit-pos}
+use Rattle.pywr.proofs.ElementLaws.{add-none, add-cases}
+use Rattle.pywr.proofs.ExactLaws.{units-pos}
 use Rattle.pywr.proofs.LinkLaws.{NoSelf, ends-sound, one-column-single}
 use Rattle.pywr.proofs.AmountLaws.{Carries, mass-sum}
 use Rattle.pywr.proofs.EvenLaws.{amounts, flow-amounts, mapped-edge-of}
@@ -36,29 +37,12 @@ pub data HasColumn (c : ℕ) : List Element → Type 0 where
   there : {e : Element} {es : List Element} → HasColumn c es → HasColumn c (e ∷ es)
 
 pub added : (c : ℕ) (x : Float) (row : List Element) → HasColumn c (addElement c x row)
-unfolding addElement insert
-added c x [] = here refl
-added c x (e ∷ es) = go (added c x es) (compare c (e .column))
-  where
-    go : HasColumn c (addElement c x es) → (o : Ordering) → HasColumn c (insert o c x e es (addElement c x es))
-    go ih Ordering·lt = here refl
-    go ih Ordering·eq = here refl
-    go ih Ordering·gt = there ih
+added c x [] = rw (add-none c x) (here refl)
+added c x (e ∷ es) = add-cases c x e es (HasColumn c) (λ h. here refl) (λ h. here refl) (λ h. there (added c x es))
 
 still : (c d : ℕ) (x : Float) (row : List Element) → HasColumn c row → HasColumn c (addElement d x row)
-unfolding addElement insert
-still c d x (e ∷ es) (here q) = go (compare d (e .column)) refl
-  where
-    go : (o : Ordering) → compare d (e .column) ≡ o → HasColumn c (insert o d x e es (addElement d x es))
-    go Ordering·lt r = there (here q)
-    go Ordering·eq r = here (eqb→eq d (e .column) (subst (λ (o : Ordering). T (isEq o)) (sym r) tt) ∙ q)
-    go Ordering·gt r = here q
-still c d x (e ∷ es) (there h) = go (still c d x es h) (compare d (e .column))
-  where
-    go : HasColumn c (addElement d x es) → (o : Ordering) → HasColumn c (insert o d x e es (addElement d x es))
-    go ih Ordering·lt = there (there h)
-    go ih Ordering·eq = there h
-    go ih Ordering·gt = there ih
+still c d x (e ∷ es) (here q) = add-cases d x e es (HasColumn c) (λ h. there (here q)) (λ h. here (h ∙ q)) (λ h. here q)
+still c d x (e ∷ es) (there h) = add-cases d x e es (HasColumn c) (λ l. there (there h)) (λ l. there h) (λ l. there (still c d x es h))
 
 still-on : (c : ℕ) (cs : List ℕ) (x : Float) (row : List Element) → HasColumn c row → HasColumn c (addOn cs x row)
 unfolding addOn
@@ -179,7 +163,7 @@ zero-both (pos n) h = let k = leb→le n 0 (and-r (leb 0 n) (leb n 0) h) in ap p
 zero-both (negsuc n) h = absurd h
 
 pub zero-met : (w : Sentinel) (v : ℤ) → T (meets w (record { lower = zero64; upper = zero64 }) v) ↔ (v ≡ pos 0)
-unfolding meets lowerMet upperMet le lt eq low high neg ofBits isFinite zero64 exact signed scaled unit
+unfolding meets lowerMet upperMet le lt eq low high neg ofBits isFinite zero64 exact signed timesOne unitsInOne
 zero-met Infinity v = (zero-both v, λ e. rw e tt)
 zero-met Largest v = (zero-both v, λ e. rw e tt)
 
@@ -187,17 +171,17 @@ abs-neg-pos : (m : ℕ) → natAbs (negℤ (pos m)) ≡ m
 abs-neg-pos zero = refl
 abs-neg-pos (suc m) = refl
 
-scaled-zero : (z : ℤ) → scaled z ≡ pos 0 → z ≡ pos 0
-unfolding scaled
-scaled-zero (pos n) h = ap pos (eq-of-mul-eq-mul-right unit unit-pos n 0 (ap natAbs h ∙ sym (zero-mul unit)))
-scaled-zero (negsuc n) h =
-    let z : suc n * unit ≡ 0 = sym (abs-neg-pos (suc n * unit)) ∙ ap natAbs h in
-    let p : 0 < suc n * unit = mul-pos (suc-le-suc zero-le) unit-pos in
+times-one-zero : (z : ℤ) → timesOne z ≡ pos 0 → z ≡ pos 0
+unfolding timesOne
+times-one-zero (pos n) h = ap pos (eq-of-mul-eq-mul-right unitsInOne units-pos n 0 (ap natAbs h ∙ sym (zero-mul unitsInOne)))
+times-one-zero (negsuc n) h =
+    let z : suc n * unitsInOne ≡ 0 = sym (abs-neg-pos (suc n * unitsInOne)) ∙ ap natAbs h in
+    let p : 0 < suc n * unitsInOne = mul-pos (suc-le-suc zero-le) units-pos in
     absurd (omega arith)
 
-pub scaled-of-zero : scaled (pos 0) ≡ pos 0
-unfolding scaled
-scaled-of-zero = ap pos (zero-mul unit)
+pub times-one-of-zero : timesOne (pos 0) ≡ pos 0
+unfolding timesOne
+times-one-of-zero = ap pos (zero-mul unitsInOne)
 
 diff-zero : (a b : ℕ) → pos a -ℤ pos b ≡ pos 0 → a ≡ b
 diff-zero a b h =
@@ -249,10 +233,10 @@ module _ (w : Sentinel) (net : Network) (noself : NoSelf net) (plan : Plan) (lon
 
   kept-met : (n : ℕ) → Met w g plan (record { lower = zero64; upper = zero64; elements = massRow g n }) ↔ (inflow net plan n ≡ outflow net plan n)
   kept-met n =
-      let s : rowSum g plan (massRow g n) ≡ scaled (pos (inflow net plan n) -ℤ pos (outflow net plan n)) = mass-sum net plan long carries n room in
+      let s : rowSum g plan (massRow g n) ≡ timesOne (pos (inflow net plan n) -ℤ pos (outflow net plan n)) = mass-sum net plan long carries n room in
       let z = zero-met w (rowSum g plan (massRow g n)) in (
-        λ h. diff-zero (inflow net plan n) (outflow net plan n) (scaled-zero _ (sym s ∙ z .0 h)),
-        λ e. z .1 (s ∙ ap scaled (ap (λ (k : ℕ). pos k -ℤ pos (outflow net plan n)) e ∙ +ℤ-invr (pos (outflow net plan n))) ∙ scaled-of-zero),
+        λ h. diff-zero (inflow net plan n) (outflow net plan n) (times-one-zero _ (sym s ∙ z .0 h)),
+        λ e. z .1 (s ∙ ap timesOne (ap (λ (k : ℕ). pos k -ℤ pos (outflow net plan n)) e ∙ +ℤ-invr (pos (outflow net plan n))) ∙ times-one-of-zero),
       )
 
   abbrev massOf : ℕ → Row

@@ -18,7 +18,7 @@ use Rattle.pywr.specs.Numbers.{high, low, lesser, greater}
 use Rattle.pywr.specs.Rows.{Element, ColumnMap}
 use Rattle.pywr.specs.Programme.{Row}
 use Rattle.pywr.specs.Interval.{tighten, sentinels}
-use Rattle.pywr.specs.Step.{adjust, bounded, applyRowBounds, applyIntervals}
+use Rattle.pywr.specs.Step.{adjust, withBounds, applyRowBounds, applyIntervals}
 use Rattle.pywr.specs.Plans.{meets, Plan, lowerMet, upperMet, allFrom}
 use Rattle.pywr.specs.Admits.{rowSum, rowMet}
 use Rattle.pywr.proofs.BoundLaws.{IsInterval, tighten-met}
@@ -45,7 +45,7 @@ module _ (w : Sentinel) (f : ColumnMap) (plan : Plan) where
   -- one interval on one row
   pub adjust-met : (i : Interval) → IsInterval i → (r : ℕ) (rows : List Row) → Sane rows → r < length rows → (n : ℕ)
       → AllMet n (adjust (applyRowBounds i) r rows) ↔ (T (meets w i (rowSum f plan (elementsAt r rows))) × AllMet n rows)
-  unfolding adjust applyRowBounds bounded allFrom rowMet elementsAt
+  unfolding adjust applyRowBounds withBounds allFrom rowMet elementsAt
   adjust-met i ii r [] none h n = absurd (not-suc-le-zero h)
   adjust-met i ii zero (x ∷ xs) (more ix ss) h n =
       let v : ℤ = rowSum f plan (x .elements) in
@@ -74,7 +74,7 @@ adjust-length i zero (x ∷ xs) = refl
 adjust-length i (suc r) (x ∷ xs) = ap suc (adjust-length i r xs)
 
 pub adjust-elements : (i : Interval) (r k : ℕ) (rows : List Row) → elementsAt k (adjust (applyRowBounds i) r rows) ≡ elementsAt k rows
-unfolding adjust applyRowBounds bounded elementsAt
+unfolding adjust applyRowBounds withBounds elementsAt
 adjust-elements i r k [] = refl
 adjust-elements i zero zero (x ∷ xs) = refl
 adjust-elements i zero (suc k) (x ∷ xs) = refl
@@ -90,7 +90,7 @@ tighten-sane a b ia ib =
     }
 
 pub adjust-sane : (i : Interval) → IsInterval i → (r : ℕ) (rows : List Row) → Sane rows → Sane (adjust (applyRowBounds i) r rows)
-unfolding adjust applyRowBounds bounded
+unfolding adjust applyRowBounds withBounds
 adjust-sane i ii r [] none = none
 adjust-sane i ii zero (x ∷ xs) (more ix ss) = more (tighten-sane (own x) i ix ii) ss
 adjust-sane i ii (suc r) (x ∷ xs) (more ix ss) = more ix (adjust-sane i ii r xs ss)
@@ -142,10 +142,10 @@ unfolding meets sentinels lowerMet upperMet low high neg ofBits le lt eq
 free Infinity v = tt
 free Largest v = tt
 
-pub reset-met : (w : Sentinel) (f : ColumnMap) (plan : Plan) (rows : List Row) (n : ℕ) → AllMet w f plan n (map (bounded (sentinels w)) rows)
-unfolding allFrom rowMet bounded
+pub reset-met : (w : Sentinel) (f : ColumnMap) (plan : Plan) (rows : List Row) (n : ℕ) → AllMet w f plan n (map (withBounds (sentinels w)) rows)
+unfolding allFrom rowMet withBounds
 reset-met w f plan [] n = tt
 reset-met w f plan (x ∷ xs) n =
-    and-i (meets w (sentinels w) (rowSum f plan (x .elements))) (allFrom (rowMet w f plan) (suc n) (map (bounded (sentinels w)) xs))
+    and-i (meets w (sentinels w) (rowSum f plan (x .elements))) (allFrom (rowMet w f plan) (suc n) (map (withBounds (sentinels w)) xs))
     (free w (rowSum f plan (x .elements)))
     (reset-met w f plan xs (suc n))

@@ -17,7 +17,7 @@ use Rattle.pywr.specs.Numbers.{one64}
 use Rattle.pywr.specs.Network.{Aggregate}
 use Rattle.pywr.specs.ExclusiveSets.{sameSet, hasSet, addSets, setsFrom, setNumber}
 use Rattle.pywr.specs.Rows.{Element, addElement, ColumnMap, addActive}
-use Rattle.pywr.specs.Plans.{exact, Plan, unit}
+use Rattle.pywr.specs.Plans.{exact, Plan, unitsInOne}
 use Rattle.pywr.specs.Allows.{onCount}
 use Rattle.pywr.specs.Admits.{onColumn, rowSum}
 use Rattle.pywr.proofs.SumLaws.{AllUpto, add-element, add-element-upto}
@@ -121,12 +121,12 @@ listed-known s a (b ∷ rest) known m x k = go (λ j. listed-known s a rest _ j 
 -- ---- the exclusivity row
 
 -- a set's column carries 1 or 0
-pub set-column : (f : ColumnMap) (plan : Plan) (k : ℕ) → onColumn f plan (f .edgeColumns + k) ≡ cond (plan .on (getD (f .sets) k [])) unit 0
+pub set-column : (f : ColumnMap) (plan : Plan) (k : ℕ) → onColumn f plan (f .edgeColumns + k) ≡ cond (plan .on (getD (f .sets) k [])) unitsInOne 0
 unfolding onColumn
 set-column f plan k =
     let c : ℕ = f .edgeColumns in
     let back : c + k - c ≡ k = omega arith in
-    cond-no (ltb (c + k) c) _ _ (not-under c k) ∙ ap (λ (n : ℕ). cond (plan .on (getD (f .sets) n [])) unit 0) back
+    cond-no (ltb (c + k) c) _ _ (not-under c k) ∙ ap (λ (n : ℕ). cond (plan .on (getD (f .sets) n [])) unitsInOne 0) back
   where
     not-under : (c k : ℕ) → T (not (ltb (c + k) c))
     not-under c k = not-T (ltb (c + k) c) (λ t. let l = ltb→lt (c + k) c t in omega arith)
@@ -135,24 +135,24 @@ pub data Known (sets : List (List ℕ)) : List (List ℕ) → Type 0 where
   none : Known sets []
   more : {s : List ℕ} {ss : List (List ℕ)} → T (hasSet s sets) → Known sets ss → Known sets (s ∷ ss)
 
-count-times : (b : Bool) (n : ℕ) → (cond b 1 0 + n) * unit ≡ cond b unit 0 + n * unit
-count-times true n = add-mul 1 n unit ∙ ap (λ (k : ℕ). k + n * unit) (one-mul unit)
-count-times false n = ap (λ (k : ℕ). k * unit) (zero-add n) ∙ sym (zero-add (n * unit))
+count-times : (b : Bool) (n : ℕ) → (cond b 1 0 + n) * unitsInOne ≡ cond b unitsInOne 0 + n * unitsInOne
+count-times true n = add-mul 1 n unitsInOne ∙ ap (λ (k : ℕ). k + n * unitsInOne) (one-mul unitsInOne)
+count-times false n = ap (λ (k : ℕ). k * unitsInOne) (zero-add n) ∙ sym (zero-add (n * unitsInOne))
 
 module _ (f : ColumnMap) (plan : Plan) where
   pub active-sum : (ss : List (List ℕ)) → Known (f .sets) ss → (b : ℕ) (row : List Element) → AllUpto 0 b row → b + length ss < 2 ^ 53
-      → rowSum f plan (addActive f ss row) ≡ exact one64 *ℤ pos (onCount plan ss * unit) +ℤ rowSum f plan row
+      → rowSum f plan (addActive f ss row) ≡ exact one64 *ℤ pos (onCount plan ss * unitsInOne) +ℤ rowSum f plan row
   unfolding addActive onCount
-  active-sum [] none b row us h = sym (ap (λ (z : ℤ). z +ℤ rowSum f plan row) (ap (λ (k : ℕ). exact one64 *ℤ pos k) (zero-mul unit) ∙ *ℤ-zero (exact one64)) ∙ +ℤ-idl (rowSum f plan row))
+  active-sum [] none b row us h = sym (ap (λ (z : ℤ). z +ℤ rowSum f plan row) (ap (λ (k : ℕ). exact one64 *ℤ pos k) (zero-mul unitsInOne) ∙ *ℤ-zero (exact one64)) ∙ +ℤ-idl (rowSum f plan row))
   active-sum (s ∷ ss) (more k ks) b row us h =
       let c : ℕ = f .edgeColumns + setNumber s (f .sets) in
       let r : ℤ = rowSum f plan row in
       let one : ℤ = exact one64 in
-      let carry : onColumn f plan c ≡ cond (plan .on s) unit 0 = set-column f plan (setNumber s (f .sets)) ∙ ap (λ (x : List ℕ). cond (plan .on x) unit 0) (number-found s (f .sets) k) in
+      let carry : onColumn f plan c ≡ cond (plan .on s) unitsInOne 0 = set-column f plan (setNumber s (f .sets)) ∙ ap (λ (x : List ℕ). cond (plan .on x) unitsInOne 0) (number-found s (f .sets) k) in
       active-sum ss ks (b + 1) (addElement c one64 row) (add-element-upto c one64 b 1 (omega arith) one-upto row us) (omega arith)
-      ∙ ap (λ (z : ℤ). one *ℤ pos (onCount plan ss * unit) +ℤ z) (add-element f plan c one64 b 1 (omega arith) one-upto row us ∙ ap (λ (n : ℕ). one *ℤ pos n +ℤ r) carry)
-      ∙ sym (+ℤ-assoc (one *ℤ pos (onCount plan ss * unit)) (one *ℤ pos (cond (plan .on s) unit 0)) r)
+      ∙ ap (λ (z : ℤ). one *ℤ pos (onCount plan ss * unitsInOne) +ℤ z) (add-element f plan c one64 b 1 (omega arith) one-upto row us ∙ ap (λ (n : ℕ). one *ℤ pos n +ℤ r) carry)
+      ∙ sym (+ℤ-assoc (one *ℤ pos (onCount plan ss * unitsInOne)) (one *ℤ pos (cond (plan .on s) unitsInOne 0)) r)
       ∙ ap (λ (z : ℤ). z +ℤ r)
-      (+ℤ-comm (one *ℤ pos (onCount plan ss * unit)) (one *ℤ pos (cond (plan .on s) unit 0))
-      ∙ sym (mul-addℤ one (pos (cond (plan .on s) unit 0)) (pos (onCount plan ss * unit)))
+      (+ℤ-comm (one *ℤ pos (onCount plan ss * unitsInOne)) (one *ℤ pos (cond (plan .on s) unitsInOne 0))
+      ∙ sym (mul-addℤ one (pos (cond (plan .on s) unitsInOne 0)) (pos (onCount plan ss * unitsInOne)))
       ∙ ap (λ (n : ℕ). one *ℤ pos n) (sym (count-times (plan .on s) (onCount plan ss))))

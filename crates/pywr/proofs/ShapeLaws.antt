@@ -2,15 +2,14 @@
 -- exclusive node asked for has its set's column. Assumes nothing.
 use mathlib.Core.Path.{_≡_, refl, sym, ap, ap₂, _∙_, subst}
 use mathlib.Core.Logic.{_⊎_, inl, inr}
-use Prim.Native.Nat.{ℕ, suc, _+_, _<_, _≤_, suc-le-suc, zero-le, compare, Ordering, Ordering·lt, Ordering·eq, Ordering·gt}
-use native.Mathlib.Nat.{lt-of-lt-of-le, lt-of-not-le}
-use native.Mathlib.Decide.{decLe}
+use Prim.Native.Nat.{ℕ, suc, _+_, _<_, _≤_, suc-le-suc, zero-le}
+use native.Mathlib.Nat.{lt-of-lt-of-le}
 use native.Mathlib.Omega.{arith}
 use mathlib.Core.Bool.{Bool, true, false, cond, not, _&&_, _||_}
 use mathlib.Core.List.{List, [], _∷_, _++_, map, append-nil, append-assoc, List·Memᴰ, List·Memᴰ·head, List·Memᴰ·tail}
 use lib.ListN.{length, getD, length-append, List·getD-append}
 use lib.Seq.{getD-at}
-use lib.Dec.{T, isLe, isEq, leb, ltb, eqb, nleb→lt, leb→le, eqb→eq, eqb-refl, ltb→lt, le→leb, lt→ltb}
+use lib.Dec.{T, leb, ltb, eqb, eqb→eq, ltb→lt, le→leb, lt→ltb}
 use lib.Ieee.{Float, neg, eq}
 use lib.Ieee.Fits.{and-i, and-l, and-r}
 use borrow.Author.Tests.{ltb-false}
@@ -19,7 +18,7 @@ use Rattle.pywr.specs.Numbers.{double, zero64, one64, high}
 use Rattle.pywr.specs.Network.{output, link, storage, Node, Aggregate, Part, VirtualStorage, Network, kindOf}
 use Rattle.pywr.specs.ColEdgeMap.{columns, mappedEdges}
 use Rattle.pywr.specs.ExclusiveSets.{sameSet, hasSet, exclusiveSets, setNumber, setsWithNode}
-use Rattle.pywr.specs.Rows.{Element, insert, addElement, addOn, ColumnMap, columnMap, columnsInto, columnsOutOf, addNode, nodeRow, massRow, addNodes, addSetsOf, aggregateRow, addParts, virtualStorageRow, upperRow, lowerRow, addActive, exclusivityRow}
+use Rattle.pywr.specs.Rows.{Element, addElement, addOn, ColumnMap, columnMap, columnsInto, columnsOutOf, addNode, nodeRow, massRow, addNodes, addSetsOf, aggregateRow, addParts, virtualStorageRow, upperRow, lowerRow, addActive, exclusivityRow}
 use Rattle.pywr.specs.VariableRows.{sameRow, position, addVariableRows, Joined, addVariableRow}
 use Rattle.pywr.specs.Programme.{Row, continuous}
 use Rattle.pywr.specs.VaryingRows.{RowRequest, exclusiveRequests, requestsBySets, requestsFrom}
@@ -27,6 +26,7 @@ use Rattle.pywr.specs.FixedRows.{massRowsFrom, upperCoefficient, lowerCo
 use Rattle.pywr.specs.Misshapen.{columnsRise}
 use Rattle.pywr.proofs.MassLaws.{HasColumn, added, Every, every-append}
 use Rattle.pywr.proofs.EvenLaws.{mapped-edge-of}
+use Rattle.pywr.proofs.ElementLaws.{add-none, add-cases}
 use Rattle.pywr.proofs.JoinLaws.{position-found, position-most}
 use Rattle.pywr.proofs.ListLaws.{AllMem, all-snoc, found-mem, found-below, each-of}
 use Rattle.pywr.proofs.MembershipLaws.{membership-sound, from-known}
@@ -43,46 +43,13 @@ pub data Rising (n : ℕ) : ℕ → List Element → Type 0 where
   none : {least : ℕ} → Rising n least []
   more : {least : ℕ} {e : Element} {es : List Element} → least ≤ e .column → e .column < n → Rising n (e .column + 1) es → Rising n least (e ∷ es)
 
-compared : (c d : ℕ) (o : Ordering) → compare c d ≡ o → (o ≡ Ordering·lt → c < d) × (o ≡ Ordering·eq → c ≡ d) × (o ≡ Ordering·gt → d < c)
-compared c d Ordering·lt q = (λ e. strict (decLe (suc c) d), λ e. absurd (clash e), λ e. absurd (clash2 e))
-  where
-    clash : Ordering·lt ≡ Ordering·eq → ⊥
-    clash e = subst (λ (o : Ordering). T (not (isEq o))) e tt
-
-    clash2 : Ordering·lt ≡ Ordering·gt → ⊥
-    clash2 e = subst (λ (o : Ordering). T (isLe o)) e tt
-
-    strict : Dec (suc c ≤ d) → c < d
-    strict (yes h) = h
-    strict (no f) =
-        let g = lt-of-not-le f in
-        let l = leb→le c d (subst (λ (o : Ordering). T (isLe o)) (sym q) tt) in
-        let same : c ≡ d = omega arith in
-        absurd (subst (λ (o : Ordering). T (isEq o)) q (subst (λ (k : ℕ). T (eqb c k)) same (eqb-refl c)))
-compared c d Ordering·eq q = (λ e. absurd (clash e), λ e. eqb→eq c d (subst (λ (o : Ordering). T (isEq o)) (sym q) tt), λ e. absurd (clash2 e))
-  where
-    clash : Ordering·eq ≡ Ordering·lt → ⊥
-    clash e = subst (λ (o : Ordering). T (isEq o)) e tt
-
-    clash2 : Ordering·eq ≡ Ordering·gt → ⊥
-    clash2 e = subst (λ (o : Ordering). T (isEq o)) e tt
-compared c d Ordering·gt q = (λ e. absurd (clash e), λ e. absurd (clash2 e), λ e. nleb→lt c d (subst (λ (o : Ordering). T (not (isLe o))) (sym q) tt))
-  where
-    clash : Ordering·gt ≡ Ordering·lt → ⊥
-    clash e = subst (λ (o : Ordering). T (not (isLe o))) e tt
-
-    clash2 : Ordering·gt ≡ Ordering·eq → ⊥
-    clash2 e = subst (λ (o : Ordering). T (not (isLe o))) e tt
-
 rising-add : (n c : ℕ) (x : Float) (least : ℕ) (row : List Element) → least ≤ c → c < n → Rising n least row → Rising n least (addElement c x row)
-unfolding addElement insert
-rising-add n c x least [] h l Rising.none = Rising.more h l Rising.none
-rising-add n c x least (e ∷ es) h l (Rising.more a b r) = go (λ k. rising-add n c x (e .column + 1) es k l r) (compare c (e .column)) refl
-  where
-    go : (e .column + 1 ≤ c → Rising n (e .column + 1) (addElement c x es)) → (o : Ordering) → compare c (e .column) ≡ o → Rising n least (insert o c x e es (addElement c x es))
-    go ih Ordering·lt q = let k : c < e .column = compared c (e .column) Ordering·lt q .0 refl in Rising.more h l (Rising.more (let j : c + 1 ≤ e .column = omega arith in j) b r)
-    go ih Ordering·eq q = let k : c ≡ e .column = compared c (e .column) Ordering·eq q .1 refl in Rising.more h l (subst (λ (m : ℕ). Rising n (m + 1) es) (sym k) r)
-    go ih Ordering·gt q = let k : e .column < c = compared c (e .column) Ordering·gt q .2 refl in Rising.more a b (ih (let j : e .column + 1 ≤ c = omega arith in j))
+rising-add n c x least [] h l Rising.none = rw (add-none c x) (Rising.more h l Rising.none)
+rising-add n c x least (e ∷ es) h l (Rising.more a b r) =
+    add-cases c x e es (Rising n least)
+    (λ k. Rising.more h l (Rising.more (let j : c + 1 ≤ e .column = omega arith in j) b r))
+    (λ k. Rising.more h l (subst (λ (m : ℕ). Rising n (m + 1) es) (sym k) r))
+    (λ k. Rising.more a b (rising-add n c x (e .column + 1) es (let j : e .column + 1 ≤ c = omega arith in j) l r))
 
 rising-on : (n : ℕ) (cs : List ℕ) (x : Float) (row : List Element) → AllMem (λ (c : ℕ). c < n) cs → Rising n 0 row → Rising n 0 (addOn cs x row)
 unfolding addOn

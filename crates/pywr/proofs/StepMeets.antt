@@ -25,8 +25,8 @@ use Rattle.pywr.specs.Build.{allColumns, placedNodeRows, requestedRow, a
 use Rattle.pywr.specs.Interval.{sentinels}
 use Rattle.pywr.specs.StepIntervals.{Intervals}
 use Rattle.pywr.specs.Step.{rowOf, stepRows}
-use Rattle.pywr.specs.Plans.{meets, Plan, scaled, allFrom}
-use Rattle.pywr.specs.Allows.{allows, inflow, outflow, nodeAmount, setsAmount, partsAmount, balanced, ownInterval, nodeMeets, aggregateMeets, virtualStorageMeets, exclusiveMeets, memberMeets, setsMeet, onCount, exclusivityMeets}
+use Rattle.pywr.specs.Plans.{meets, Plan, timesOne, allFrom}
+use Rattle.pywr.specs.Allows.{allows, inflow, outflow, nodeAmount, setsAmount, partsSum, balanced, ownInterval, nodeMeets, aggregateMeets, virtualStorageMeets, exclusiveMeets, memberMeets, setsMeet, onCount, exclusivityMeets}
 use Rattle.pywr.specs.Admits.{admits, carried, equalInColumn, rowSum, rowMet, columnMet}
 use Rattle.pywr.specs.Correspondence.{isWhole, factorsWhole}
 use Rattle.pywr.proofs.BoundLaws.{IsInterval}
@@ -151,7 +151,7 @@ module _ (w : Sentinel) (net : Network) (sound : Sound net) (only : OnlyConstant
   abbrev ofNodes : ℕ → Interval
   ofNodes n = getD (i .nodes) n (sentinels w)
 
-  aggregate-amount : (a : Aggregate) → List·Memᴰ a (net .aggregates) → rowSum f plan (aggregateRow f a) ≡ scaled (setsAmount net plan (a .sets))
+  aggregate-amount : (a : Aggregate) → List·Memᴰ a (net .aggregates) → rowSum f plan (aggregateRow f a) ≡ timesOne (setsAmount net plan (a .sets))
   aggregate-amount a m =
       let g = sound .good .aggregates a m in
       let few = g .few in
@@ -168,7 +168,7 @@ module _ (w : Sentinel) (net : Network) (sound : Sound net) (only : OnlyConstant
       go [] k h = no-more
       go (p ∷ ps) k h = one-more (whole-factor p (k p (List·Memᴰ·head refl)) (h 0 p refl)) (go ps (λ q m. k q (List·Memᴰ·tail m)) (λ n q e. h (suc n) q e))
 
-  virtual-storage-amount : (n : ℕ) (v : VirtualStorage) → getElem? (net .virtualStorages) n ≡ some v → rowSum f plan (virtualStorageRow f v) ≡ partsAmount net plan (v .parts)
+  virtual-storage-amount : (n : ℕ) (v : VirtualStorage) → getElem? (net .virtualStorages) n ≡ some v → rowSum f plan (virtualStorageRow f v) ≡ partsSum net plan (v .parts)
   unfolding factorsWhole
   virtual-storage-amount n v e =
       let okv = sound .good .virtualStorages v (found-mem (net .virtualStorages) n v e) in
@@ -180,7 +180,7 @@ module _ (w : Sentinel) (net : Network) (sound : Sound net) (only : OnlyConstant
 
   -- the varying rows
   record VaryingMet : Type 0 where
-    nodes : At (net .nodes) (λ n x. T (not (x .constant)) → T (meets w (ofNodes n) (scaled (nodeAmount net plan n))))
+    nodes : At (net .nodes) (λ n x. T (not (x .constant)) → T (meets w (ofNodes n) (timesOne (nodeAmount net plan n))))
     aggregates : At (net .aggregates) (λ n a. T (aggregateMeets w net i plan n a))
     virtualStorages : At (net .virtualStorages) (λ n v. T (virtualStorageMeets w net i plan n v))
 
@@ -354,29 +354,29 @@ module _ (w : Sentinel) (net : Network) (sound : Sound net) (only : OnlyConstant
         links = g .links;
         nodes = λ n x e.
             let ex : Bool = isExclusive (net .aggregates) n in
-            let me : Bool = meets w (ownInterval w i n x) (scaled (nodeAmount net plan n)) in
+            let me : Bool = meets w (ownInterval w i n x) (timesOne (nodeAmount net plan n)) in
             by-cases ex (λ t. or-l ex me t)
             (λ t.
             or-r ex me
             (by-cases (x .constant)
-            (λ c. subst (λ (j : Interval). T (meets w j (scaled (nodeAmount net plan n)))) (sym (own-constant n x c)) (g .constants n x e c .plain t))
-            (λ c. subst (λ (j : Interval). T (meets w j (scaled (nodeAmount net plan n)))) (sym (own-varying n x c)) (v .nodes n x e c))));
+            (λ c. subst (λ (j : Interval). T (meets w j (timesOne (nodeAmount net plan n)))) (sym (own-constant n x c)) (g .constants n x e c .plain t))
+            (λ c. subst (λ (j : Interval). T (meets w j (timesOne (nodeAmount net plan n)))) (sym (own-varying n x c)) (v .nodes n x e c))));
         aggregates = v .aggregates;
         virtualStorages = v .virtualStorages;
         exclusives = rules-sets (rows-rules (g .constants)) (g .counts);
       }
 
-  node-held : NetworkMet → (n : ℕ) (x : Node) → getElem? (net .nodes) n ≡ some x → T (not (isExclusive (net .aggregates) n)) → T (meets w (ownInterval w i n x) (scaled (nodeAmount net plan n)))
+  node-held : NetworkMet → (n : ℕ) (x : Node) → getElem? (net .nodes) n ≡ some x → T (not (isExclusive (net .aggregates) n)) → T (meets w (ownInterval w i n x) (timesOne (nodeAmount net plan n)))
   unfolding nodeMeets
   node-held h n x e t =
       let ex : Bool = isExclusive (net .aggregates) n in
-      or-elim ex (meets w (ownInterval w i n x) (scaled (nodeAmount net plan n))) (h .nodes n x e) (λ u. absurd (T-not ex t u)) (λ u. u)
+      or-elim ex (meets w (ownInterval w i n x) (timesOne (nodeAmount net plan n))) (h .nodes n x e) (λ u. absurd (T-not ex t u)) (λ u. u)
 
   to-varying : NetworkMet → VaryingMet
   to-varying h =
       record {
         nodes = λ n x e c.
-            subst (λ (j : Interval). T (meets w j (scaled (nodeAmount net plan n)))) (own-varying n x c)
+            subst (λ (j : Interval). T (meets w j (timesOne (nodeAmount net plan n)))) (own-varying n x c)
             (node-held h n x e (not-T (isExclusive (net .aggregates) n) (λ u. T-not (x .constant) c (only n x e u))));
         aggregates = h .aggregates;
         virtualStorages = h .virtualStorages;
@@ -388,7 +388,7 @@ module _ (w : Sentinel) (net : Network) (sound : Sound net) (only : OnlyConstant
         links = h .links;
         constants = λ n x e c.
             record {
-              plain = λ t. subst (λ (j : Interval). T (meets w j (scaled (nodeAmount net plan n)))) (own-constant n x c) (node-held h n x e t);
+              plain = λ t. subst (λ (j : Interval). T (meets w j (timesOne (nodeAmount net plan n)))) (own-constant n x c) (node-held h n x e t);
               exclusive = rules-rows (sets-rules (h .exclusives)) n x e c;
             };
         counts = λ n a e t. open-sets (h .exclusives) n a e t .1;

@@ -1,21 +1,21 @@
 -- Sums of multiples of 1 / 2 ^ g are exact below 2 ^ 53 of these, and so the sum over a row's columns is the sum over what was added to the row. Assumes nothing.
-use mathlib.Core.Path.{_≡_, refl, sym, ap, ap₂, _∙_, subst}
-use Prim.Native.Nat.{ℕ, suc, _+_, _-_, _*_, _^_, _<_, _≤_, compare, Ordering, Ordering·lt, Ordering·eq, Ordering·gt}
+use mathlib.Core.Path.{_≡_, sym, ap, ap₂, _∙_}
+use Prim.Native.Nat.{ℕ, suc, _+_, _-_, _*_, _^_, _<_, _≤_}
 use native.Mathlib.Nat.{le-trans, le-of-eq, le-of-lt, add-le-add, add-mul, mul-le-mul-right, zero-mul, suc-mul, add-comm}
 use native.Mathlib.Omega.{arith}
 use mathlib.Core.List.{List, [], _∷_}
 use lib.IntN.{ℤ, pos, _+ℤ_, _*ℤ_, +ℤ-assoc, +ℤ-comm, *ℤ-zero, +ℤ-idl}
 use lib.ListN.{length}
-use lib.Dec.{T, isEq, eqb→eq}
 use lib.Ieee.{Float, binary64, add}
 use Rattle.doubles.specs.Units.{mag, rank}
 use Rattle.doubles.specs.Sums.{Grain, Summed}
 use Rattle.doubles.proofs.Integers.{add-mulℤ, mul-addℤ}
 use Rattle.doubles.proofs.Sums.{add-grains, zero-grain, zero-mag}
 use Rattle.pywr.specs.Numbers.{zero64}
-use Rattle.pywr.specs.Rows.{Element, insert, addElement, addOn, ColumnMap}
+use Rattle.pywr.specs.Rows.{Element, element, addElement, addOn, ColumnMap}
 use Rattle.pywr.specs.Plans.{exact, Plan}
 use Rattle.pywr.specs.Admits.{onColumn, rowSum}
+use Rattle.pywr.proofs.ElementLaws.{add-none, add-cases}
 use Rattle.pywr.proofs.ExactLaws.{exact-rank, add-zero-exact}
 
 -- 1 / 2 ^ g is 2 ^ grid g units; with g = 0 it is 1.0
@@ -55,21 +55,24 @@ module _ {g : ℕ} (f : ColumnMap) (plan : Plan) (c : ℕ) (x : Float) (b n : �
   term y k = exact y *ℤ pos (onColumn f plan k)
 
   pub add-element : (row : List Element) → AllUpto g b row → rowSum f plan (addElement c x row) ≡ term x c +ℤ rowSum f plan row
-  unfolding addElement insert rowSum
-  add-element [] none = ap (λ (y : ℤ). y *ℤ pos (onColumn f plan c) +ℤ pos 0) (add-zero-exact x (u .grain .fit) (u .grain .isFinite))
-  add-element (e ∷ es) (more ue us) = go (add-element es us) (compare c (e .column)) refl
+  unfolding rowSum
+  add-element [] none = rw (add-none c x) (ap (λ (y : ℤ). y *ℤ pos (onColumn f plan c) +ℤ pos 0) (add-zero-exact x (u .grain .fit) (u .grain .isFinite)))
+  add-element (e ∷ es) (more ue us) =
+      add-cases c x e es (λ (row : List Element). rowSum f plan row ≡ term x c +ℤ rowSum f plan (e ∷ es))
+      (λ h. ap (λ (y : ℤ). y *ℤ pos (onColumn f plan c) +ℤ rowSum f plan (e ∷ es)) (add-zero-exact x (u .grain .fit) (u .grain .isFinite)))
+      at
+      (λ h. over (add-element es us))
     where
-      go : rowSum f plan (addElement c x es) ≡ term x c +ℤ rowSum f plan es → (o : Ordering) → compare c (e .column) ≡ o
-          → rowSum f plan (insert o c x e es (addElement c x es)) ≡ term x c +ℤ rowSum f plan (e ∷ es)
-      go ih Ordering·lt q = ap (λ (y : ℤ). y *ℤ pos (onColumn f plan c) +ℤ rowSum f plan (e ∷ es)) (add-zero-exact x (u .grain .fit) (u .grain .isFinite))
-      go ih Ordering·eq q =
-          let same : c ≡ e .column = eqb→eq c (e .column) (subst (λ (o : Ordering). T (isEq o)) (sym q) tt) in
+      at : c ≡ e .column → rowSum f plan (element c (add binary64 (e .value) x) ∷ es) ≡ term x c +ℤ rowSum f plan (e ∷ es)
+      at same =
           ap (λ (y : ℤ). y *ℤ pos (onColumn f plan c) +ℤ rowSum f plan es)
           (exact-add b n (e .value) x room ue u)
           ∙ ap (λ (y : ℤ). y +ℤ rowSum f plan es) (add-mulℤ (exact (e .value)) (exact x) (pos (onColumn f plan c)) ∙ +ℤ-comm (term (e .value) c) (term x c))
           ∙ +ℤ-assoc (term x c) (term (e .value) c) (rowSum f plan es)
           ∙ ap (λ (k : ℕ). term x c +ℤ (term (e .value) k +ℤ rowSum f plan es)) same
-      go ih Ordering·gt q =
+
+      over : rowSum f plan (addElement c x es) ≡ term x c +ℤ rowSum f plan es → rowSum f plan (e ∷ addElement c x es) ≡ term x c +ℤ rowSum f plan (e ∷ es)
+      over ih =
           ap (λ (y : ℤ). term (e .value) (e .column) +ℤ y) ih
           ∙ sym (+ℤ-assoc (term (e .value) (e .column)) (term x c) (rowSum f plan es))
           ∙ ap (λ (y : ℤ). y +ℤ rowSum f plan es) (+ℤ-comm (term (e .value) (e .column)) (term x c))
@@ -93,14 +96,12 @@ module _ {g : ℕ} (c : ℕ) (x : Float) (b n : ℕ) (room : b + n < 2 ^ 53) (u 
   new-upto = wider (0 + n) (b + n) (add binary64 zero64 x) (omega arith) (add-upto 0 n zero64 x (omega arith) (zero-upto g) u)
 
   pub add-element-upto : (row : List Element) → AllUpto g b row → AllUpto g (b + n) (addElement c x row)
-  unfolding addElement insert
-  add-element-upto [] none = more new-upto none
-  add-element-upto (e ∷ es) (more ue us) = go (add-element-upto es us) (compare c (e .column))
-    where
-      go : AllUpto g (b + n) (addElement c x es) → (o : Ordering) → AllUpto g (b + n) (insert o c x e es (addElement c x es))
-      go ih Ordering·lt = more new-upto (more (wider b (b + n) (e .value) (omega arith) ue) (all-wider b (b + n) es (omega arith) us))
-      go ih Ordering·eq = more (add-upto b n (e .value) x room ue u) (all-wider b (b + n) es (omega arith) us)
-      go ih Ordering·gt = more (wider b (b + n) (e .value) (omega arith) ue) ih
+  add-element-upto [] none = rw (add-none c x) (more new-upto none)
+  add-element-upto (e ∷ es) (more ue us) =
+      add-cases c x e es (AllUpto g (b + n))
+      (λ h. more new-upto (more (wider b (b + n) (e .value) (omega arith) ue) (all-wider b (b + n) es (omega arith) us)))
+      (λ h. more (add-upto b n (e .value) x room ue u) (all-wider b (b + n) es (omega arith) us))
+      (λ h. more (wider b (b + n) (e .value) (omega arith) ue) (add-element-upto es us))
 
 -- ---- one factor on a list of columns
 

@@ -15,7 +15,7 @@ use Rattle.pywr.specs.Rows.{Element, ColumnMap}
 use Rattle.pywr.specs.Programme.{Row, RowType, continuous, NodeRow, Shape}
 use Rattle.pywr.specs.Interval.{sentinels}
 use Rattle.pywr.specs.StepIntervals.{Intervals}
-use Rattle.pywr.specs.Step.{adjust, bounded, applyRowBounds, applyInterval, applyNodeRows, applyIntervals, rowOf, stepRows}
+use Rattle.pywr.specs.Step.{adjust, withBounds, applyRowBounds, applyInterval, applyNodeRows, applyIntervals, rowOf, stepRows}
 use Rattle.pywr.specs.Plans.{meets, Plan}
 use Rattle.pywr.specs.Admits.{rowSum}
 use Rattle.pywr.proofs.BoundLaws.{IsInterval, high-bound}
@@ -86,13 +86,13 @@ pub sentinels-interval : (w : Sentinel) → IsInterval (sentinels w)
 unfolding sentinels low
 sentinels-interval w = record { lower = neg-num binary64 (high w) (high-bound w); upper = high-bound w }
 
-reset-sane : (w : Sentinel) (rows : List Row) → Sane (map (bounded (sentinels w)) rows)
-unfolding bounded
+reset-sane : (w : Sentinel) (rows : List Row) → Sane (map (withBounds (sentinels w)) rows)
+unfolding withBounds
 reset-sane w [] = Sane.none
 reset-sane w (x ∷ xs) = Sane.more (sentinels-interval w) (reset-sane w xs)
 
-reset-elements : (i : Interval) (rows : List Row) (k : ℕ) → elementsAt k (map (bounded i) rows) ≡ elementsAt k rows
-unfolding bounded elementsAt
+reset-elements : (i : Interval) (rows : List Row) (k : ℕ) → elementsAt k (map (withBounds i) rows) ≡ elementsAt k rows
+unfolding withBounds elementsAt
 reset-elements i [] k = refl
 reset-elements i (x ∷ xs) zero = refl
 reset-elements i (x ∷ xs) (suc k) = reset-elements i xs k
@@ -113,7 +113,7 @@ module _ (w : Sentinel) (f : ColumnMap) (plan : Plan) (shape : Shape) (i : Inter
   isN = node-intervals w (i .nodes) (shape .nodeRows)
 
   abbrev r0 : List Row
-  r0 = map (bounded (sentinels w)) rows
+  r0 = map (withBounds (sentinels w)) rows
 
   abbrev r1 : List Row
   r1 = applyIntervals (node-places (shape .nodeRows)) isN r0
@@ -122,7 +122,7 @@ module _ (w : Sentinel) (f : ColumnMap) (plan : Plan) (shape : Shape) (i : Inter
   r2 = applyIntervals (shape .aggregates) (i .aggregates) r1
 
   len0 : length r0 ≡ length joined
-  len0 = length-map rows (bounded (sentinels w)) ∙ long
+  len0 = length-map rows (withBounds (sentinels w)) ∙ long
 
   len1 : length r1 ≡ length joined
   len1 = apply-length (node-places (shape .nodeRows)) isN r0 ∙ len0

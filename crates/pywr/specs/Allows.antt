@@ -3,7 +3,7 @@ use Prim.Native.Nat.{ℕ, suc, _+_}
 use mathlib.Core.List.{List, [], _∷_}
 use mathlib.Core.Bool.{Bool, true, cond, not, _&&_, _||_}
 use lib.ListN.{getD}
-use lib.IntN.{ℤ, pos, negℤ, _+ℤ_, _-ℤ_, _*ℤ_}
+use lib.IntN.{pos, negℤ, _+ℤ_, _-ℤ_}
 use lib.Signed.{leZ}
 use lib.Dec.{leb, eqb}
 use lib.Ieee.{Float, eq}
@@ -13,92 +13,100 @@ use Rattle.pywr.specs.Numbers.{zero64, million, millionth, lesser, great
 use Rattle.pywr.specs.Network.{output, link, storage, Node, Edge, Aggregate, Part, VirtualStorage, Network, noNode, kindOf, isExclusive, source, target}
 use Rattle.pywr.specs.Interval.{sentinels}
 use Rattle.pywr.specs.StepIntervals.{Intervals}
-use Rattle.pywr.specs.Plans.{exact, meets, Plan, scaled, allFrom}
+use Rattle.pywr.specs.Plans.{Amount, SignedAmount, Product, product, exact, meets, Plan, timesOne, allFrom}
 
--- the sum over the edges whose one end is node n; e is the number of the first edge of the list
-unfoldable pub flowWith : (Edge → ℕ) → Plan → ℕ → ℕ → List Edge → ℕ
-flowWith end plan n e [] = 0
-flowWith end plan n e (x ∷ xs) = cond (eqb (end x) n) (plan .amount e) 0 + flowWith end plan n (suc e) xs
+-- the sum over the edges whose one end is the node; the first edge of the list has this number
+unfoldable pub flowWith : (Edge → ℕ) → Plan → ℕ → ℕ → List Edge → Amount
+flowWith end plan node number [] = 0
+flowWith end plan node number (edge ∷ edges) = cond (eqb (end edge) node) (plan .amount number) 0 + flowWith end plan node (suc number) edges
 
-unfoldable pub inflow : Network → Plan → ℕ → ℕ
-inflow net plan n = flowWith target plan n 0 (net .edges)
+unfoldable pub inflow : Network → Plan → ℕ → Amount
+inflow net plan node = flowWith target plan node 0 (net .edges)
 
-unfoldable pub outflow : Network → Plan → ℕ → ℕ
-outflow net plan n = flowWith source plan n 0 (net .edges)
+unfoldable pub outflow : Network → Plan → ℕ → Amount
+outflow net plan node = flowWith source plan node 0 (net .edges)
 
--- a node's amount by its row's rule, in units of 2 ^ -1074
-unfoldable pub nodeAmount : Network → Plan → ℕ → ℤ
-nodeAmount net plan n =
-    cond (eqb (kindOf (net .nodes) n) output) (pos (inflow net plan n))
-    (cond (eqb (kindOf (net .nodes) n) storage) (pos (inflow net plan n) -ℤ pos (outflow net plan n))
-    (pos (outflow net plan n)))
+-- a node's amount by its row's rule: "input and link use outgoing edges, output incoming, storage + incoming − outgoing"
+unfoldable pub nodeAmount : Network → Plan → ℕ → SignedAmount
+nodeAmount net plan node =
+    cond (eqb (kindOf (net .nodes) node) output) (pos (inflow net plan node))
+    (cond (eqb (kindOf (net .nodes) node) storage) (pos (inflow net plan node) -ℤ pos (outflow net plan node))
+    (pos (outflow net plan node)))
 
-unfoldable pub nodesAmount : Network → Plan → List ℕ → ℤ
+unfoldable pub nodesAmount : Network → Plan → List ℕ → SignedAmount
 nodesAmount net plan [] = pos 0
-nodesAmount net plan (n ∷ ns) = nodeAmount net plan n +ℤ nodesAmount net plan ns
+nodesAmount net plan (node ∷ nodes) = nodeAmount net plan node +ℤ nodesAmount net plan nodes
 
-unfoldable pub setsAmount : Network → Plan → List (List ℕ) → ℤ
+unfoldable pub setsAmount : Network → Plan → List (List ℕ) → SignedAmount
 setsAmount net plan [] = pos 0
-setsAmount net plan (s ∷ ss) = nodesAmount net plan s +ℤ setsAmount net plan ss
+setsAmount net plan (set ∷ sets) = nodesAmount net plan set +ℤ setsAmount net plan sets
 
--- minus factor times amount, in units of 2 ^ -2148
-unfoldable pub partsAmount : Network → Plan → List Part → ℤ
-partsAmount net plan [] = pos 0
-partsAmount net plan (p ∷ ps) = negℤ (exact (p .factor)) *ℤ nodeAmount net plan (p .node) +ℤ partsAmount net plan ps
+-- a virtual storage's amount: minus factor times amount, summed over its parts
+unfoldable pub partsSum : Network → Plan → List Part → Product
+partsSum net plan [] = pos 0
+partsSum net plan (part ∷ parts) = product (negℤ (exact (part .factor))) (nodeAmount net plan (part .node)) +ℤ partsSum net plan parts
 
 -- "each link's incoming amounts sum to its outgoing"
 unfoldable pub balanced : Network → Plan → ℕ → Node → Bool
-balanced net plan n x = not (eqb (x .kind) link) || eqb (inflow net plan n) (outflow net plan n)
+balanced net plan number node = not (eqb (node .kind) link) || eqb (inflow net plan number) (outflow net plan number)
 
 -- "Intervals: a constant node's min and max; the step file's pair for any other node but storage ..; storage's .. by the rules above"
 unfoldable pub ownInterval : Sentinel → Intervals → ℕ → Node → Interval
-ownInterval s i n x = cond (x .constant) (record { lower = x .min; upper = x .max }) (getD (i .nodes) n (sentinels s))
+ownInterval s intervals number node =
+    cond (node .constant) (record { lower = node .min; upper = node .max }) (getD (intervals .nodes) number (sentinels s))
 
--- "every node in no exclusive set .. has its amount .. in its interval"
+-- "every node in no exclusive set, every aggregate and every virtual storage has its amount .. in its interval"
 unfoldable pub nodeMeets : Sentinel → Network → Intervals → Plan → ℕ → Node → Bool
-nodeMeets s net i plan n x = isExclusive (net .aggregates) n || meets s (ownInterval s i n x) (scaled (nodeAmount net plan n))
+nodeMeets s net intervals plan number node =
+    isExclusive (net .aggregates) number || meets s (ownInterval s intervals number node) (timesOne (nodeAmount net plan number))
 
 unfoldable pub aggregateMeets : Sentinel → Network → Intervals → Plan → ℕ → Aggregate → Bool
-aggregateMeets s net i plan n a = meets s (getD (i .aggregates) n (sentinels s)) (scaled (setsAmount net plan (a .sets)))
+aggregateMeets s net intervals plan number aggregate =
+    meets s (getD (intervals .aggregates) number (sentinels s)) (timesOne (setsAmount net plan (aggregate .sets)))
 
 unfoldable pub virtualStorageMeets : Sentinel → Network → Intervals → Plan → ℕ → VirtualStorage → Bool
-virtualStorageMeets s net i plan n v = meets s (getD (i .virtualStorages) n (sentinels s)) (partsAmount net plan (v .parts))
+virtualStorageMeets s net intervals plan number v = meets s (getD (intervals .virtualStorages) number (sentinels s)) (partsSum net plan (v .parts))
+
+-- a bound when the set is on, and 0 when it is off
+unfoldable pub onAmount : Bool → Float → SignedAmount
+onAmount on bound = cond on (exact bound) (pos 0)
 
 -- "an exclusive node's amount is, per set, at most min(max, 1e6) when on and 0 when off, and if min isn't 0 at least max(min, 1e-6) when on and 0 when off"
-unfoldable pub onAmount : Bool → Float → ℤ
-onAmount on x = cond on (exact x) (pos 0)
+unfoldable pub exclusiveMeets : Bool → Interval → SignedAmount → Bool
+exclusiveMeets on interval amount =
+    leZ amount (onAmount on (lesser (interval .upper) million))
+    && (eq (interval .lower) zero64 || leZ (onAmount on (greater (interval .lower) millionth)) amount)
 
-unfoldable pub exclusiveMeets : Bool → Interval → ℤ → Bool
-exclusiveMeets on i amount =
-    leZ amount (onAmount on (lesser (i .upper) million))
-    && (eq (i .lower) zero64 || leZ (onAmount on (greater (i .lower) millionth)) amount)
-
+-- that of every node that a set lists; then of every set in a list
 unfoldable pub memberMeets : Sentinel → Network → Intervals → Plan → List ℕ → List ℕ → Bool
-memberMeets s net i plan set [] = true
-memberMeets s net i plan set (n ∷ ns) =
+memberMeets s net intervals plan set [] = true
+memberMeets s net intervals plan set (node ∷ nodes) =
     exclusiveMeets (plan .on set)
-    (ownInterval s i n (getD (net .nodes) n noNode))
-    (nodeAmount net plan n)
-    && memberMeets s net i plan set ns
+    (ownInterval s intervals node (getD (net .nodes) node noNode))
+    (nodeAmount net plan node)
+    && memberMeets s net intervals plan set nodes
 
 unfoldable pub setsMeet : Sentinel → Network → Intervals → Plan → List (List ℕ) → Bool
-setsMeet s net i plan [] = true
-setsMeet s net i plan (x ∷ xs) = memberMeets s net i plan x x && setsMeet s net i plan xs
+setsMeet s net intervals plan [] = true
+setsMeet s net intervals plan (set ∷ sets) = memberMeets s net intervals plan set set && setsMeet s net intervals plan sets
 
 -- "the on sets of each exclusive aggregate, repeats counted, lie in min_active..max_active"
 unfoldable pub onCount : Plan → List (List ℕ) → ℕ
 onCount plan [] = 0
-onCount plan (s ∷ ss) = cond (plan .on s) 1 0 + onCount plan ss
+onCount plan (set ∷ sets) = cond (plan .on set) 1 0 + onCount plan sets
 
 unfoldable pub exclusivityMeets : Sentinel → Network → Intervals → Plan → ℕ → Aggregate → Bool
-exclusivityMeets s net i plan n a =
-    not (a .exclusive)
-    || (setsMeet s net i plan (a .sets) && leb (a .minActive) (onCount plan (a .sets)) && leb (onCount plan (a .sets)) (a .maxActive))
+exclusivityMeets s net intervals plan number aggregate =
+    not (aggregate .exclusive)
+    || (setsMeet s net intervals plan (aggregate .sets)
+    && leb (aggregate .minActive) (onCount plan (aggregate .sets))
+    && leb (onCount plan (aggregate .sets)) (aggregate .maxActive))
 
+-- "The network allows a plan exactly if .."
 unfoldable pub allows : Sentinel → Network → Intervals → Plan → Bool
-allows s net i plan =
+allows s net intervals plan =
     allFrom (balanced net plan) 0 (net .nodes)
-    && allFrom (nodeMeets s net i plan) 0 (net .nodes)
-    && allFrom (aggregateMeets s net i plan) 0 (net .aggregates)
-    && allFrom (virtualStorageMeets s net i plan) 0 (net .virtualStorages)
-    && allFrom (exclusivityMeets s net i plan) 0 (net .aggregates)
+    && allFrom (nodeMeets s net intervals plan) 0 (net .nodes)
+    && allFrom (aggregateMeets s net intervals plan) 0 (net .aggregates)
+    && allFrom (virtualStorageMeets s net intervals plan) 0 (net .virtualStorages)
+    && allFrom (exclusivityMeets s net intervals plan) 0 (net .aggregates)

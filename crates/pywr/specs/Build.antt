@@ -23,44 +23,46 @@ unfoldable pub setColumn : Column
 setColumn = record { integer = true; lower = zero64; upper = one64; cost = zero64 }
 
 unfoldable pub allColumns : Sentinel → ColumnMap → List Column
-allColumns s f = replicate (f .edgeColumns) (edgeColumn s) ++ replicate (length (f .sets)) setColumn
+allColumns s mapping = replicate (mapping .edgeColumns) (edgeColumn s) ++ replicate (length (mapping .sets)) setColumn
 
 unfoldable pub nodeShape : Node → NodeShape
-nodeShape n = record { kind = n .kind; constant = n .constant }
+nodeShape node = record { kind = node .kind; constant = node .constant }
 
+-- each request with the number of the row that it became
 unfoldable pub placedNodeRows : List RowRequest → List ℕ → List NodeRow
-placedNodeRows [] places = []
-placedNodeRows (a ∷ rest) [] = []
-placedNodeRows (a ∷ rest) (r ∷ places) = record { node = a .node; row = r; rowType = a .rowType; set = a .set } ∷ placedNodeRows rest places
+placedNodeRows [] rows = []
+placedNodeRows (request ∷ rest) [] = []
+placedNodeRows (request ∷ rest) (row ∷ rows) =
+    record { node = request .node; row = row; rowType = request .rowType; set = request .set } ∷ placedNodeRows rest rows
 
 unfoldable pub placedVirtualStorages : List VirtualStorage → List ℕ → List VirtualStorageShape
-placedVirtualStorages [] places = []
+placedVirtualStorages [] rows = []
 placedVirtualStorages (v ∷ vs) [] = []
-placedVirtualStorages (v ∷ vs) (r ∷ places) = record { row = r; period = v .period } ∷ placedVirtualStorages vs places
+placedVirtualStorages (v ∷ vs) (row ∷ rows) = record { row = row; period = v .period } ∷ placedVirtualStorages vs rows
 
 unfoldable pub requestedRow : RowRequest → List Element
-requestedRow a = a .row
+requestedRow request = request .row
 
 -- "varying first (nodes, aggregates, virtual storages), then fixed (mass, constant nodes, exclusivity)"
 unfoldable pub assemble : Sentinel → Network → ColumnMap → Built
-assemble s net f =
-    let requests : List RowRequest = requestsFrom f 0 (net .nodes) in
+assemble s net mapping =
+    let requests : List RowRequest = requestsFrom mapping 0 (net .nodes) in
     let forNodes : Joined = addVariableRows (map requestedRow requests) (record { rows = []; places = [] }) in
-    let forAggregates : Joined = addVariableRows (map (aggregateRow f) (net .aggregates)) (record { rows = forNodes .rows; places = [] }) in
-    let forVirtualStorages : Joined = addVariableRows (map (virtualStorageRow f) (net .virtualStorages)) (record { rows = forAggregates .rows; places = [] }) in
+    let forAggregates : Joined = addVariableRows (map (aggregateRow mapping) (net .aggregates)) (record { rows = forNodes .rows; places = [] }) in
+    let forVirtualStorages : Joined = addVariableRows (map (virtualStorageRow mapping) (net .virtualStorages)) (record { rows = forAggregates .rows; places = [] }) in
     record {
       programme =
           record {
             sentinel = s;
-            columns = allColumns s f;
+            columns = allColumns s mapping;
             varying = map (freshRow s) (forVirtualStorages .rows);
-            fixed = massRowsFrom f 0 (net .nodes) ++ constantRowsFrom s f 0 (net .nodes) ++ exclusivityRows f (net .aggregates);
+            fixed = massRowsFrom mapping 0 (net .nodes) ++ constantRowsFrom s mapping 0 (net .nodes) ++ exclusivityRows mapping (net .aggregates);
           };
       shape =
           record {
             nodes = map nodeShape (net .nodes);
-            mappedEdges = f .mappedEdges;
-            edgeColumns = f .edgeColumns;
+            mappedEdges = mapping .mappedEdges;
+            edgeColumns = mapping .edgeColumns;
             nodeRows = placedNodeRows requests (forNodes .places);
             aggregates = forAggregates .places;
             virtualStorages = placedVirtualStorages (net .virtualStorages) (forVirtualStorages .places);

@@ -1,5 +1,4 @@
 -- The files' bytes: little-endian integers, bit patterns of f64, two-byte marks, and readers of one field, which answer its value or a refusal.
--- Invariant of a reader's loop: `read file ≡ readFrom (what is left) (what was read so far) at`, since every reader that repeats is tail recursive.
 -- Assumes nothing.
 use Prim.Native.Nat.{ℕ, _+_, _*_}
 use mathlib.Core.List.{List}
@@ -22,13 +21,13 @@ le32 file at = le16 file at + 65536 * le16 file (at + 2)
 abbrev pub le64 : List ℕ → ℕ → ℕ
 le64 file at = le32 file at + 4294967296 * le32 file (at + 4)
 
--- n bytes stand in the file from at
+-- so many bytes stand in the file from `at` on
 abbrev pub within : List ℕ → ℕ → ℕ → Bool
-within file at n = leb (at + n) (length file)
+within file at count = leb (at + count) (length file)
 
--- "A two-byte ASCII mark opens each record": a and b are its two letters
+-- "A two-byte ASCII mark opens each record"
 abbrev pub markIs : List ℕ → ℕ → ℕ → ℕ → Bool
-markIs file at a b = eqb (byte file at) a && eqb (byte file (at + 1)) b
+markIs file at first second = eqb (byte file at) first && eqb (byte file (at + 1)) second
 
 -- A field of the record at `place`, in the bytes from `at`. `short` is the refusal where the file ends inside the field: 1 in a network, 12 in a step.
 module _ (file : List ℕ) (place short : ℕ) where

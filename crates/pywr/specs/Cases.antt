@@ -1,4 +1,4 @@
--- Document 01's cases marked •, proved together as one table by computing these definitions, most of them on the bytes of a file.
+-- Document 01's cases marked •, together as one table about these definitions, most of them on the bytes of a file.
 -- Assumes nothing.
 use mathlib.Core.Path.{_≡_, refl}
 use Prim.Native.Nat.{ℕ}
@@ -80,8 +80,10 @@ pumps =
 unfoldable pub inputToOutput : List ℕ
 inputToOutput = varying input ++ varying output ++ edge 0 1
 
+-- a step of that network: the input's interval, then the output's
 unfoldable pub inputToOutputStep : ℕ → ℕ → ℕ → ℕ → List ℕ
-inputToOutputStep a b c d = date 6 1 one64 ++ nodeStep zero64 (double a) (double b) zero64 ++ nodeStep zero64 (double c) (double d) zero64
+inputToOutputStep min max min′ max′ =
+    date 6 1 one64 ++ nodeStep zero64 (double min) (double max) zero64 ++ nodeStep zero64 (double min′) (double max′) zero64
 
 unfoldable pub blank : Store
 blank =
@@ -113,7 +115,7 @@ acceptedAfter store file = isAccepted (stepAnswer store file work)
 unfoldable pub interval : Float → Float → Interval
 interval lower upper = record { lower = lower; upper = upper }
 
--- doubles written out, m odd or 0: m, m * 2 ^ e and m / 2 ^ e
+-- doubles written out, m odd or 0: m, m * 2 ^ e and −m
 abbrev pub whole : ℕ → Float
 whole m = fin false m (pos 0)
 
@@ -172,7 +174,8 @@ pub record Cases : Type 0 where
   pub wrappedOver : isActive (season 3 10 3 5) 3 7 ≡ false
 
 pub cases : Cases
-unfolding computing columnsOf fixedOf varyingOf placesOf chainNodes mixedChain orderedChain ring edgelessInputs pumps inputToOutput inputToOutputStep blank work built boundsAfter acceptedAfter interval season
+unfolding computing columnsOf fixedOf varyingOf placesOf chainNodes mixedChain orderedChain ring edgelessInputs pumps inputToOutput inputToOutputStep
+    blank work built boundsAfter acceptedAfter interval season
 cases =
     record {
       mixedColumns = refl;

@@ -2,9 +2,9 @@
 -- Assumes nothing.
 use Prim.Native.Nat.{ℕ, suc}
 use mathlib.Core.List.{List, [], _∷_}
-use mathlib.Core.Bool.{cond}
+use mathlib.Core.Bool.{cond, _&&_}
 use mathlib.Core.Option.{Option, none, some, Option·getD}
-use lib.ListN.{length, getD, set, replicate}
+use lib.ListN.{length, getD, getElem?, set, replicate}
 use lib.Dec.{eqb}
 use Rattle.pywr.specs.Network.{link, Edge, Network, kindOf, incoming, outgoing}
 
@@ -14,46 +14,44 @@ pub record Columns : Type 0 where
   pub count : ℕ
 
 unfoldable pub columnAt : Columns → ℕ → Option ℕ
-columnAt c e = getD (c .of) e none
+columnAt given edge = getD (given .of) edge none
 
+-- an edge gets a column that is there already
 unfoldable pub put : ℕ → ℕ → Columns → Columns
-put e column c = record { of = set (c .of) e (some column); count = c .count }
+put edge column given = record { of = set (given .of) edge (some column); count = given .count }
 
+-- an edge gets a new column
 unfoldable pub putNew : ℕ → Columns → Columns
-putNew e c = record { of = set (c .of) e (some (c .count)); count = suc (c .count) }
+putNew edge given = record { of = set (given .of) edge (some (given .count)); count = suc (given .count) }
 
--- add_simple_edge: "any other takes a new column unless it has one"
+-- add_simple_edge: "any other takes a new column unless it has one". The edge's column comes first
 unfoldable pub addSimpleEdge : Option ℕ → ℕ → Columns → Columns
-addSimpleEdge (some column) e c = c
-addSimpleEdge none e c = putNew e c
+addSimpleEdge (some column) edge given = given
+addSimpleEdge none edge given = putNew edge given
 
 -- add_equal_edges: an edge and the incoming edge whose column it shares. "If both already have columns, nothing merges."
+-- The columns of the two come first
 unfoldable pub addEqualEdges : Option ℕ → Option ℕ → ℕ → ℕ → Columns → Columns
-addEqualEdges (some column) (some other) e before c = c
-addEqualEdges none (some column) e before c = put e column c
-addEqualEdges (some column) none e before c = put before column c
-addEqualEdges none none e before c = put before (c .count) (putNew e c)
+addEqualEdges (some column) (some other) edge before given = given
+addEqualEdges none (some column) edge before given = put edge column given
+addEqualEdges (some column) none edge before given = put before column given
+addEqualEdges none none edge before given = put before (given .count) (putNew edge given)
 
 -- "An edge leaving a link with one edge in and one out shares that incoming edge's column": that incoming edge
 unfoldable pub single : List ℕ → List ℕ → Option ℕ
-single [] out = none
-single (i ∷ []) [] = none
-single (i ∷ []) (o ∷ []) = some i
-single (i ∷ []) (o ∷ p ∷ out) = none
-single (i ∷ j ∷ into) out = none
+single into out = cond (eqb (length into) 1 && eqb (length out) 1) (getElem? into 0) none
 
 unfoldable pub sharesWith : Network → Edge → Option ℕ
-sharesWith net e = cond (eqb (kindOf (net .nodes) (e .from)) link) (single (incoming net (e .from)) (outgoing net (e .from))) none
+sharesWith net edge = cond (eqb (kindOf (net .nodes) (edge .from)) link) (single (incoming net (edge .from)) (outgoing net (edge .from))) none
 
 unfoldable pub placeEdge : Option ℕ → ℕ → Columns → Columns
-placeEdge none e c = addSimpleEdge (columnAt c e) e c
-placeEdge (some before) e c = addEqualEdges (columnAt c e) (columnAt c before) e before c
+placeEdge none edge given = addSimpleEdge (columnAt given edge) edge given
+placeEdge (some before) edge given = addEqualEdges (columnAt given edge) (columnAt given before) edge before given
 
--- "Edges go in index order": e is the number of the first edge of the list.
--- Invariant of the loop: `columns net ≡ placeEdges net e (drop e (net .edges)) now`
+-- "Edges go in index order"; the first edge of the list has this number
 unfoldable pub placeEdges : Network → ℕ → List Edge → Columns → Columns
-placeEdges net e [] c = c
-placeEdges net e (x ∷ xs) c = placeEdges net (suc e) xs (placeEdge (sharesWith net x) e c)
+placeEdges net number [] given = given
+placeEdges net number (edge ∷ edges) given = placeEdges net (suc number) edges (placeEdge (sharesWith net edge) number given)
 
 unfoldable pub columns : Network → Columns
 columns net = placeEdges net 0 (net .edges) (record { of = replicate (length (net .edges)) none; count = 0 })
@@ -64,14 +62,15 @@ pub record MappedEdge : Type 0 where
   pub to : ℕ
   pub column : ℕ
 
+-- `columns` gives every edge a column, so the 0 never stands
 unfoldable pub withColumns : List Edge → List (Option ℕ) → List MappedEdge
-withColumns [] cs = []
-withColumns (e ∷ es) [] = []
-withColumns (e ∷ es) (c ∷ cs) = record { from = e .from; to = e .to; column = Option·getD c 0 } ∷ withColumns es cs
+withColumns [] given = []
+withColumns (edge ∷ edges) [] = []
+withColumns (edge ∷ edges) (column ∷ rest) = record { from = edge .from; to = edge .to; column = Option·getD column 0 } ∷ withColumns edges rest
 
 unfoldable pub mappedEdges : Network → List MappedEdge
 mappedEdges net = withColumns (net .edges) (columns net .of)
 
 -- the column of an edge by its number
 unfoldable pub columnOf : Network → ℕ → ℕ
-columnOf net e = Option·getD (columnAt (columns net) e) 0
+columnOf net edge = Option·getD (columnAt (columns net) edge) 0

@@ -18,7 +18,7 @@ use Rattle.pywr.specs.StepFile.{StepFile, readStep}
 use Rattle.pywr.specs.StepIntervals.{intervals}
 use Rattle.pywr.specs.Store.{Store, programmeIn}
 use Rattle.pywr.specs.Calls.{buildAnswer, buildStore, stepAnswer, stepStore, isAccepted}
-use Rattle.pywr.specs.Plans.{exact, Plan, unit, allFrom}
+use Rattle.pywr.specs.Plans.{exact, Plan, unitsInOne, allFrom}
 use Rattle.pywr.specs.Allows.{allows}
 use Rattle.pywr.specs.Admits.{admits}
 
@@ -31,7 +31,7 @@ pub record Call : Type 0 where
 
 unfoldable pub storeAfter : Store → List Call → Store
 storeAfter store [] = store
-storeAfter store (c ∷ cs) = storeAfter (stepStore store (c .file) (c .work)) cs
+storeAfter store (call ∷ rest) = storeAfter (stepStore store (call .file) (call .work)) rest
 
 -- ---- what the network's side is told: the step files in turn, and which were accepted
 
@@ -41,14 +41,16 @@ pub record Report : Type 0 where
 
 unfoldable pub reports : Store → List Call → List Report
 reports store [] = []
-reports store (c ∷ cs) =
-    record { file = c .file; accepted = isAccepted (stepAnswer store (c .file) (c .work)) } ∷ reports (stepStore store (c .file) (c .work)) cs
+reports store (call ∷ rest) =
+    record { file = call .file; accepted = isAccepted (stepAnswer store (call .file) (call .work)) }
+    ∷ reports (stepStore store (call .file) (call .work)) rest
 
 -- "It keeps the last accepted file; a refused step changes nothing."
 unfoldable pub lastAccepted : Option (List ℕ) → List Report → Option (List ℕ)
 lastAccepted kept [] = kept
-lastAccepted kept (t ∷ ts) = lastAccepted (cond (t .accepted) (some (t .file)) kept) ts
+lastAccepted kept (report ∷ rest) = lastAccepted (cond (report .accepted) (some (report .file)) kept) rest
 
+-- the virtual storages' periods
 unfoldable pub periodsOf : Network → List Period
 periodsOf net = map (λ (v : VirtualStorage). v .period) (net .virtualStorages)
 
@@ -56,9 +58,10 @@ periodsOf net = map (λ (v : VirtualStorage). v .period) (net .virtualStorages)
 unfoldable pub readBy : Network → List ℕ → Result StepFile
 readBy net file = readStep (map nodeShape (net .nodes)) (length (net .aggregates)) (length (net .virtualStorages)) file
 
+-- nothing is allowed where no step was accepted, or where the file is not one of this network
 unfoldable pub allowsRead : Sentinel → Network → Result StepFile → Plan → Bool
 allowsRead s net (refused number place) plan = false
-allowsRead s net (value f) plan = allows s net (intervals s (periodsOf net) f) plan
+allowsRead s net (value step) plan = allows s net (intervals s (periodsOf net) step) plan
 
 unfoldable pub allowsUnder : Sentinel → Network → Option (List ℕ) → Plan → Bool
 allowsUnder s net none plan = false
@@ -66,8 +69,8 @@ allowsUnder s net (some file) plan = allowsRead s net (readBy net file) plan
 
 -- "The network's side is fed the network file, the sentinel picked and the step files in turn; of the port it is told only which steps were accepted."
 unfoldable pub networkAllows : Result Network → Sentinel → List Report → Plan → Bool
-networkAllows (refused number place) s ts plan = false
-networkAllows (value net) s ts plan = allowsUnder s net (lastAccepted none ts) plan
+networkAllows (refused number place) s reports plan = false
+networkAllows (value net) s reports plan = allowsUnder s net (lastAccepted none reports) plan
 
 -- the columns are those of col_edge_map.rs on the network file
 unfoldable pub programmeAdmits : Result Network → Store → Plan → Bool
@@ -78,22 +81,23 @@ programmeAdmits (value net) store plan = admits (columnMap net) (programmeIn sto
 
 -- exclusive nodes have constant bounds
 unfoldable pub exclusiveConstant : Network → Bool
-exclusiveConstant net = allFrom (λ (n : ℕ) (x : Node). not (isExclusive (net .aggregates) n) || x .constant) 0 (net .nodes)
+exclusiveConstant net = allFrom (λ (number : ℕ) (node : Node). not (isExclusive (net .aggregates) number) || node .constant) 0 (net .nodes)
 
 -- virtual-storage factors are whole, at most 1,000,000 in magnitude
 unfoldable pub isWhole : Part → Bool
-isWhole p = eqb (natAbs (exact (p .factor)) % unit) 0 && leb (natAbs (exact (p .factor)) / unit) 1000000
+isWhole part = eqb (natAbs (exact (part .factor)) % unitsInOne) 0 && leb (natAbs (exact (part .factor)) / unitsInOne) 1000000
 
 unfoldable pub factorsWhole : Network → Bool
-factorsWhole net = allFrom (λ (n : ℕ) (v : VirtualStorage). allFrom (λ (k : ℕ) (p : Part). isWhole p) 0 (v .parts)) 0 (net .virtualStorages)
+factorsWhole net =
+    allFrom (λ (number : ℕ) (v : VirtualStorage). allFrom (λ (index : ℕ) (part : Part). isWhole part) 0 (v .parts)) 0 (net .virtualStorages)
 
 unfoldable pub anyAccepted : List Report → Bool
 anyAccepted [] = false
-anyAccepted (t ∷ ts) = t .accepted || anyAccepted ts
+anyAccepted (report ∷ rest) = report .accepted || anyAccepted rest
 
--- Demand 3: for every list of steps, refused ones included, from the store that any successful build left: after the list, if at least one was accepted,
--- the programme admits each flow plan exactly when the network allows that plan under the last accepted step.
--- The build and each step have a work area of any length and content. Premises: only these steps write the store (the fold), and the two above.
+-- Demand 3: for every list of steps, refused ones included, from the store that any accepted build left: after the list, if at least one was accepted,
+-- the programme admits each plan exactly if the network allows it under the last accepted step.
+-- The build and each step have a work area of any length and content. Premises: nothing but these steps writes the store (`storeAfter`), and the two above.
 abbrev pub Correspondence : Type 0
 Correspondence =
     (networkFile : List ℕ) (s : Sentinel) (old : Store) (words : List ℕ) (numbers : List Float) (net : Network)

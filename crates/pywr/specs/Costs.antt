@@ -22,25 +22,24 @@ incomingCost kind cost = cond (eqb kind link) (div binary64 cost two64) cost
 unfoldable pub edgeCost : ℕ → Float → ℕ → Float → Float
 edgeCost fromKind fromCost toKind toCost = add binary64 (outgoingCost fromKind fromCost) (incomingCost toKind toCost)
 
+-- a node's kind and its cost, by its number
 unfoldable pub kindAt : List NodeShape → ℕ → ℕ
-kindAt [] n = 0
+kindAt [] node = 0
 kindAt (x ∷ xs) zero = x .kind
-kindAt (x ∷ xs) (suc n) = kindAt xs n
+kindAt (x ∷ xs) (suc node) = kindAt xs node
 
 unfoldable pub costAt : List NodeStep → ℕ → Float
-costAt [] n = zero64
+costAt [] node = zero64
 costAt (x ∷ xs) zero = x .cost
-costAt (x ∷ xs) (suc n) = costAt xs n
+costAt (x ∷ xs) (suc node) = costAt xs node
 
 -- "Costs add into the column in edge order from 0.0."
--- Invariant of the loop: `stepCosts .. ≡ addCosts shapes steps (drop e mappedEdges) costsNow`
 unfoldable pub addCosts : List NodeShape → List NodeStep → List MappedEdge → List Float → List Float
 addCosts shapes steps [] costs = costs
-addCosts shapes steps (p ∷ ps) costs =
-    addCosts shapes steps ps
-    (set costs (p .column)
-    (add binary64 (getD costs (p .column) zero64)
-    (edgeCost (kindAt shapes (p .from)) (costAt steps (p .from)) (kindAt shapes (p .to)) (costAt steps (p .to)))))
+addCosts shapes steps (edge ∷ edges) costs =
+    let cost : Float = edgeCost (kindAt shapes (edge .from)) (costAt steps (edge .from)) (kindAt shapes (edge .to)) (costAt steps (edge .to)) in
+    addCosts shapes steps edges (set costs (edge .column) (add binary64 (getD costs (edge .column) zero64) cost))
 
+-- the cost of every column
 unfoldable pub stepCosts : Shape → ℕ → List NodeStep → List Float
 stepCosts shape columns steps = addCosts (shape .nodes) steps (shape .mappedEdges) (replicate columns zero64)

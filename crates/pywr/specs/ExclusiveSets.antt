@@ -13,32 +13,33 @@ sameSet (x ∷ xs) [] = false
 sameSet (x ∷ xs) (y ∷ ys) = eqb x y && sameSet xs ys
 
 unfoldable pub hasSet : List ℕ → List (List ℕ) → Bool
-hasSet s [] = false
-hasSet s (t ∷ ts) = sameSet t s || hasSet s ts
+hasSet set [] = false
+hasSet set (other ∷ others) = sameSet other set || hasSet set others
 
--- the sets of the list that are not there yet, added in order: "The port takes first appearance"
+-- the sets of the list that are not known yet, added in order: "The port takes first appearance"
 unfoldable pub addSets : List (List ℕ) → List (List ℕ) → List (List ℕ)
 addSets known [] = known
-addSets known (s ∷ ss) = addSets (cond (hasSet s known) known (known ++ (s ∷ []))) ss
+addSets known (set ∷ sets) = addSets (cond (hasSet set known) known (known ++ (set ∷ []))) sets
 
 -- the distinct sets of the exclusive aggregates; the set numbered k has the integer column `edge columns + k`
 unfoldable pub setsFrom : List (List ℕ) → List Aggregate → List (List ℕ)
 setsFrom known [] = known
-setsFrom known (a ∷ rest) = setsFrom (cond (a .exclusive) (addSets known (a .sets)) known) rest
+setsFrom known (aggregate ∷ rest) = setsFrom (cond (aggregate .exclusive) (addSets known (aggregate .sets)) known) rest
 
 unfoldable pub exclusiveSets : Network → List (List ℕ)
 exclusiveSets net = setsFrom [] (net .aggregates)
 
 -- the number of a set among the distinct ones
 unfoldable pub setNumber : List ℕ → List (List ℕ) → ℕ
-setNumber s [] = 0
-setNumber s (t ∷ ts) = cond (sameSet t s) 0 (suc (setNumber s ts))
+setNumber set [] = 0
+setNumber set (other ∷ others) = cond (sameSet other set) 0 (suc (setNumber set others))
 
--- the sets that list a node, by number, once for each time that they list it: "listed twice in a set, its rows come twice"
+-- a set's number, once for each time that the set lists the node: "listed twice in a set, its rows come twice"
 unfoldable pub timesIn : ℕ → ℕ → List ℕ → List ℕ
-timesIn n k [] = []
-timesIn n k (m ∷ ms) = keepIf (eqb m n) k (timesIn n k ms)
+timesIn node number [] = []
+timesIn node number (n ∷ ns) = keepIf (eqb n node) number (timesIn node number ns)
 
+-- that of every set in turn; the first set of the list has this number
 unfoldable pub setsWithNode : ℕ → ℕ → List (List ℕ) → List ℕ
-setsWithNode n k [] = []
-setsWithNode n k (s ∷ ss) = timesIn n k s ++ setsWithNode n (suc k) ss
+setsWithNode node number [] = []
+setsWithNode node number (set ∷ sets) = timesIn node number set ++ setsWithNode node (suc number) sets

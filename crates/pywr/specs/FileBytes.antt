@@ -5,6 +5,7 @@ use lib.ListN.{length}
 use lib.Ieee.{Float, binary64, toBits}
 use Rattle.pywr.specs.Numbers.{zero64}
 
+-- an integer of two bytes, of four, and a double, little-endian
 unfoldable pub w16 : ℕ → List ℕ
 w16 n = n % 256 ∷ n / 256 % 256 ∷ []
 
@@ -24,12 +25,14 @@ constant kind min max = 78 ∷ 68 ∷ kind ∷ 1 ∷ w64 min ++ w64 max
 unfoldable pub edge : ℕ → ℕ → List ℕ
 edge from to = 69 ∷ 68 ∷ w16 from ++ w16 to
 
+-- a set of nodes, and an exclusive aggregate
 unfoldable pub setBytes : List ℕ → List ℕ
-setBytes s = length s ∷ flatMap w16 s
+setBytes set = length set ∷ flatMap w16 set
 
 unfoldable pub exclusive : ℕ → ℕ → List (List ℕ) → List ℕ
 exclusive least most sets = 65 ∷ 71 ∷ 1 ∷ length sets ∷ w32 least ++ w32 most ++ flatMap setBytes sets
 
+-- the records of a step file: `ST`, `NB`, `GB`
 unfoldable pub date : ℕ → ℕ → Float → List ℕ
 date month day days = 83 ∷ 84 ∷ month ∷ day ∷ w64 days
 

@@ -13,6 +13,7 @@ use Rattle.pywr.specs.Bytes.{within, markIs, u8, u16, u32, bits64, check
 use Rattle.pywr.specs.Numbers.{isFlow, isSmall, ofPattern}
 use Rattle.pywr.specs.Network.{input, output, link, storage, Node, Edge, Aggregate, Part, VirtualStorage, Network, kindOf, isExclusive, incoming, outgoing}
 
+-- least and most included
 unfoldable pub between : ℕ → ℕ → ℕ → Bool
 between least most n = leb least n && leb n most
 
@@ -21,14 +22,15 @@ pub record Read (A : Type 0) : Type 0 where
   pub item : A
   pub next : ℕ
 
--- `ND`: kind u8, constant u8, min f64, max f64. "Varying: both all zero bits. Storage is varying."
+-- min and max: "Varying: both all zero bits."
 unfoldable pub constantFits : ℕ → ℕ → Bool
 constantFits constant bits = cond (eqb constant 1) (isFlow bits) (eqb bits 0)
 
--- a storage's flag is 0
+-- the constant flag's most: "Storage is varying."
 unfoldable pub mostConstant : ℕ → ℕ
 mostConstant kind = cond (eqb kind storage) 0 1
 
+-- `ND`: kind u8, constant u8, min f64, max f64
 unfoldable pub readNode : List ℕ → ℕ → Result (Read Node)
 readNode file at = do
   kind ← checked 3 at (between 0 3) (u8 file at 1 (at + 2))
@@ -37,15 +39,16 @@ readNode file at = do
   max ← checked 3 at (constantFits constant) (bits64 file at 1 (at + 12))
   value (record { item = record { kind = kind; constant = eqb constant 1; min = ofPattern min; max = ofPattern max }; next = at + 20 })
 
--- `ED`: from u16, to u16
+-- an edge of the list has this pair of nodes
 unfoldable pub joins : List Edge → ℕ → ℕ → Bool
 joins [] from to = false
-joins (e ∷ es) from to = (eqb (e .from) from && eqb (e .to) to) || joins es from to
+joins (edge ∷ edges) from to = (eqb (edge .from) from && eqb (edge .to) to) || joins edges from to
 
 -- 5 "edge into an input, out of an output, to itself, or repeating a pair"
 unfoldable pub badEdge : Network → ℕ → ℕ → Bool
 badEdge net from to = eqb (kindOf (net .nodes) to) input || eqb (kindOf (net .nodes) from) output || eqb from to || joins (net .edges) from to
 
+-- `ED`: from u16, to u16
 unfoldable pub readEdge : Network → List ℕ → ℕ → Result (Read Edge)
 readEdge net file at = do
   from ← checked 4 at (λ n. ltb n (length (net .nodes))) (u16 file at 1 (at + 2))
@@ -67,7 +70,7 @@ readSets file place nodes (suc count) soFar at = do
   members ← readMembers file place nodes size [] (at + 1)
   readSets file place nodes count (soFar ++ (members .item ∷ [])) (members .next)
 
--- 0 if plain; max_active also at least min_active
+-- min_active and max_active: 0 if plain, and max_active at least min_active
 unfoldable pub activeFits : ℕ → ℕ → ℕ → Bool
 activeFits kind least n = (eqb kind 1 || eqb n 0) && leb least n
 
@@ -196,8 +199,7 @@ readRecord file r = do
   read ← readBody known (r .network) file (r .at)
   value (record { network = read .item; at = read .next; stage = rank known })
 
--- The records up to the file's end. Each takes two bytes at least, so a count of the file's length is enough.
--- Invariant of the loop: `readRecords (length file) file start ≡ readRecords left file now`, with `length file ≤ left + now .at`
+-- The records up to the file's end, at most `left` of them. Each takes two bytes at least, so as many as the file has bytes are enough.
 unfoldable pub readRecords : ℕ → List ℕ → Reading → Result Network
 readRecords zero file r = value (r .network)
 readRecords (suc left) file r =
@@ -206,10 +208,10 @@ readRecords (suc left) file r =
 abbrev pub emptyNetwork : Network
 emptyNetwork = record { nodes = []; edges = []; aggregates = []; virtualStorages = [] }
 
--- the first node, counted from i, at which the test gives a refusal's number
+-- the first node at which the test gives a refusal: its number, and the place, which is the node's index; the first node of the list has this one
 unfoldable pub firstRefused : (ℕ → Node → Option ℕ) → ℕ → List Node → Option (ℕ × ℕ)
-firstRefused test i [] = none
-firstRefused test i (n ∷ ns) = elim (test i n) [ none ↦ firstRefused test (suc i) ns | some number ↦ some (number, i) ]
+firstRefused test index [] = none
+firstRefused test index (node ∷ nodes) = elim (test index node) [ none ↦ firstRefused test (suc index) nodes | some number ↦ some (number, index) ]
 
 -- 8 "link without incoming or outgoing"
 unfoldable pub isEmpty : List ℕ → Bool
@@ -217,13 +219,13 @@ isEmpty [] = true
 isEmpty (x ∷ xs) = false
 
 unfoldable pub unconnectedLink : Network → ℕ → Node → Option ℕ
-unconnectedLink net i n = cond (eqb (n .kind) link && (isEmpty (incoming net i) || isEmpty (outgoing net i))) (some 8) none
+unconnectedLink net index node = cond (eqb (node .kind) link && (isEmpty (incoming net index) || isEmpty (outgoing net index))) (some 8) none
 
 -- 9 "constant min over max"; 10 "exclusive constant max −infinity or min +infinity"
 unfoldable pub badConstant : Network → ℕ → Node → Option ℕ
-badConstant net i n =
-    cond (n .constant && lt (n .max) (n .min)) (some 9)
-    (cond (n .constant && isExclusive (net .aggregates) i && (eq (n .max) (inf true) || eq (n .min) (inf false))) (some 10) none)
+badConstant net index node =
+    cond (node .constant && lt (node .max) (node .min)) (some 9)
+    (cond (node .constant && isExclusive (net .aggregates) index && (eq (node .max) (inf true) || eq (node .min) (inf false))) (some 10) none)
 
 unfoldable pub refusedIf : Network → Option (ℕ × ℕ) → Result Network
 refusedIf net none = value net
@@ -232,9 +234,9 @@ refusedIf net (some found) = refused (found .0) (found .1)
 -- 7 "no edges (place 0)"; 8 by node; then by node 9, 10
 unfoldable pub checkNetwork : Network → Result Network
 checkNetwork net = do
-  a ← need (ltb 0 (length (net .edges))) 7 0 net
-  b ← refusedIf a (firstRefused (unconnectedLink a) 0 (a .nodes))
-  refusedIf b (firstRefused (badConstant b) 0 (b .nodes))
+  withEdges ← need (ltb 0 (length (net .edges))) 7 0 net
+  connected ← refusedIf withEdges (firstRefused (unconnectedLink withEdges) 0 (withEdges .nodes))
+  refusedIf connected (firstRefused (badConstant connected) 0 (connected .nodes))
 
 -- the whole file
 unfoldable pub parseNetwork : List ℕ → Result Network

@@ -1,4 +1,4 @@
--- The doubles that the papers name, and the order on doubles as the code asks it. Assumes nothing.
+-- The doubles that document 01 names, the lesser and the greater of two, and what a field of a file may hold. Assumes nothing.
 use Prim.Native.Nat.{ℕ}
 use mathlib.Core.Bool.{Bool, false, cond, not, _&&_}
 use lib.Ieee.{Float, inf, fin, binary64, round, neg, lt, le, ofBits, nanBits}
@@ -45,7 +45,7 @@ high Largest = ofBits binary64 0x7fefffffffffffff
 unfoldable pub low : Sentinel → Float
 low s = neg (high s)
 
--- the smaller and the larger of two, the first where they are equal
+-- the lesser and the greater of two, the one already held where they are equal
 unfoldable pub lesser : Float → Float → Float
 lesser held x = cond (lt x held) x held
 
@@ -64,5 +64,6 @@ isSmall bits = isFlow bits && (le (neg trillion) (ofBits binary64 bits) && le (o
 unfoldable pub isDays : ℕ → Bool
 isDays bits = isFlow bits && (le leastDays (ofBits binary64 bits) && le (ofBits binary64 bits) mostDays)
 
+-- the double of a field's bit pattern
 unfoldable pub ofPattern : ℕ → Float
 ofPattern bits = ofBits binary64 bits

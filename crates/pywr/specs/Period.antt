@@ -9,16 +9,15 @@ use Rattle.pywr.specs.declared.NodeBounds.{NodeBounds}
 use Rattle.pywr.specs.Network.{Period}
 use Rattle.pywr.specs.Interval.{sentinels, intervalOf}
 
--- (month, day) is not after (month, day)
+-- the first (month, day) is not after the second
 abbrev pub upTo : ℕ → ℕ → ℕ → ℕ → Bool
 upTo month day lastMonth lastDay = ltb month lastMonth || (eqb month lastMonth && leb day lastDay)
 
 unfoldable pub isActive : Period → ℕ → ℕ → Bool
-isActive p month day =
-    p .always
-    || cond (upTo (p .startMonth) (p .startDay) (p .endMonth) (p .endDay))
-    (upTo (p .startMonth) (p .startDay) month day && upTo month day (p .endMonth) (p .endDay))
-    (upTo (p .startMonth) (p .startDay) month day || upTo month day (p .endMonth) (p .endDay))
+isActive period month day =
+    let fromStart : Bool = upTo (period .startMonth) (period .startDay) month day in
+    let toEnd : Bool = upTo month day (period .endMonth) (period .endDay) in
+    period .always || cond (upTo (period .startMonth) (period .startDay) (period .endMonth) (period .endDay)) (fromStart && toEnd) (fromStart || toEnd)
 
 -- "Interval as storage, but ..; sentinels when inactive."
 unfoldable pub virtualInterval : Sentinel → Float → Bool → NodeBounds → Interval

@@ -26,27 +26,30 @@ pub record Programme : Type 0 where
   pub varying : List Row
   pub fixed : List Row
 
--- ---- what a step needs
+-- ---- what a step needs of the network
 
 pub record NodeShape : Type 0 where
   pub kind : ℕ
   pub constant : Bool
 
--- NodeRowType: what a step does to the row, apply the node's interval or set the coefficient on the set's column
+-- NodeRowType: what a step does to the row. A continuous row's bounds are tightened by the node's interval; on a binary one, which is an upper or a lower row
+-- of an exclusive node, the coefficient on the set's column is set
 pub data RowType : Type 0 where
   continuous binaryUpper binaryLower : RowType
 
--- NodeRowId, for each row that a varying node asked for: `set` is a set's number, and 0 in a continuous one
+-- NodeRowId, for each row that a varying node asked for: `row` is the row's number, `set` that of the exclusive set, and 0 in a continuous one
 pub record NodeRow : Type 0 where
   pub node : ℕ
   pub row : ℕ
   pub rowType : RowType
   pub set : ℕ
 
+-- `row` is the number of its row
 pub record VirtualStorageShape : Type 0 where
   pub row : ℕ
   pub period : Period
 
+-- `aggregates` has the number of each aggregate's row
 pub record Shape : Type 0 where
   pub nodes : List NodeShape
   pub mappedEdges : List MappedEdge

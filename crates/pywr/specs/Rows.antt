@@ -1,8 +1,8 @@
 -- The rows: elements that rise by column, and what each maker of a row puts into it (builder.rs). Assumes nothing.
-use Prim.Native.Nat.{ℕ, _+_, compare, Ordering, Ordering·lt, Ordering·eq, Ordering·gt}
+use Prim.Native.Nat.{ℕ, _+_}
 use mathlib.Core.List.{List, [], _∷_}
 use mathlib.Core.Bool.{cond}
-use lib.Dec.{eqb}
+use lib.Dec.{ltb, eqb}
 use lib.Ieee.{Float, binary64, add, neg}
 use Rattle.pywr.specs.Numbers.{zero64, one64}
 use Rattle.pywr.specs.Network.{output, storage, Node, Aggregate, Part, VirtualStorage, Network, kindOf, keepIf}
@@ -17,19 +17,17 @@ abbrev pub element : ℕ → Float → Element
 element column value = record { column = column; value = value }
 
 -- add_element: "Elements of a row rise by column; repeats add, from 0.0."
-unfoldable pub insert : Ordering → ℕ → Float → Element → List Element → List Element → List Element
-insert Ordering·lt c x e es more = element c (add binary64 zero64 x) ∷ e ∷ es
-insert Ordering·eq c x e es more = element c (add binary64 (e .value) x) ∷ es
-insert Ordering·gt c x e es more = e ∷ more
-
 unfoldable pub addElement : ℕ → Float → List Element → List Element
-addElement c x [] = element c (add binary64 zero64 x) ∷ []
-addElement c x (e ∷ es) = insert (compare c (e .column)) c x e es (addElement c x es)
+addElement column value [] = element column (add binary64 zero64 value) ∷ []
+addElement column value (e ∷ es) =
+    cond (ltb column (e .column)) (element column (add binary64 zero64 value) ∷ e ∷ es)
+    (cond (eqb column (e .column)) (element column (add binary64 (e .value) value) ∷ es)
+    (e ∷ addElement column value es))
 
 -- the same factor added on each column of a list, in order
 unfoldable pub addOn : List ℕ → Float → List Element → List Element
-addOn [] x row = row
-addOn (c ∷ cs) x row = addOn cs x (addElement c x row)
+addOn [] factor row = row
+addOn (column ∷ columns) factor row = addOn columns factor (addElement column factor row)
 
 -- what every row is made from: the network's nodes, its edges with their columns, how many edge columns there are, the distinct sets
 pub record ColumnMap : Type 0 where
@@ -41,62 +39,65 @@ pub record ColumnMap : Type 0 where
 unfoldable pub columnMap : Network → ColumnMap
 columnMap net = record { nodes = net .nodes; mappedEdges = mappedEdges net; edgeColumns = columns net .count; sets = exclusiveSets net }
 
--- the columns of the edges whose one end is node n, in edge order
+-- the columns of the edges whose one end is the node, in edge order
 unfoldable pub columnsWith : (MappedEdge → ℕ) → ℕ → List MappedEdge → List ℕ
-columnsWith end n [] = []
-columnsWith end n (p ∷ ps) = keepIf (eqb (end p) n) (p .column) (columnsWith end n ps)
+columnsWith end node [] = []
+columnsWith end node (edge ∷ edges) = keepIf (eqb (end edge) node) (edge .column) (columnsWith end node edges)
 
 unfoldable pub columnsInto : ℕ → List MappedEdge → List ℕ
-columnsInto n ps = columnsWith (λ p. p .to) n ps
+columnsInto node edges = columnsWith (λ edge. edge .to) node edges
 
 unfoldable pub columnsOutOf : ℕ → List MappedEdge → List ℕ
-columnsOutOf n ps = columnsWith (λ p. p .from) n ps
+columnsOutOf node edges = columnsWith (λ edge. edge .from) node edges
 
--- add_node. "Node row: input and link use outgoing edges, output incoming, storage + incoming − outgoing."
+-- add_node: a factor times the node's row is added. "Node row: input and link use outgoing edges, output incoming, storage + incoming − outgoing."
 unfoldable pub addNode : ColumnMap → ℕ → Float → List Element → List Element
-addNode f n x row =
-    cond (eqb (kindOf (f .nodes) n) output) (addOn (columnsInto n (f .mappedEdges)) x row)
-    (cond (eqb (kindOf (f .nodes) n) storage) (addOn (columnsOutOf n (f .mappedEdges)) (neg x) (addOn (columnsInto n (f .mappedEdges)) x row))
-    (addOn (columnsOutOf n (f .mappedEdges)) x row))
+addNode mapping node factor row =
+    let into : List ℕ = columnsInto node (mapping .mappedEdges) in
+    let out : List ℕ = columnsOutOf node (mapping .mappedEdges) in
+    cond (eqb (kindOf (mapping .nodes) node) output) (addOn into factor row)
+    (cond (eqb (kindOf (mapping .nodes) node) storage) (addOn out (neg factor) (addOn into factor row))
+    (addOn out factor row))
 
 unfoldable pub nodeRow : ColumnMap → ℕ → List Element
-nodeRow f n = addNode f n one64 []
+nodeRow mapping node = addNode mapping node one64 []
 
 -- "A link's mass row (+1 in, −1 out, bounds 0)"
 unfoldable pub massRow : ColumnMap → ℕ → List Element
-massRow f n = addOn (columnsOutOf n (f .mappedEdges)) (neg one64) (addOn (columnsInto n (f .mappedEdges)) one64 [])
+massRow mapping node = addOn (columnsOutOf node (mapping .mappedEdges)) (neg one64) (addOn (columnsInto node (mapping .mappedEdges)) one64 [])
 
 -- "Aggregate row, plain or exclusive: the node rows of every node listed."
 unfoldable pub addNodes : ColumnMap → List ℕ → List Element → List Element
-addNodes f [] row = row
-addNodes f (n ∷ ns) row = addNodes f ns (addNode f n one64 row)
+addNodes mapping [] row = row
+addNodes mapping (node ∷ nodes) row = addNodes mapping nodes (addNode mapping node one64 row)
 
 unfoldable pub addSetsOf : ColumnMap → List (List ℕ) → List Element → List Element
-addSetsOf f [] row = row
-addSetsOf f (s ∷ ss) row = addSetsOf f ss (addNodes f s row)
+addSetsOf mapping [] row = row
+addSetsOf mapping (set ∷ sets) row = addSetsOf mapping sets (addNodes mapping set row)
 
 unfoldable pub aggregateRow : ColumnMap → Aggregate → List Element
-aggregateRow f a = addSetsOf f (a .sets) []
+aggregateRow mapping aggregate = addSetsOf mapping (aggregate .sets) []
 
--- "Row: minus factor times node row."
+-- a virtual storage: "Row: minus factor times node row."
 unfoldable pub addParts : ColumnMap → List Part → List Element → List Element
-addParts f [] row = row
-addParts f (p ∷ ps) row = addParts f ps (addNode f (p .node) (neg (p .factor)) row)
+addParts mapping [] row = row
+addParts mapping (part ∷ parts) row = addParts mapping parts (addNode mapping (part .node) (neg (part .factor)) row)
 
 unfoldable pub virtualStorageRow : ColumnMap → VirtualStorage → List Element
-virtualStorageRow f v = addParts f (v .parts) []
+virtualStorageRow mapping v = addParts mapping (v .parts) []
 
--- "an upper row (minus its node row, plus a coefficient on the set's column), then a lower row (its node row, plus a coefficient there)"
+-- an exclusive node and the number of its set: "an upper row (minus its node row, plus a coefficient on the set's column), then a lower row (its node row,
+-- plus a coefficient there)"
 unfoldable pub upperRow : ColumnMap → ℕ → ℕ → Float → List Element
-upperRow f n k x = addElement (f .edgeColumns + k) x (addNode f n (neg one64) [])
+upperRow mapping node set coefficient = addElement (mapping .edgeColumns + set) coefficient (addNode mapping node (neg one64) [])
 
 unfoldable pub lowerRow : ColumnMap → ℕ → ℕ → Float → List Element
-lowerRow f n k x = addElement (f .edgeColumns + k) x (addNode f n one64 [])
+lowerRow mapping node set coefficient = addElement (mapping .edgeColumns + set) coefficient (addNode mapping node one64 [])
 
 -- "Exclusivity row: 1 per listed set on its column"
 unfoldable pub addActive : ColumnMap → List (List ℕ) → List Element → List Element
-addActive f [] row = row
-addActive f (s ∷ ss) row = addActive f ss (addElement (f .edgeColumns + setNumber s (f .sets)) one64 row)
+addActive mapping [] row = row
+addActive mapping (set ∷ sets) row = addActive mapping sets (addElement (mapping .edgeColumns + setNumber set (mapping .sets)) one64 row)
 
 unfoldable pub exclusivityRow : ColumnMap → Aggregate → List Element
-exclusivityRow f a = addActive f (a .sets) []
+exclusivityRow mapping aggregate = addActive mapping (aggregate .sets) []

@@ -2,7 +2,7 @@
 use Prim.Native.Nat.{ℕ, zero, suc, _+_}
 use mathlib.Core.List.{List, [], _∷_, map}
 use mathlib.Core.Bool.{cond}
-use lib.ListN.{length, getD, set}
+use lib.ListN.{length, getD}
 use lib.Dec.{eqb}
 use lib.Ieee.{Float, neg}
 use Rattle.pywr.specs.declared.Sentinel.{Sentinel}
@@ -15,43 +15,48 @@ use Rattle.pywr.specs.StepFile.{StepFile}
 use Rattle.pywr.specs.StepIntervals.{intervals, Intervals}
 use Rattle.pywr.specs.Costs.{stepCosts}
 
--- the row numbered r changed by f
+-- the row of a number, changed
 unfoldable pub adjust : (Row → Row) → ℕ → List Row → List Row
-adjust f r [] = []
-adjust f zero (x ∷ xs) = f x ∷ xs
-adjust f (suc r) (x ∷ xs) = x ∷ adjust f r xs
+adjust change number [] = []
+adjust change zero (row ∷ rows) = change row ∷ rows
+adjust change (suc number) (row ∷ rows) = row ∷ adjust change number rows
 
-unfoldable pub bounded : Interval → Row → Row
-bounded i r = record { lower = i .lower; upper = i .upper; elements = r .elements }
+-- a row with the interval as its bounds
+unfoldable pub withBounds : Interval → Row → Row
+withBounds interval row = record { lower = interval .lower; upper = interval .upper; elements = row .elements }
 
+-- apply_row_bounds: a row's bounds tightened by the interval
 unfoldable pub applyRowBounds : Interval → Row → Row
-applyRowBounds by r = bounded (tighten (record { lower = r .lower; upper = r .upper }) by) r
+applyRowBounds interval row = withBounds (tighten (record { lower = row .lower; upper = row .upper }) interval) row
 
--- the element on a column set
+-- the value of the element on a column, set
 unfoldable pub setCoefficient : ℕ → Float → List Element → List Element
-setCoefficient c x [] = []
-setCoefficient c x (e ∷ es) = cond (eqb (e .column) c) (element c x ∷ es) (e ∷ setCoefficient c x es)
+setCoefficient column value [] = []
+setCoefficient column value (e ∷ es) = cond (eqb (e .column) column) (element column value ∷ es) (e ∷ setCoefficient column value es)
 
 unfoldable pub withCoefficient : ℕ → Float → Row → Row
-withCoefficient c x r = record { lower = r .lower; upper = r .upper; elements = setCoefficient c x (r .elements) }
+withCoefficient column value row = record { lower = row .lower; upper = row .upper; elements = setCoefficient column value (row .elements) }
 
+-- what a node's interval does to its row, by the row's type; `column` is the integer column of the exclusive set:
 -- "the integer column's coefficient becomes the upper bound, or minus the lower, uncapped. On a shared row the last wins."
 unfoldable pub applyInterval : RowType → ℕ → Interval → Row → Row
-applyInterval continuous column i = applyRowBounds i
-applyInterval binaryUpper column i = withCoefficient column (i .upper)
-applyInterval binaryLower column i = withCoefficient column (neg (i .lower))
+applyInterval continuous column interval row = applyRowBounds interval row
+applyInterval binaryUpper column interval row = withCoefficient column (interval .upper) row
+applyInterval binaryLower column interval row = withCoefficient column (neg (interval .lower)) row
 
--- update_node_constraint_bounds. Invariant of the loop: `.. ≡ applyNodeRows .. (drop i nodeRows) rowsNow`
+-- update_node_constraint_bounds: each node row in turn, by the interval of its node
 unfoldable pub applyNodeRows : Sentinel → ℕ → List Interval → List NodeRow → List Row → List Row
-applyNodeRows s edgeColumns is [] rows = rows
-applyNodeRows s edgeColumns is (n ∷ ns) rows =
-    applyNodeRows s edgeColumns is ns (adjust (applyInterval (n .rowType) (edgeColumns + n .set) (getD is (n .node) (sentinels s))) (n .row) rows)
+applyNodeRows s edgeColumns ofNodes [] rows = rows
+applyNodeRows s edgeColumns ofNodes (n ∷ ns) rows =
+    let interval : Interval = getD ofNodes (n .node) (sentinels s) in
+    let column : ℕ = edgeColumns + n .set in
+    applyNodeRows s edgeColumns ofNodes ns (adjust (λ row. applyInterval (n .rowType) column interval row) (n .row) rows)
 
--- one interval after another: of the aggregates, and then of the virtual storages
+-- one interval after another, each on the row of its number: those of the aggregates, and then of the virtual storages
 unfoldable pub applyIntervals : List ℕ → List Interval → List Row → List Row
 applyIntervals [] is rows = rows
-applyIntervals (r ∷ rs) [] rows = rows
-applyIntervals (r ∷ rs) (i ∷ is) rows = applyIntervals rs is (adjust (applyRowBounds i) r rows)
+applyIntervals (number ∷ numbers) [] rows = rows
+applyIntervals (number ∷ numbers) (i ∷ is) rows = applyIntervals numbers is (adjust (λ row. applyRowBounds i row) number rows)
 
 unfoldable pub rowOf : VirtualStorageShape → ℕ
 rowOf v = v .row
@@ -62,7 +67,7 @@ periodOf v = v .period
 -- "A step resets varying rows to the sentinels, then applies each interval"
 unfoldable pub stepRows : Sentinel → Shape → Intervals → List Row → List Row
 stepRows s shape i rows =
-    let reset : List Row = map (bounded (sentinels s)) rows in
+    let reset : List Row = map (withBounds (sentinels s)) rows in
     let nodes : List Row = applyNodeRows s (shape .edgeColumns) (i .nodes) (shape .nodeRows) reset in
     let groups : List Row = applyIntervals (shape .aggregates) (i .aggregates) nodes in
     applyIntervals (map rowOf (shape .virtualStorages)) (i .virtualStorages) groups
@@ -71,15 +76,16 @@ unfoldable pub periods : Shape → List Period
 periods shape = map periodOf (shape .virtualStorages)
 
 unfoldable pub withCosts : List Column → List Float → List Column
-withCosts [] xs = []
+withCosts [] costs = []
 withCosts (c ∷ cs) [] = []
-withCosts (c ∷ cs) (x ∷ xs) = record { integer = c .integer; lower = c .lower; upper = c .upper; cost = x } ∷ withCosts cs xs
+withCosts (c ∷ cs) (cost ∷ costs) = record { integer = c .integer; lower = c .lower; upper = c .upper; cost = cost } ∷ withCosts cs costs
 
+-- the programme after a step: new costs, and the varying rows
 unfoldable pub stepped : Shape → StepFile → Programme → Programme
-stepped shape f p =
+stepped shape file p =
     record {
       sentinel = p .sentinel;
-      columns = withCosts (p .columns) (stepCosts shape (length (p .columns)) (f .nodes));
-      varying = stepRows (p .sentinel) shape (intervals (p .sentinel) (periods shape) f) (p .varying);
+      columns = withCosts (p .columns) (stepCosts shape (length (p .columns)) (file .nodes));
+      varying = stepRows (p .sentinel) shape (intervals (p .sentinel) (periods shape) file) (p .varying);
       fixed = p .fixed;
     }

@@ -33,7 +33,7 @@ pub record StepFile : Type 0 where
 
 -- 12 "step file short, wrongly marked": the mark of the record at `at`
 unfoldable pub expectMark : List ℕ → ℕ → ℕ → ℕ → Result ℕ
-expectMark file at a b = need (within file at 2 && markIs file at a b) 12 at at
+expectMark file at first second = need (within file at 2 && markIs file at first second) 12 at at
 
 -- "The step's date is a calendar date; 02-29 always exists."
 unfoldable pub daysIn : ℕ → ℕ
@@ -49,36 +49,37 @@ readDate file = do
   value (record { item = record { month = month; day = day; days = ofPattern days; nodes = []; aggregates = []; virtualStorages = [] }; next = at + 12 })
 
 abbrev pub isStorage : NodeShape → Bool
-isStorage n = eqb (n .kind) storage
+isStorage node = eqb (node .kind) storage
 
 -- "Storage's min and max are volumes. A constant node's min and max and another kind's volume aren't read."
 unfoldable pub boundFits : NodeShape → ℕ → Bool
-boundFits n bits = n .constant || cond (isStorage n) (isSmall bits) (isFlow bits)
+boundFits node bits = node .constant || cond (isStorage node) (isSmall bits) (isFlow bits)
 
 unfoldable pub volumeFits : NodeShape → ℕ → Bool
-volumeFits n bits = not (isStorage n) || isSmall bits
+volumeFits node bits = not (isStorage node) || isSmall bits
 
+-- the bounds of three fields: none of a constant node, volumes of a storage, flows of any other
 unfoldable pub boundsRead : NodeShape → ℕ → ℕ → ℕ → Option NodeBounds
-boundsRead n min max now =
-    cond (n .constant) none
-    (cond (isStorage n) (some (storageBounds (ofPattern min) (ofPattern max) (ofPattern now))) (some (Flow (ofPattern min) (ofPattern max))))
+boundsRead node min max now =
+    cond (node .constant) none
+    (cond (isStorage node) (some (storageBounds (ofPattern min) (ofPattern max) (ofPattern now))) (some (Flow (ofPattern min) (ofPattern max))))
 
 -- "per node `NB` cost, min, max, volume f64"
 unfoldable pub readNodeStep : List ℕ → NodeShape → ℕ → Result NodeStep
-readNodeStep file n place = do
+readNodeStep file node place = do
   at ← expectMark file place 78 66
   cost ← checked 13 at isSmall (bits64 file at 12 (at + 2))
-  min ← checked 13 at (boundFits n) (bits64 file at 12 (at + 10))
-  max ← checked 13 at (boundFits n) (bits64 file at 12 (at + 18))
-  now ← checked 13 at (volumeFits n) (bits64 file at 12 (at + 26))
-  value (record { cost = ofPattern cost; bounds = boundsRead n min max now })
+  min ← checked 13 at (boundFits node) (bits64 file at 12 (at + 10))
+  max ← checked 13 at (boundFits node) (bits64 file at 12 (at + 18))
+  now ← checked 13 at (volumeFits node) (bits64 file at 12 (at + 26))
+  value (record { cost = ofPattern cost; bounds = boundsRead node min max now })
 
--- Invariant of each of the three loops: `readX .. [] from ≡ readX (what is left) soFar at`
+-- the records of the nodes that are left, after those read so far
 unfoldable pub readNodeSteps : List ℕ → List NodeShape → List NodeStep → ℕ → Result (Read (List NodeStep))
 readNodeSteps file [] soFar at = value (record { item = soFar; next = at })
-readNodeSteps file (n ∷ ns) soFar at = do
-  step ← readNodeStep file n at
-  readNodeSteps file ns (soFar ++ (step ∷ [])) (at + 34)
+readNodeSteps file (node ∷ nodes) soFar at = do
+  step ← readNodeStep file node at
+  readNodeSteps file nodes (soFar ++ (step ∷ [])) (at + 34)
 
 -- "per aggregate `GB` lower, upper"
 unfoldable pub readAggregateStep : List ℕ → ℕ → Result Interval

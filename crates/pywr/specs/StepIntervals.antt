@@ -16,17 +16,18 @@ use Rattle.pywr.specs.StepFile.{NodeStep, StepFile}
 -- a varying node's interval; a constant node's is applied by no step, and stands as both sentinels
 unfoldable pub nodeInterval : Sentinel → Float → Option NodeBounds → Interval
 nodeInterval s days none = sentinels s
-nodeInterval s days (some b) = intervalOf days b
+nodeInterval s days (some bounds) = intervalOf days bounds
 
 unfoldable pub nodeIntervals : Sentinel → Float → List NodeStep → List Interval
 nodeIntervals s days [] = []
-nodeIntervals s days (n ∷ ns) = nodeInterval s days (n .bounds) ∷ nodeIntervals s days ns
+nodeIntervals s days (node ∷ nodes) = nodeInterval s days (node .bounds) ∷ nodeIntervals s days nodes
 
 -- each virtual storage's on the step's date
 unfoldable pub virtualStorageIntervals : Sentinel → StepFile → List Period → List NodeBounds → List Interval
-virtualStorageIntervals s f [] bs = []
-virtualStorageIntervals s f (p ∷ ps) [] = []
-virtualStorageIntervals s f (p ∷ ps) (b ∷ bs) = virtualInterval s (f .days) (isActive p (f .month) (f .day)) b ∷ virtualStorageIntervals s f ps bs
+virtualStorageIntervals s file [] bounds = []
+virtualStorageIntervals s file (period ∷ periods) [] = []
+virtualStorageIntervals s file (period ∷ periods) (own ∷ bounds) =
+    virtualInterval s (file .days) (isActive period (file .month) (file .day)) own ∷ virtualStorageIntervals s file periods bounds
 
 -- the intervals that a step applies: of the nodes, the aggregates and the virtual storages
 pub record Intervals : Type 0 where
@@ -35,27 +36,29 @@ pub record Intervals : Type 0 where
   pub virtualStorages : List Interval
 
 unfoldable pub intervals : Sentinel → List Period → StepFile → Intervals
-intervals s periods f =
+intervals s periods file =
     record {
-      nodes = nodeIntervals s (f .days) (f .nodes);
-      aggregates = f .aggregates;
-      virtualStorages = virtualStorageIntervals s f periods (f .virtualStorages);
+      nodes = nodeIntervals s (file .days) (file .nodes);
+      aggregates = file .aggregates;
+      virtualStorages = virtualStorageIntervals s file periods (file .virtualStorages);
     }
 
+-- lower over upper
 unfoldable pub isCrossed : Interval → Bool
-isCrossed i = lt (i .upper) (i .lower)
+isCrossed interval = lt (interval .upper) (interval .lower)
 
--- the number of the first interval whose lower is over its upper, counted from i
+-- the number of the first such interval; the first interval of the list has this number
 unfoldable pub firstCrossed : ℕ → List Interval → Option ℕ
-firstCrossed i [] = none
-firstCrossed i (x ∷ xs) = elim (isCrossed x) [ true ↦ some i | false ↦ firstCrossed (suc i) xs ]
+firstCrossed number [] = none
+firstCrossed number (interval ∷ rest) = elim (isCrossed interval) [ true ↦ some number | false ↦ firstCrossed (suc number) rest ]
 
+-- x, or the refusal if there is a place to refuse
 unfoldable pub unless : {A : Type 0} → ℕ → Option ℕ → A → Result A
 unless number none x = value x
 unless number (some place) x = refused number place
 
 -- 14 "varying node's lower over upper (node)"; 15 "the same for a virtual storage (its index)". "Aggregate intervals aren't compared lower to upper."
 unfoldable pub ordered : Intervals → Result Intervals
-ordered i = do
-  a ← unless 14 (firstCrossed 0 (i .nodes)) i
-  unless 15 (firstCrossed 0 (a .virtualStorages)) a
+ordered intervals = do
+  nodesOrdered ← unless 14 (firstCrossed 0 (intervals .nodes)) intervals
+  unless 15 (firstCrossed 0 (nodesOrdered .virtualStorages)) nodesOrdered

@@ -17,21 +17,20 @@ sameRow (x ∷ xs) (y ∷ ys) = eqb (x .column) (y .column) && eq (x .value) (y 
 -- where the first equal row stands; the count of rows if there is none
 unfoldable pub position : List Element → List (List Element) → ℕ
 position row [] = 0
-position row (r ∷ rs) = cond (sameRow r row) 0 (suc (position row rs))
+position row (other ∷ others) = cond (sameRow other row) 0 (suc (position row others))
 
--- add_variable_row over a list of rows asked for: the distinct rows so far, and where each asked row stands.
--- Invariant of the loop: `addVariableRows asked start ≡ addVariableRows (drop i asked) now`
+-- the distinct rows so far, and for each row asked for the number of the row that it became
 pub record Joined : Type 0 where
   pub rows : List (List Element)
   pub places : List ℕ
 
 unfoldable pub addVariableRow : List Element → Joined → Joined
-addVariableRow row j =
+addVariableRow row joined =
     record {
-      rows = cond (ltb (position row (j .rows)) (length (j .rows))) (j .rows) (j .rows ++ (row ∷ []));
-      places = j .places ++ (position row (j .rows) ∷ []);
+      rows = cond (ltb (position row (joined .rows)) (length (joined .rows))) (joined .rows) (joined .rows ++ (row ∷ []));
+      places = joined .places ++ (position row (joined .rows) ∷ []);
     }
 
 unfoldable pub addVariableRows : List (List Element) → Joined → Joined
-addVariableRows [] j = j
-addVariableRows (r ∷ rs) j = addVariableRows rs (addVariableRow r j)
+addVariableRows [] joined = joined
+addVariableRows (row ∷ rows) joined = addVariableRows rows (addVariableRow row joined)

@@ -17,23 +17,25 @@ pub record RowRequest : Type 0 where
   pub set : ℕ
   pub row : List Element
 
--- "Exclusive ones start with coefficients 1 (upper row) and −1 (lower row)."
+-- "Exclusive ones start with coefficients 1 (upper row) and −1 (lower row).", for each set that lists the node
 unfoldable pub exclusiveRequests : ColumnMap → ℕ → List ℕ → List RowRequest
-exclusiveRequests f n [] = []
-exclusiveRequests f n (k ∷ ks) =
-    record { node = n; rowType = binaryUpper; set = k; row = upperRow f n k one64 }
-    ∷ record { node = n; rowType = binaryLower; set = k; row = lowerRow f n k (neg one64) }
-    ∷ exclusiveRequests f n ks
+exclusiveRequests mapping node [] = []
+exclusiveRequests mapping node (set ∷ sets) =
+    record { node = node; rowType = binaryUpper; set = set; row = upperRow mapping node set one64 }
+    ∷ record { node = node; rowType = binaryLower; set = set; row = lowerRow mapping node set (neg one64) }
+    ∷ exclusiveRequests mapping node sets
 
 -- a varying node that no exclusive set lists asks for its node row; "Exclusive node: no row of its own"
 unfoldable pub requestsBySets : ColumnMap → ℕ → List ℕ → List RowRequest
-requestsBySets f n [] = record { node = n; rowType = continuous; set = 0; row = nodeRow f n } ∷ []
-requestsBySets f n (k ∷ ks) = exclusiveRequests f n (k ∷ ks)
+requestsBySets mapping node [] = record { node = node; rowType = continuous; set = 0; row = nodeRow mapping node } ∷ []
+requestsBySets mapping node (set ∷ sets) = exclusiveRequests mapping node (set ∷ sets)
 
+-- what the varying nodes of the list ask for; the first node of the list has this number
 unfoldable pub requestsFrom : ColumnMap → ℕ → List Node → List RowRequest
-requestsFrom f n [] = []
-requestsFrom f n (x ∷ xs) = cond (x .constant) [] (requestsBySets f n (setsWithNode n 0 (f .sets))) ++ requestsFrom f (suc n) xs
+requestsFrom mapping number [] = []
+requestsFrom mapping number (node ∷ nodes) =
+    cond (node .constant) [] (requestsBySets mapping number (setsWithNode number 0 (mapping .sets))) ++ requestsFrom mapping (suc number) nodes
 
 -- "Varying rows start at lower 0 and the high sentinel."
 unfoldable pub freshRow : Sentinel → List Element → Row
-freshRow s es = record { lower = zero64; upper = high s; elements = es }
+freshRow s elements = record { lower = zero64; upper = high s; elements = elements }

@@ -10,7 +10,7 @@ use lib.Ieee.{Float, neg}
 use Rattle.pywr.specs.declared.Interval.{Interval}
 use Rattle.pywr.specs.Programme.{Row}
 use Rattle.pywr.specs.Store.{Store, word, rowTypeOf, nodeRowEntry, columnsOfRow, varyingCount, edgeColumnCount, startOf}
-use Rattle.pywr.specs.Step.{adjust, bounded, applyRowBounds, withCoefficient, applyInterval}
+use Rattle.pywr.specs.Step.{adjust, withBounds, applyRowBounds, withCoefficient, applyInterval}
 use Rattle.pywr.specs.Written.{columnsIn, valuesIn, lowerOf, upperOf}
 use Rattle.step_work.specs.WorkRun.{heldAt}
 use Rattle.store_shape.proofs.EntryLaws.{entries-length}
@@ -23,11 +23,11 @@ use Rattle.step_coefficients.proofs.SetCoefficientLaws.{with-columns, coefficie
 -- ---- one row
 
 bounds-columns : (by : Interval) (row : Row) → columnsIn (applyRowBounds by row) ≡ columnsIn row
-unfolding applyRowBounds bounded columnsIn
+unfolding applyRowBounds withBounds columnsIn
 bounds-columns by row = refl
 
 pub bounds-values : (by : Interval) (row : Row) → valuesIn (applyRowBounds by row) ≡ valuesIn row
-unfolding applyRowBounds bounded valuesIn
+unfolding applyRowBounds withBounds valuesIn
 bounds-values by row = refl
 
 coefficient-lower : (c : ℕ) (x : Float) (row : Row) → lowerOf (withCoefficient c x row) ≡ lowerOf row

@@ -12,7 +12,7 @@ use Rattle.pywr.specs.declared.Interval.{Interval}
 use Rattle.pywr.specs.Numbers.{zero64, lesser, greater}
 use Rattle.pywr.specs.Interval.{tighten}
 use Rattle.pywr.specs.Programme.{Row}
-use Rattle.pywr.specs.Step.{adjust, bounded, applyRowBounds}
+use Rattle.pywr.specs.Step.{adjust, withBounds, applyRowBounds}
 use Rattle.pywr.specs.Written.{lowerOf, upperOf}
 use Rattle.pywr.proofs.StoreLaws.{Holds, sets-holds}
 use Rattle.step_row_bounds.specs.RowBounds.{BoundsWritten, RowTightened}
@@ -92,11 +92,11 @@ module _ (f : Row → Float) (h : Row → Row) (best : Float → Float → Float
       ∙ ap (sets l 0) (sym (map-adjusted h f r rows noRow))
 
 lower-tightened : (by : Interval) (row : Row) → lowerOf (applyRowBounds by row) ≡ greater (lowerOf row) (by .lower)
-unfolding lowerOf applyRowBounds bounded tighten
+unfolding lowerOf applyRowBounds withBounds tighten
 lower-tightened by row = refl
 
 upper-tightened : (by : Interval) (row : Row) → upperOf (applyRowBounds by row) ≡ lesser (upperOf row) (by .upper)
-unfolding upperOf applyRowBounds bounded tighten
+unfolding upperOf applyRowBounds withBounds tighten
 upper-tightened by row = refl
 
 written-length : (l l′ xs : List Float) → l′ ≡ sets l 0 xs → length l′ ≡ length l
@@ -120,19 +120,19 @@ module _ (rows : List Row) (lower upper lower′ upper′ lower″ upper″ : Li
 -- ---- rows reset to one interval
 
 module _ (i : Interval) where
-  lowers-reset : (rows : List Row) → map lowerOf (map (bounded i) rows) ≡ replicate (length rows) (i .lower)
-  unfolding lowerOf bounded
+  lowers-reset : (rows : List Row) → map lowerOf (map (withBounds i) rows) ≡ replicate (length rows) (i .lower)
+  unfolding lowerOf withBounds
   lowers-reset [] = refl
   lowers-reset (x ∷ xs) = ap (λ (l : List Float). i .lower ∷ l) (lowers-reset xs)
 
-  uppers-reset : (rows : List Row) → map upperOf (map (bounded i) rows) ≡ replicate (length rows) (i .upper)
-  unfolding upperOf bounded
+  uppers-reset : (rows : List Row) → map upperOf (map (withBounds i) rows) ≡ replicate (length rows) (i .upper)
+  unfolding upperOf withBounds
   uppers-reset [] = refl
   uppers-reset (x ∷ xs) = ap (λ (l : List Float). i .upper ∷ l) (uppers-reset xs)
 
   pub reset : (rows : List Row) (n : ℕ) (lower upper lower′ upper′ : List Float) → length rows ≡ n
       → lower′ ≡ sets lower 0 (replicate n (i .lower)) → upper′ ≡ sets upper 0 (replicate n (i .upper))
-      → BoundsWritten (map (bounded i) rows) lower upper lower′ upper′
+      → BoundsWritten (map (withBounds i) rows) lower upper lower′ upper′
   reset rows n lower upper lower′ upper′ e el eu =
       record {
         lowers = el ∙ ap (λ (k : ℕ). sets lower 0 (replicate k (i .lower))) (sym e) ∙ ap (sets lower 0) (sym (lowers-reset rows));

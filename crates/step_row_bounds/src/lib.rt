@@ -13,7 +13,7 @@ ghost use lib.Ieee.{Float};
 ghost use Rattle.pywr.specs.Interval.{tighten, sentinels};
 ghost use Rattle.pywr.specs.Programme.{Row};
 ghost use Rattle.pywr.specs.Store.{sentinelOf, entries};
-ghost use Rattle.pywr.specs.Step.{bounded, applyIntervals};
+ghost use Rattle.pywr.specs.Step.{withBounds, applyIntervals};
 ghost use Rattle.step_work.specs.WorkRun.{heldAt, heldFrom};
 ghost use Rattle.step_row_bounds.specs.RowBounds.{BoundsWritten, RowTightened, RowTable};
 
@@ -35,7 +35,7 @@ pub fn held_interval(work: &[f64], k: usize) -> Interval
 pub fn reset_row_bounds(row_lower: &mut [f64], row_upper: &mut [f64], shape: &[u16])
     requires { ⌜ (19723 ≤ length (now shape)) × (getD (now shape) 5 0 ≤ 1024) × (1024 ≤ length (now «row_lower»)) × (1024 ≤ length (now «row_upper»)) ⌝ }
     ensures { λ _. ⌜ ((rows : List Row) → length rows ≡ getD (now (shape .entry)) 5 0
-        → BoundsWritten (map (bounded (sentinels (sentinelOf (getD (now (shape .entry)) 0 0)))) rows)
+        → BoundsWritten (map (withBounds (sentinels (sentinelOf (getD (now (shape .entry)) 0 0)))) rows)
         (now («row_lower» .entry)) (now («row_upper» .entry)) (now («row_lower» .exit)) (now («row_upper» .exit))) ⌝ }
 {
     let sentinel = kept_sentinel(shape);

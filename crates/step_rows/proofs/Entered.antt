@@ -11,7 +11,7 @@ use Rattle.pywr.specs.declared.Interval.{Interval}
 use Rattle.pywr.specs.Rows.{Element}
 use Rattle.pywr.specs.Programme.{Row}
 use Rattle.pywr.specs.Store.{Store, entries, elementsOf, columnsOfRow, rowEntry, startOf, varyingCount}
-use Rattle.pywr.specs.Step.{bounded}
+use Rattle.pywr.specs.Step.{withBounds}
 use Rattle.pywr.specs.Written.{columnsIn, valuesIn}
 use Rattle.store_shape.proofs.EntryLaws.{entries-map}
 use Rattle.store_rows.specs.Starts.{StartsRise}
@@ -58,13 +58,13 @@ module _ {A : Type 0} where
 -- ---- rows
 
 module _ (i : Interval) where
-  values-bounded : (rows : List Row) → flatMap valuesIn (map (bounded i) rows) ≡ flatMap valuesIn rows
-  unfolding flatMap bounded valuesIn
+  values-bounded : (rows : List Row) → flatMap valuesIn (map (withBounds i) rows) ≡ flatMap valuesIn rows
+  unfolding flatMap withBounds valuesIn
   values-bounded [] = refl
   values-bounded (x ∷ xs) = ap (λ (l : List Float). map (λ (e : Element). e .value) (x .elements) ++ l) (values-bounded xs)
 
-  columns-bounded : (rows : List Row) → map columnsIn (map (bounded i) rows) ≡ map columnsIn rows
-  unfolding bounded columnsIn
+  columns-bounded : (rows : List Row) → map columnsIn (map (withBounds i) rows) ≡ map columnsIn rows
+  unfolding withBounds columnsIn
   columns-bounded [] = refl
   columns-bounded (x ∷ xs) = ap (λ (l : List (List ℕ)). map (λ (e : Element). e .column) (x .elements) ∷ l) (columns-bounded xs)
 
@@ -100,8 +100,8 @@ module _ (s : Store) {total kept : ℕ} (starts : StartsRise (s .rowStarts) tota
 
 -- the runs after the reset hold the rows with the interval for bounds
 pub entered : (s : Store) → VaryingFit (s .columns) (s .rowStarts) (s .shape) → 4096 ≤ length (s .elements) → (i : Interval) (lower upper : List Float)
-    → BoundsWritten (map (bounded i) (entries (rowEntry s) 1 0 (varyingCount s))) (s .rowLower) (s .rowUpper) lower upper
-    → VaryingWritten s (map (bounded i) (entries (rowEntry s) 1 0 (varyingCount s))) lower upper (s .elements)
+    → BoundsWritten (map (withBounds i) (entries (rowEntry s) 1 0 (varyingCount s))) (s .rowLower) (s .rowUpper) lower upper
+    → VaryingWritten s (map (withBounds i) (entries (rowEntry s) 1 0 (varyingCount s))) lower upper (s .elements)
 entered s fit long i lower upper w =
     let h = fit .rows .starts in
     let n : ℕ = varyingCount s in

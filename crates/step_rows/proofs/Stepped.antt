@@ -10,7 +10,7 @@ use Rattle.pywr.specs.Interval.{sentinels}
 use Rattle.pywr.specs.Programme.{Row}
 use Rattle.pywr.specs.StepIntervals.{Intervals}
 use Rattle.pywr.specs.Store.{Store, entries, rowEntry, virtualStorageEntry, word, varyingCount, nodeRowCount, aggregateCount, virtualStorageCount, sentinelOf, sentinelCode, shapeOf, programmeIn}
-use Rattle.pywr.specs.Step.{bounded, applyRowBounds, applyIntervals, rowOf, stepRows}
+use Rattle.pywr.specs.Step.{withBounds, applyRowBounds, applyIntervals, rowOf, stepRows}
 use Rattle.pywr.specs.Written.{valuesIn}
 use Rattle.step_work.specs.WorkRun.{heldFrom}
 use Rattle.store_shape.proofs.EntryLaws.{entries-length, entries-map}
@@ -41,7 +41,7 @@ virtual-storage-rows s n at = entries-map rowOf (virtualStorageEntry s) (word s)
 
 module _ (s : Store) (work : List Float) where
   abbrev reset : List Row
-  reset = map (bounded (sentinels (sentinelOf (sentinelCode s)))) (entries (rowEntry s) 1 0 (varyingCount s))
+  reset = map (withBounds (sentinels (sentinelOf (sentinelCode s)))) (entries (rowEntry s) 1 0 (varyingCount s))
 
   abbrev nodesDone : List Row
   nodesDone = nodeRowsApplied s work 2059 (nodeRowCount s) reset
@@ -58,7 +58,7 @@ module _ (s : Store) (work : List Float) where
 
   abbrev pub ResetDone : List Float → List Float → Type 0
   ResetDone lower upper =
-      (rows : List Row) → length rows ≡ varyingCount s → BoundsWritten (map (bounded (sentinels (sentinelOf (sentinelCode s)))) rows) (s .rowLower) (s .rowUpper) lower upper
+      (rows : List Row) → length rows ≡ varyingCount s → BoundsWritten (map (withBounds (sentinels (sentinelOf (sentinelCode s)))) rows) (s .rowLower) (s .rowUpper) lower upper
 
   abbrev pub NodesDone : List Float → List Float → List Float → List Float → List Float → Type 0
   NodesDone lower upper lower′ upper′ elements =

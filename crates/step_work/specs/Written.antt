@@ -1,4 +1,4 @@
--- What a loop writes of a step's intervals into the work run. Assumes nothing.
+-- A step's intervals as they were written into the work run. Assumes nothing.
 use mathlib.Core.Path.{_≡_}
 use Prim.Native.Nat.{ℕ, _+_, _<_}
 use mathlib.Core.List.{List}

@@ -19,7 +19,7 @@ use Rattle.pywr.specs.StepFile.{StepFile}
 use Rattle.pywr.specs.StepIntervals.{intervals}
 use Rattle.pywr.specs.Store.{Store, programmeIn}
 use Rattle.pywr.specs.Calls.{buildStore, stepAnswer}
-use Rattle.pywr.specs.Plans.{Plan, unit}
+use Rattle.pywr.specs.Plans.{Plan, unitsInOne}
 use Rattle.pywr.specs.Allows.{nodeAmount, ownInterval}
 use Rattle.pywr.specs.Correspondence.{Call, storeAfter, Report, reports, periodsOf, readBy, networkAllows, programmeAdmits, exclusiveConstant, factorsWhole}
 use Rattle.pywr.specs.FileBytes.{varying, constant, edge, date, nodeStep}
@@ -74,7 +74,7 @@ amountsOf : Plan → List ℤ
 amountsOf p = ofNetwork (λ net. numbered (λ n (x : Node). nodeAmount net p n) 0 (net .nodes)) [] (parseNetwork network)
 
 plan : ℕ → ℕ → ℕ → Plan
-plan a b c = record { amount = λ e. getD (a ∷ b ∷ c ∷ []) e 0 * unit; on = λ s. false }
+plan a b c = record { amount = λ e. getD (a ∷ b ∷ c ∷ []) e 0 * unitsInOne; on = λ s. false }
 
 planA : Plan
 planA = plan 25 25 28
@@ -139,9 +139,9 @@ pub record Example : Type 0 where
   -- 48.5, 40, −10 to 35 and 30; then 20, 40, −15 to 30 and 30
   firstIntervals : intervalsUnder first ≡ interval zero64 (fin false 97 (negsuc 0)) ∷ interval zero64 (times 5 3) ∷ interval (fin true 5 (pos 1)) (whole 35) ∷ interval zero64 (times 15 1) ∷ []
   secondIntervals : intervalsUnder second ≡ interval zero64 (times 5 2) ∷ interval zero64 (times 5 3) ∷ interval (minusWhole 15) (times 15 1) ∷ interval zero64 (times 15 1) ∷ []
-  amountsA : amountsOf planA ≡ pos (25 * unit) ∷ pos (25 * unit) ∷ negℤ (pos (3 * unit)) ∷ pos (28 * unit) ∷ []
-  amountsB : amountsOf planB ≡ pos (18 * unit) ∷ pos (18 * unit) ∷ negℤ (pos (12 * unit)) ∷ pos (30 * unit) ∷ []
-  amountsC : amountsOf planC ≡ pos (25 * unit) ∷ pos (24 * unit) ∷ negℤ (pos (4 * unit)) ∷ pos (28 * unit) ∷ []
+  amountsA : amountsOf planA ≡ pos (25 * unitsInOne) ∷ pos (25 * unitsInOne) ∷ negℤ (pos (3 * unitsInOne)) ∷ pos (28 * unitsInOne) ∷ []
+  amountsB : amountsOf planB ≡ pos (18 * unitsInOne) ∷ pos (18 * unitsInOne) ∷ negℤ (pos (12 * unitsInOne)) ∷ pos (30 * unitsInOne) ∷ []
+  amountsC : amountsOf planC ≡ pos (25 * unitsInOne) ∷ pos (24 * unitsInOne) ∷ negℤ (pos (4 * unitsInOne)) ∷ pos (28 * unitsInOne) ∷ []
   fresh : outcome [] ≡ record { costs = zero64 ∷ zero64 ∷ []; rows = rowsWith zero64 (inf false) zero64 (inf false); allowed = false ∷ false ∷ false ∷ []; admitted = false ∷ false ∷ false ∷ [] }
   afterFirst : outcome (first ∷ [])
       ≡ record { costs = stepCostsAre; rows = rowsWith zero64 (times 5 3) (fin true 5 (pos 1)) (whole 35); allowed = true ∷ false ∷ false ∷ []; admitted = true ∷ false ∷ false ∷ [] }

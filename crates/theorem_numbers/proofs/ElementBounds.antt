@@ -1,7 +1,7 @@
 -- Every row that a build makes: each element is a number and not −0.0. An element is a sum from 0.0 of 1.0, −1.0 and factors, fewer than a million of them; the
 -- coefficient of an exclusive node, which may be of any size, is added last. Assumes nothing.
 use mathlib.Core.Path.{refl}
-use Prim.Native.Nat.{ℕ, suc, _+_, _*_, _≤_, compare, Ordering, Ordering·lt, Ordering·eq, Ordering·gt}
+use Prim.Native.Nat.{ℕ, suc, _+_, _*_, _≤_}
 use native.Mathlib.Nat.{le-trans}
 use native.Mathlib.Omega.{arith}
 use mathlib.Core.Bool.{Bool, true, false, cond}
@@ -15,7 +15,8 @@ use Rattle.doubles.proofs.Monotone.{add-num}
 use Rattle.pywr.specs.Numbers.{zero64, one64}
 use Rattle.pywr.specs.Network.{output, storage, Aggregate, Part, VirtualStorage, kindOf}
 use Rattle.pywr.specs.ExclusiveSets.{setNumber}
-use Rattle.pywr.specs.Rows.{Element, insert, addElement, addOn, ColumnMap, columnsInto, columnsOutOf, addNode, nodeRow, massRow, addNodes, addSetsOf, aggregateRow, addParts, virtualStorageRow, upperRow, lowerRow, addActive, exclusivityRow}
+use Rattle.pywr.specs.Rows.{Element, addElement, addOn, ColumnMap, columnsInto, columnsOutOf, addNode, nodeRow, massRow, addNodes, addSetsOf, aggregateRow, addParts, virtualStorageRow, upperRow, lowerRow, addActive, exclusivityRow}
+use Rattle.pywr.proofs.ElementLaws.{add-none, add-cases}
 use Rattle.pywr.proofs.BoundLaws.{IsBound}
 use Rattle.pywr.proofs.MassLaws.{Every}
 use Rattle.pywr.proofs.ListLaws.{AllMem}
@@ -65,14 +66,12 @@ module _ (c n : ℕ) (x : Float) (room : n + 1 ≤ mostTerms) (small : Within 1 
   new-added = more-added (0 + 1) (n + 1) (add binary64 zero64 x) (omega arith) (add-added 0 zero64 x (lit≤ tt) zero-added small)
 
   add-element : (row : List Element) → AllAdded n row → AllAdded (n + 1) (addElement c x row)
-  unfolding addElement insert
-  add-element [] us = (new-added, tt)
-  add-element (e ∷ es) us = go (compare c (e .column)) (add-element es (us .1))
-    where
-      go : (o : Ordering) → AllAdded (n + 1) (addElement c x es) → AllAdded (n + 1) (insert o c x e es (addElement c x es))
-      go Ordering·lt ih = (new-added, more-all n (n + 1) (e ∷ es) (omega arith) us)
-      go Ordering·eq ih = (add-added n (e .value) x room (us .0) small, more-all n (n + 1) es (omega arith) (us .1))
-      go Ordering·gt ih = (more-added n (n + 1) (e .value) (omega arith) (us .0), ih)
+  add-element [] us = rw (add-none c x) (new-added, tt)
+  add-element (e ∷ es) us =
+      add-cases c x e es (AllAdded (n + 1))
+      (λ h. (new-added, more-all n (n + 1) (e ∷ es) (omega arith) us))
+      (λ h. (add-added n (e .value) x room (us .0) small, more-all n (n + 1) es (omega arith) (us .1)))
+      (λ h. (more-added n (n + 1) (e .value) (omega arith) (us .0), add-element es (us .1)))
 
 add-on : (cs : List ℕ) (x : Float) (n : ℕ) (row : List Element) → n + length cs ≤ mostTerms → Within 1 x → AllAdded n row → AllAdded (n + length cs) (addOn cs x row)
 unfolding addOn
@@ -103,14 +102,12 @@ add-any n (fin s m e) (fin t k d) u b =
     record { bound = add-num binary64 x y (u .within .fit) (b .0) tt tt; plain = add-plain x y (u .within .fit) (b .0) tt tt (u .plain) }
 
 add-last : (c n : ℕ) (x : Float) → IsBound x → (row : List Element) → AllAdded n row → AllPlain (addElement c x row)
-unfolding addElement insert
-add-last c n x b [] us = (add-any 0 zero64 x zero-added b, tt)
-add-last c n x b (e ∷ es) us = go (compare c (e .column)) (add-last c n x b es (us .1))
-  where
-    go : (o : Ordering) → AllPlain (addElement c x es) → AllPlain (insert o c x e es (addElement c x es))
-    go Ordering·lt ih = (add-any 0 zero64 x zero-added b, all-plain n (e ∷ es) us)
-    go Ordering·eq ih = (add-any n (e .value) x (us .0) b, all-plain n es (us .1))
-    go Ordering·gt ih = (plain-of n (e .value) (us .0), ih)
+add-last c n x b [] us = rw (add-none c x) (add-any 0 zero64 x zero-added b, tt)
+add-last c n x b (e ∷ es) us =
+    add-cases c x e es AllPlain
+    (λ h. (add-any 0 zero64 x zero-added b, all-plain n (e ∷ es) us))
+    (λ h. (add-any n (e .value) x (us .0) b, all-plain n es (us .1)))
+    (λ h. (plain-of n (e .value) (us .0), add-last c n x b es (us .1)))
 
 -- ---- the makers of rows, over at most 512 edges
 

@@ -20,7 +20,7 @@ use Rattle.pywr.specs.Interval.{tighten, sentinels}
 use Rattle.pywr.specs.StepFile.{NodeStep, StepFile}
 use Rattle.pywr.specs.StepIntervals.{intervals, Intervals}
 use Rattle.pywr.specs.Costs.{outgoingCost, incomingCost, edgeCost, kindAt, costAt, addCosts, stepCosts}
-use Rattle.pywr.specs.Step.{adjust, bounded, applyRowBounds, setCoefficient, withCoefficient, applyInterval, applyNodeRows, applyIntervals, rowOf, stepRows, periods, withCosts, stepped}
+use Rattle.pywr.specs.Step.{adjust, withBounds, applyRowBounds, setCoefficient, withCoefficient, applyInterval, applyNodeRows, applyIntervals, rowOf, stepRows, periods, withCosts, stepped}
 use Rattle.pywr.proofs.BoundLaws.{IsBound, IsInterval}
 use Rattle.pywr.proofs.VaryingLaws.{sentinels-interval}
 use Rattle.pywr.proofs.MassLaws.{Every}
@@ -35,8 +35,8 @@ use Rattle.theorem_numbers.proofs.BuildNumbers.{RowOk, ColumnOk, Progra
 abbrev Ok : Row → Type 0
 Ok r = RowOk IsBound r
 
-bounded-ok : (i : Interval) → IsInterval i → (r : Row) → Ok r → Ok (bounded i r)
-unfolding bounded
+bounded-ok : (i : Interval) → IsInterval i → (r : Row) → Ok r → Ok (withBounds i r)
+unfolding withBounds
 bounded-ok i ii r ok = record { lower = ii .lower; upper = ii .upper; elements = ok .elements }
 
 tighten-interval : (a b : Interval) → IsInterval a → IsInterval b → IsInterval (tighten a b)
@@ -90,14 +90,14 @@ intervals-ok (r ∷ rs) [] ii rows us = us
 intervals-ok (r ∷ rs) (i ∷ is) ii rows us =
     intervals-ok rs is (λ j m. ii j (List·Memᴰ·tail m)) (adjust (applyRowBounds i) r rows) (adjust-ok (applyRowBounds i) (λ x ok. apply-ok i (ii i (List·Memᴰ·head refl)) x ok) r rows us)
 
-reset-ok : (s : Sentinel) (rows : List Row) → Every Ok rows → Every Ok (map (bounded (sentinels s)) rows)
+reset-ok : (s : Sentinel) (rows : List Row) → Every Ok rows → Every Ok (map (withBounds (sentinels s)) rows)
 reset-ok s [] us = tt
 reset-ok s (x ∷ xs) us = (bounded-ok (sentinels s) (sentinels-interval s) x (us .0), reset-ok s xs (us .1))
 
 rows-ok : (s : Sentinel) (shape : Shape) (a v : ℕ) (i : Intervals) → IntervalsOk a v i → (rows : List Row) → Every Ok rows → Every Ok (stepRows s shape i rows)
 unfolding stepRows
 rows-ok s shape a v i ii rows us =
-    let reset : List Row = map (bounded (sentinels s)) rows in
+    let reset : List Row = map (withBounds (sentinels s)) rows in
     let nodes : List Row = applyNodeRows s (shape .edgeColumns) (i .nodes) (shape .nodeRows) reset in
     let groups : List Row = applyIntervals (shape .aggregates) (i .aggregates) nodes in
     intervals-ok (map rowOf (shape .virtualStorages)) (i .virtualStorages) (ii .virtual-storages-are) groups
