@@ -6,9 +6,16 @@ ghost use Prim.Native.Nat.{_+_, _<_, _≤_};
 ghost use lib.ListN.{length, take, drop};
 ghost use lib.Seq.{sets};
 ghost use lib.Ieee.{Float};
+ghost use Rattle.layout.specs.Layout.{columnCeiling, rowCeiling, elementCeiling, shapeMadeAt, wordsLength, elementsMadeAt, numbersLength};
 ghost use Rattle.pywr.specs.Programme.{Row};
 ghost use Rattle.build_row.specs.RowBuilder.{gathered, Rising};
 ghost use Rattle.build_append.specs.LpBuilder.{RowsHeld, AfterRows};
+use layout::COLUMN_CEILING;
+use layout::ELEMENT_CEILING;
+use layout::ROW_CEILING;
+use layout::STARTS_MADE_AT;
+use layout::UPPERS_MADE_AT;
+use pywr::ColumnNumber;
 
 // How many rows and elements the work runs hold.
 pub struct Filled {
@@ -24,29 +31,29 @@ pub enum RowsAdded {
 
 // No rows yet.
 pub fn start_rows(words: &mut [u16])
-    requires { ⌜ 24844 ≤ length (now words) ⌝ }
-    ensures { λ _. ⌜ ((numbers : List Float) → RowsHeld [] (now (words .exit)) numbers (record { rows = 0; elements = 0 })) × (drop 5121 (now (words .exit)) ≡ drop 5121 (now (words .entry))) ⌝ }
+    requires { ⌜ wordsLength ≤ length (now words) ⌝ }
+    ensures { λ _. ⌜ ((numbers : List Float) → RowsHeld [] (now (words .exit)) numbers (record { rows = 0; elements = 0 })) × (drop shapeMadeAt (now (words .exit)) ≡ drop shapeMadeAt (now (words .entry))) ⌝ }
 {
-    words[4096] = 0;
+    words[STARTS_MADE_AT] = 0;
 }
 
 // A column number and a row start in the width of the words.
-fn column_word(column: u32) -> u16
-    requires { ⌜ column < 640 ⌝ }
+fn column_word(column: ColumnNumber) -> u16
+    requires { ⌜ column < columnCeiling ⌝ }
     ensures { λ r. ⌜ r ≡ column ⌝ }
 {
     column as u16
 }
 
 fn start_word(start: usize) -> u16
-    requires { ⌜ start ≤ 4096 ⌝ }
+    requires { ⌜ start ≤ elementCeiling ⌝ }
     ensures { λ r. ⌜ r ≡ start ⌝ }
 {
     start as u16
 }
 
 // The first n column numbers, put into words from `at` on.
-fn put_columns(words: &mut [u16], at: usize, columns: &[u32], n: usize)
+fn put_columns(words: &mut [u16], at: usize, columns: &[ColumnNumber], n: usize)
     requires { ⌜ (at + n ≤ length (now words)) × (n ≤ length (now columns)) × Rising (now columns) n ⌝ }
     ensures { λ _. ⌜ now (words .exit) ≡ sets (now (words .entry)) at (take n (now (columns .entry))) ⌝ }
 {
@@ -61,30 +68,30 @@ fn put_columns(words: &mut [u16], at: usize, columns: &[u32], n: usize)
 pub fn add_fixed_row(
     words: &mut [u16],
     numbers: &mut [f64],
-    columns: &[u32; 640],
+    columns: &[ColumnNumber; COLUMN_CEILING],
     n: usize,
     f: Filled,
     bounds: pywr::Interval,
 ) -> RowsAdded
-    requires { ⌜ (24844 ≤ length (now words)) × (6784 ≤ length (now numbers)) × (n ≤ 640) × (f .rows ≤ 1024) × (f .elements ≤ 4096) × Rising (now columns) n ⌝ }
+    requires { ⌜ (wordsLength ≤ length (now words)) × (numbersLength ≤ length (now numbers)) × (n ≤ columnCeiling) × (f .rows ≤ rowCeiling) × (f .elements ≤ elementCeiling) × Rising (now columns) n ⌝ }
     ensures { λ r. ⌜ ((rows : List Row) → RowsHeld rows (now (words .entry)) (now (numbers .entry)) f
-        → AfterRows (rows ++ (record { lower = bounds .lower; upper = bounds .upper; elements = gathered (now (columns .entry)) (drop (2048 + f .elements) (now (numbers .entry))) n } ∷ []))
+        → AfterRows (rows ++ (record { lower = bounds .lower; upper = bounds .upper; elements = gathered (now (columns .entry)) (drop (elementsMadeAt + f .elements) (now (numbers .entry))) n } ∷ []))
         (now (words .entry)) r (now (words .exit)) (now (numbers .exit))) ⌝ }
 {
     // a slice's length is known to the proof
-    let run: &[u32] = columns;
+    let run: &[ColumnNumber] = columns;
     let rows = f.rows;
     let elements = f.elements;
-    if 1024 <= rows {
+    if ROW_CEILING <= rows {
         return RowsAdded::Full;
     }
-    if 4096 < elements + n {
+    if ELEMENT_CEILING < elements + n {
         return RowsAdded::Full;
     }
     put_columns(words, elements, run, n);
-    words[4096 + rows + 1] = start_word(elements + n);
+    words[STARTS_MADE_AT + rows + 1] = start_word(elements + n);
     numbers[rows] = bounds.lower;
-    numbers[1024 + rows] = bounds.upper;
+    numbers[UPPERS_MADE_AT + rows] = bounds.upper;
     RowsAdded::Done(Filled {
         rows: rows + 1,
         elements: elements + n,

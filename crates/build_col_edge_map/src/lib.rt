@@ -1,21 +1,30 @@
 // The columns of the edges: edges that a link with one edge in and one out joins share a column.
 ghost use mathlib.Core.Path.{_≡_};
-ghost use Prim.Native.Nat.{ℕ, _+_, _*_, _<_, _≤_};
+ghost use Prim.Native.Nat.{ℕ, _+_, _<_, _≤_};
 ghost use mathlib.Core.List.{List};
 ghost use lib.ListN.{length, getD};
+ghost use Rattle.layout.specs.Layout.{nodeCeiling, edgeCeiling};
 ghost use Rattle.pywr.specs.Bytes.{byte, le16};
 ghost use Rattle.pywr.specs.Network.{source, target};
 ghost use Rattle.pywr.specs.ColEdgeMap.{Columns, columns, columnAt, addSimpleEdge, addEqualEdges};
 ghost use Rattle.network_laws.specs.NetworkAt.{networkAt};
 ghost use Rattle.laws.specs.Linked.{Linked};
+ghost use Rattle.network_node.specs.Node.{nodeLength, kindOffset, nodePlace};
+ghost use Rattle.network_edge.specs.Edge.{fromOffset, edgePlace};
 ghost use Rattle.build_incident_edges.specs.IncidentEdges.{EdgesListed};
 ghost use Rattle.build_col_edge_map.specs.Mapped.{code, Mapped, only, sharesAcross};
+use layout::EDGE_CEILING;
+use layout::NODE_CEILING;
 use pywr::EdgeIndex;
 use pywr::NodeIndex;
 
 // The edge takes a new column unless it has one. Answers the count of columns.
-pub fn add_simple_edge(edge_to_col: &mut [u16; 512], count: usize, edge: EdgeIndex) -> usize
-    requires { ⌜ (edge .0 < 512) × (count < 512) ⌝ }
+pub fn add_simple_edge(
+    edge_to_col: &mut [u16; EDGE_CEILING],
+    count: usize,
+    edge: EdgeIndex,
+) -> usize
+    requires { ⌜ (edge .0 < edgeCeiling) × (count < edgeCeiling) ⌝ }
     ensures { λ r. ⌜ (r ≤ count + 1) × ((c : Columns) → Mapped c (now («edge_to_col» .entry)) count → edge .0 < length (c .of)
         → Mapped (addSimpleEdge (columnAt c (edge .0)) (edge .0) c) (now («edge_to_col» .exit)) r) ⌝ }
 {
@@ -29,12 +38,12 @@ pub fn add_simple_edge(edge_to_col: &mut [u16; 512], count: usize, edge: EdgeInd
 
 // The edge and the edge before it share a column. Where both have columns, nothing merges. Answers the count of columns.
 pub fn add_equal_edges(
-    edge_to_col: &mut [u16; 512],
+    edge_to_col: &mut [u16; EDGE_CEILING],
     count: usize,
     edge: EdgeIndex,
     before: EdgeIndex,
 ) -> usize
-    requires { ⌜ (edge .0 < 512) × (before .0 < 512) × (count < 512) ⌝ }
+    requires { ⌜ (edge .0 < edgeCeiling) × (before .0 < edgeCeiling) × (count < edgeCeiling) ⌝ }
     ensures { λ r. ⌜ (r ≤ count + 1) × ((c : Columns) → Mapped c (now («edge_to_col» .entry)) count → edge .0 < length (c .of) → before .0 < length (c .of)
         → Mapped (addEqualEdges (columnAt c (edge .0)) (columnAt c (before .0)) (edge .0) (before .0) c) (now («edge_to_col» .exit)) r) ⌝ }
 {
@@ -59,8 +68,8 @@ pub fn add_equal_edges(
 }
 
 // The one edge of a node's list plus 1, or 0 where it has no edge or several.
-fn only_edge(first: &[u16; 256], next: &[u16; 512], node: NodeIndex) -> u16
-    requires { ⌜ (node .0 < 256) × (getD (now first) (node .0) 0 ≤ 512) ⌝ }
+fn only_edge(first: &[u16; NODE_CEILING], next: &[u16; EDGE_CEILING], node: NodeIndex) -> u16
+    requires { ⌜ (node .0 < nodeCeiling) × (getD (now first) (node .0) 0 ≤ edgeCeiling) ⌝ }
     ensures { λ r. ⌜ ((size : ℕ) (js : List ℕ) → Linked size (now (next .entry)) (getD (now (first .entry)) (node .0) 0) js → r ≡ code (only js)) ⌝ }
 {
     let k = fields::wide16(node.0);
@@ -78,16 +87,16 @@ fn only_edge(first: &[u16; 256], next: &[u16; 512], node: NodeIndex) -> u16
 // The incoming edge whose column an edge leaving `from` shares, plus 1, or 0: that of a link with one edge in and one out.
 pub fn shares_with(
     s: &[u8],
-    first_in: &[u16; 256],
-    next_in: &[u16; 512],
-    first_out: &[u16; 256],
-    next_out: &[u16; 512],
+    first_in: &[u16; NODE_CEILING],
+    next_in: &[u16; EDGE_CEILING],
+    first_out: &[u16; NODE_CEILING],
+    next_out: &[u16; EDGE_CEILING],
     from: NodeIndex,
 ) -> u16
-    requires { ⌜ (from .0 < 256) × (20 * from .0 + 20 ≤ length (now s)) × (getD (now «first_in») (from .0) 0 ≤ 512) × (getD (now «first_out») (from .0) 0 ≤ 512) ⌝ }
+    requires { ⌜ (from .0 < nodeCeiling) × (nodePlace (from .0) + nodeLength ≤ length (now s)) × (getD (now «first_in») (from .0) 0 ≤ edgeCeiling) × (getD (now «first_out») (from .0) 0 ≤ edgeCeiling) ⌝ }
     ensures { λ r. ⌜ ((size : ℕ) (into out : List ℕ) → Linked size (now («next_in» .entry)) (getD (now («first_in» .entry)) (from .0) 0) into
         → Linked size (now («next_out» .entry)) (getD (now («first_out» .entry)) (from .0) 0) out
-        → r ≡ code (sharesAcross (byte (now (s .entry)) (20 * from .0 + 2)) into out)) ⌝ }
+        → r ≡ code (sharesAcross (byte (now (s .entry)) (nodePlace (from .0) + kindOffset)) into out)) ⌝ }
 {
     if network_node::kind(s, from) != 2 {
         return 0;
@@ -103,18 +112,18 @@ pub fn map_edges(
     s: &[u8],
     nodes: usize,
     edges: usize,
-    first_in: &[u16; 256],
-    next_in: &[u16; 512],
-    first_out: &[u16; 256],
-    next_out: &[u16; 512],
-    edge_to_col: &mut [u16; 512],
+    first_in: &[u16; NODE_CEILING],
+    next_in: &[u16; EDGE_CEILING],
+    first_out: &[u16; NODE_CEILING],
+    next_out: &[u16; EDGE_CEILING],
+    edge_to_col: &mut [u16; EDGE_CEILING],
 ) -> usize
-    requires { ⌜ (nodes ≤ 256) × (edges ≤ 512) × (20 * nodes + 6 * edges ≤ length (now s))
-        × ((e : ℕ) → e < edges → le16 (now s) (20 * nodes + 6 * e + 2) < nodes)
+    requires { ⌜ (nodes ≤ nodeCeiling) × (edges ≤ edgeCeiling) × (edgePlace nodes edges ≤ length (now s))
+        × ((e : ℕ) → e < edges → le16 (now s) (edgePlace nodes e + fromOffset) < nodes)
         × EdgesListed target (now s) nodes edges (now «first_in») (now «next_in») × EdgesListed source (now s) nodes edges (now «first_out») (now «next_out») ⌝ }
     ensures { λ r. ⌜ ((a v : ℕ) → Mapped (columns (networkAt (now (s .entry)) nodes edges a v)) (now («edge_to_col» .exit)) r) ⌝ }
 {
-    *edge_to_col = [0; 512];
+    *edge_to_col = [0; EDGE_CEILING];
     let mut count: usize = 0;
     let mut e: usize = 0;
     while e < edges {

@@ -1,19 +1,27 @@
 // The rows of the constant nodes (SolverBuilder::create_node_constraints of builder.rs).
 ghost use mathlib.Core.Path.{_≡_};
-ghost use Prim.Native.Nat.{_*_, _<_, _≤_};
+ghost use Prim.Native.Nat.{_<_, _≤_};
 ghost use mathlib.Core.List.{List, [], _∷_, _++_};
 ghost use lib.ListN.{length};
+ghost use Rattle.layout.specs.Layout.{wordsLength, numbersLength};
 ghost use Rattle.pywr.specs.ExclusiveSets.{setsWithNode};
 ghost use Rattle.pywr.specs.Rows.{columnMap, nodeRow};
 ghost use Rattle.pywr.specs.FixedRows.{exclusiveRows, constantRowsFrom};
 ghost use Rattle.pywr.specs.Programme.{Row};
-ghost use Rattle.network_node.specs.Node.{nodeAt};
+ghost use Rattle.network_node.specs.Node.{nodeAt, nodePlace};
 ghost use Rattle.build_append.specs.LpBuilder.{RowsHeld, Holding, AfterRows};
 ghost use Rattle.build_node_row.specs.Tables.{networkOf, EdgeTables, MembershipTables};
 ghost use Rattle.build_node_row.specs.EdgeColumns.{edgeColumns};
 use build_append::Filled;
 use build_append::RowsAdded;
+use layout::COLUMN_CEILING;
+use layout::EDGE_CEILING;
+use layout::ELEMENTS_MADE_AT;
+use layout::MEMBERSHIP_CEILING;
+use layout::NODE_CEILING;
+use layout::SET_SIZE_CEILING;
 use network_record::Counts;
+use pywr::ColumnNumber;
 use pywr::Interval;
 use pywr::NodeIndex;
 use pywr::Sentinel;
@@ -22,24 +30,24 @@ use pywr::Sentinel;
 fn add_node_row(
     s: &[u8],
     c: Counts,
-    first_in: &[u16; 256],
-    next_in: &[u16; 512],
-    first_out: &[u16; 256],
-    next_out: &[u16; 512],
-    edge_to_col: &[u16; 512],
+    first_in: &[u16; NODE_CEILING],
+    next_in: &[u16; EDGE_CEILING],
+    first_out: &[u16; NODE_CEILING],
+    next_out: &[u16; EDGE_CEILING],
+    edge_to_col: &[u16; EDGE_CEILING],
     node: NodeIndex,
     words: &mut [u16],
     numbers: &mut [f64],
-    columns: &mut [u32; 640],
+    columns: &mut [ColumnNumber; COLUMN_CEILING],
     f: Filled,
 ) -> RowsAdded
     requires { ⌜ EdgeTables (now s) c (now «first_in») (now «next_in») (now «first_out») (now «next_out») (now «edge_to_col») × (node .0 < c .nodes)
-        × (24844 ≤ length (now words)) × (6784 ≤ length (now numbers)) × Holding (now words) (now numbers) f ⌝ }
+        × (wordsLength ≤ length (now words)) × (numbersLength ≤ length (now numbers)) × Holding (now words) (now numbers) f ⌝ }
     ensures { λ r. ⌜ ((rows : List Row) → RowsHeld rows (now (words .entry)) (now (numbers .entry)) f
-        → AfterRows (rows ++ (record { lower = nodeAt (now (s .entry)) (20 * node .0) .min; upper = nodeAt (now (s .entry)) (20 * node .0) .max; elements = nodeRow (columnMap (networkOf (now (s .entry)) c)) (node .0) } ∷ []))
+        → AfterRows (rows ++ (record { lower = nodeAt (now (s .entry)) (nodePlace (node .0)) .min; upper = nodeAt (now (s .entry)) (nodePlace (node .0)) .max; elements = nodeRow (columnMap (networkOf (now (s .entry)) c)) (node .0) } ∷ []))
         (now (words .entry)) r (now (words .exit)) (now (numbers .exit))) ⌝ }
 {
-    let at = 2048 + f.elements;
+    let at = ELEMENTS_MADE_AT + f.elements;
     let n = build_node_row::add_node(
         s,
         c,
@@ -67,30 +75,30 @@ fn add_node_row(
     )
 }
 
-// The rows of a constant node in the exclusive sets that list it, once for each membership: membership j is of the set numbered j / 16.
+// The rows of a constant node in the exclusive sets that list it, once for each membership: membership j is of the set numbered j / SET_SIZE_CEILING.
 fn add_exclusive_rows(
     s: &[u8],
     c: Counts,
-    first_in: &[u16; 256],
-    next_in: &[u16; 512],
-    first_out: &[u16; 256],
-    next_out: &[u16; 512],
-    edge_to_col: &[u16; 512],
+    first_in: &[u16; NODE_CEILING],
+    next_in: &[u16; EDGE_CEILING],
+    first_out: &[u16; NODE_CEILING],
+    next_out: &[u16; EDGE_CEILING],
+    edge_to_col: &[u16; EDGE_CEILING],
     edge_columns: usize,
-    first_membership: &[u16; 256],
-    next_membership: &[u16; 2048],
+    first_membership: &[u16; NODE_CEILING],
+    next_membership: &[u16; MEMBERSHIP_CEILING],
     node: NodeIndex,
     sentinel: Sentinel,
     words: &mut [u16],
     numbers: &mut [f64],
-    columns: &mut [u32; 640],
+    columns: &mut [ColumnNumber; COLUMN_CEILING],
     f: Filled,
 ) -> RowsAdded
     requires { ⌜ EdgeTables (now s) c (now «first_in») (now «next_in») (now «first_out») (now «next_out») (now «edge_to_col») × (node .0 < c .nodes)
         × («edge_columns» ≡ edgeColumns (now s) c) × MembershipTables (now s) c (now «first_membership») (now «next_membership»)
-        × (24844 ≤ length (now words)) × (6784 ≤ length (now numbers)) × Holding (now words) (now numbers) f ⌝ }
+        × (wordsLength ≤ length (now words)) × (numbersLength ≤ length (now numbers)) × Holding (now words) (now numbers) f ⌝ }
     ensures { λ r. ⌜ ((rows : List Row) → RowsHeld rows (now (words .entry)) (now (numbers .entry)) f
-        → AfterRows (rows ++ exclusiveRows sentinel (columnMap (networkOf (now (s .entry)) c)) (node .0) (nodeAt (now (s .entry)) (20 * node .0)) (setsWithNode (node .0) 0 (columnMap (networkOf (now (s .entry)) c) .sets)))
+        → AfterRows (rows ++ exclusiveRows sentinel (columnMap (networkOf (now (s .entry)) c)) (node .0) (nodeAt (now (s .entry)) (nodePlace (node .0))) (setsWithNode (node .0) 0 (columnMap (networkOf (now (s .entry)) c) .sets)))
         (now (words .entry)) r (now (words .exit)) (now (numbers .exit))) ⌝ }
 {
     let k = fields::wide16(node.0);
@@ -108,7 +116,7 @@ fn add_exclusive_rows(
             edge_to_col,
             edge_columns,
             node,
-            membership / 16,
+            membership / SET_SIZE_CEILING,
             sentinel,
             words,
             numbers,
@@ -132,26 +140,26 @@ fn add_exclusive_rows(
 fn add_constant_rows(
     s: &[u8],
     c: Counts,
-    first_in: &[u16; 256],
-    next_in: &[u16; 512],
-    first_out: &[u16; 256],
-    next_out: &[u16; 512],
-    edge_to_col: &[u16; 512],
+    first_in: &[u16; NODE_CEILING],
+    next_in: &[u16; EDGE_CEILING],
+    first_out: &[u16; NODE_CEILING],
+    next_out: &[u16; EDGE_CEILING],
+    edge_to_col: &[u16; EDGE_CEILING],
     edge_columns: usize,
-    first_membership: &[u16; 256],
-    next_membership: &[u16; 2048],
+    first_membership: &[u16; NODE_CEILING],
+    next_membership: &[u16; MEMBERSHIP_CEILING],
     node: NodeIndex,
     sentinel: Sentinel,
     words: &mut [u16],
     numbers: &mut [f64],
-    columns: &mut [u32; 640],
+    columns: &mut [ColumnNumber; COLUMN_CEILING],
     f: Filled,
 ) -> RowsAdded
     requires { ⌜ EdgeTables (now s) c (now «first_in») (now «next_in») (now «first_out») (now «next_out») (now «edge_to_col») × (node .0 < c .nodes)
         × («edge_columns» ≡ edgeColumns (now s) c) × MembershipTables (now s) c (now «first_membership») (now «next_membership»)
-        × (24844 ≤ length (now words)) × (6784 ≤ length (now numbers)) × Holding (now words) (now numbers) f ⌝ }
+        × (wordsLength ≤ length (now words)) × (numbersLength ≤ length (now numbers)) × Holding (now words) (now numbers) f ⌝ }
     ensures { λ r. ⌜ ((rows : List Row) → RowsHeld rows (now (words .entry)) (now (numbers .entry)) f
-        → AfterRows (rows ++ constantRowsFrom sentinel (columnMap (networkOf (now (s .entry)) c)) (node .0) (nodeAt (now (s .entry)) (20 * node .0) ∷ []))
+        → AfterRows (rows ++ constantRowsFrom sentinel (columnMap (networkOf (now (s .entry)) c)) (node .0) (nodeAt (now (s .entry)) (nodePlace (node .0)) ∷ []))
         (now (words .entry)) r (now (words .exit)) (now (numbers .exit))) ⌝ }
 {
     if !network_node::is_constant(s, node) {
@@ -198,23 +206,23 @@ fn add_constant_rows(
 pub fn create_constant_constraints(
     s: &[u8],
     c: Counts,
-    first_in: &[u16; 256],
-    next_in: &[u16; 512],
-    first_out: &[u16; 256],
-    next_out: &[u16; 512],
-    edge_to_col: &[u16; 512],
+    first_in: &[u16; NODE_CEILING],
+    next_in: &[u16; EDGE_CEILING],
+    first_out: &[u16; NODE_CEILING],
+    next_out: &[u16; EDGE_CEILING],
+    edge_to_col: &[u16; EDGE_CEILING],
     edge_columns: usize,
-    first_membership: &[u16; 256],
-    next_membership: &[u16; 2048],
+    first_membership: &[u16; NODE_CEILING],
+    next_membership: &[u16; MEMBERSHIP_CEILING],
     sentinel: Sentinel,
     words: &mut [u16],
     numbers: &mut [f64],
-    columns: &mut [u32; 640],
+    columns: &mut [ColumnNumber; COLUMN_CEILING],
     f: Filled,
 ) -> RowsAdded
     requires { ⌜ EdgeTables (now s) c (now «first_in») (now «next_in») (now «first_out») (now «next_out») (now «edge_to_col»)
         × («edge_columns» ≡ edgeColumns (now s) c) × MembershipTables (now s) c (now «first_membership») (now «next_membership»)
-        × (24844 ≤ length (now words)) × (6784 ≤ length (now numbers)) × Holding (now words) (now numbers) f ⌝ }
+        × (wordsLength ≤ length (now words)) × (numbersLength ≤ length (now numbers)) × Holding (now words) (now numbers) f ⌝ }
     ensures { λ r. ⌜ ((rows : List Row) → RowsHeld rows (now (words .entry)) (now (numbers .entry)) f
         → AfterRows (rows ++ constantRowsFrom sentinel (columnMap (networkOf (now (s .entry)) c)) 0 (networkOf (now (s .entry)) c .nodes))
         (now (words .entry)) r (now (words .exit)) (now (numbers .exit))) ⌝ }

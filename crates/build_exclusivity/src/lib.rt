@@ -1,16 +1,17 @@
 // The exclusivity rows of the exclusive aggregates (SolverBuilder::create_mutual_exclusivity_constraints of builder.rs).
 ghost use mathlib.Core.Path.{_≡_};
-ghost use Prim.Native.Nat.{_+_, _<_, _≤_};
+ghost use Prim.Native.Nat.{_+_, _≤_};
 ghost use mathlib.Core.Bool.{true};
 ghost use mathlib.Core.List.{List, [], _∷_, _++_};
 ghost use lib.ListN.{length};
+ghost use Rattle.layout.specs.Layout.{edgeCeiling, columnCeiling, wordsLength, numbersLength};
 ghost use Rattle.pywr.specs.Numbers.{double};
 ghost use Rattle.pywr.specs.ColEdgeMap as ColEdgeMap;
 ghost use Rattle.pywr.specs.ExclusiveSets.{exclusiveSets};
 ghost use Rattle.pywr.specs.Rows.{ColumnMap, columnMap};
 ghost use Rattle.pywr.specs.FixedRows.{exclusivityRows};
 ghost use Rattle.pywr.specs.Programme.{Row};
-ghost use Rattle.network_aggregate.specs.AggregatedNode.{aggregateAt};
+ghost use Rattle.network_aggregate.specs.AggregatedNode.{aggregateAt, setsOffset};
 ghost use Rattle.network_laws.specs.Sections.{Sections};
 ghost use Rattle.build_exclusive_sets.specs.Sets.{setsAt, SetsFit};
 ghost use Rattle.build_append.specs.LpBuilder.{RowsHeld, Holding, AfterRows};
@@ -18,8 +19,15 @@ ghost use Rattle.build_node_row.specs.Tables.{networkOf};
 ghost use Rattle.build_exclusivity.specs.ExclusivityRow.{KnownSets, MapOf, ExclusivityRow};
 use build_append::Filled;
 use build_append::RowsAdded;
+use layout::COLUMN_CEILING;
+use layout::ELEMENTS_MADE_AT;
+use layout::SET_CEILING;
+use network_aggregate::SETS_OFFSET;
+use network_edge::EDGE_LENGTH;
+use network_node::NODE_LENGTH;
 use network_record::Counts;
 use pywr::ColumnIndex;
+use pywr::ColumnNumber;
 use pywr::Interval;
 
 fn active_bound(active: u32) -> f64
@@ -31,20 +39,20 @@ fn active_bound(active: u32) -> f64
 // The row of the aggregate at `at` gathered: 1 on the column of each of its sets.
 fn exclusivity_row(
     s: &[u8],
-    set_at: &[u16; 128],
+    set_at: &[u16; SET_CEILING],
     sets: usize,
     edge_columns: usize,
     at: usize,
-    columns: &mut [u32; 640],
+    columns: &mut [ColumnNumber; COLUMN_CEILING],
     elements: &mut [f64],
 ) -> usize
-    requires { ⌜ SetsFit (now s) (now «set_at») sets × («edge_columns» ≤ 512) × (at + 12 ≤ length (now s)) × KnownSets (now s) (now «set_at») sets at
-        × (640 ≤ length (now elements)) ⌝ }
+    requires { ⌜ SetsFit (now s) (now «set_at») sets × («edge_columns» ≤ edgeCeiling) × (at + setsOffset ≤ length (now s)) × KnownSets (now s) (now «set_at») sets at
+        × (columnCeiling ≤ length (now elements)) ⌝ }
     ensures { λ r. ⌜ ExclusivityRow (now (s .entry)) (now («set_at» .entry)) sets «edge_columns» at (now (columns .exit)) (now (elements .exit)) r ⌝ }
 {
     let count = network_aggregate::set_count(s, at);
     let mut n: usize = 0;
-    let mut here = at + 12;
+    let mut here = at + SETS_OFFSET;
     let mut i: usize = 0;
     while i < count {
         let k = build_exclusive_sets::set_number(s, set_at, sets, here);
@@ -59,18 +67,18 @@ fn exclusivity_row(
 // The row of the aggregate at `at` becomes the last row. A plain aggregate has none.
 fn add_exclusivity_row(
     s: &[u8],
-    set_at: &[u16; 128],
+    set_at: &[u16; SET_CEILING],
     sets: usize,
     edge_columns: usize,
     at: usize,
     words: &mut [u16],
     numbers: &mut [f64],
-    columns: &mut [u32; 640],
+    columns: &mut [ColumnNumber; COLUMN_CEILING],
     f: Filled,
 ) -> RowsAdded
-    requires { ⌜ SetsFit (now s) (now «set_at») sets × («edge_columns» ≤ 512) × (at + 12 ≤ length (now s))
+    requires { ⌜ SetsFit (now s) (now «set_at») sets × («edge_columns» ≤ edgeCeiling) × (at + setsOffset ≤ length (now s))
         × (aggregateAt (now s) at .exclusive ≡ true → KnownSets (now s) (now «set_at») sets at)
-        × (24844 ≤ length (now words)) × (6784 ≤ length (now numbers)) × Holding (now words) (now numbers) f ⌝ }
+        × (wordsLength ≤ length (now words)) × (numbersLength ≤ length (now numbers)) × Holding (now words) (now numbers) f ⌝ }
     ensures { λ r. ⌜ ((map : ColumnMap) → MapOf (now (s .entry)) (now («set_at» .entry)) sets «edge_columns» map
         → (rows : List Row) → RowsHeld rows (now (words .entry)) (now (numbers .entry)) f
         → AfterRows (rows ++ exclusivityRows map (aggregateAt (now (s .entry)) at ∷ [])) (now (words .entry)) r (now (words .exit)) (now (numbers .exit))) ⌝ }
@@ -78,7 +86,7 @@ fn add_exclusivity_row(
     if network_aggregate::is_exclusive(s, at) {
         let lower = active_bound(network_aggregate::min_active(s, at));
         let upper = active_bound(network_aggregate::max_active(s, at));
-        let from = 2048 + f.elements;
+        let from = ELEMENTS_MADE_AT + f.elements;
         let n = exclusivity_row(
             s,
             set_at,
@@ -104,25 +112,25 @@ fn add_exclusivity_row(
 pub fn create_mutual_exclusivity_constraints(
     s: &[u8],
     c: Counts,
-    set_at: &[u16; 128],
+    set_at: &[u16; SET_CEILING],
     sets: usize,
     edge_columns: usize,
     words: &mut [u16],
     numbers: &mut [f64],
-    columns: &mut [u32; 640],
+    columns: &mut [ColumnNumber; COLUMN_CEILING],
     f: Filled,
 ) -> RowsAdded
     requires { ⌜ Sections (now s) (c .nodes) (c .edges) (c .aggregates) (c .«virtual_storages») (c .«virtual_storages_at»)
         × SetsFit (now s) (now «set_at») sets × (setsAt (now s) (now «set_at») sets ≡ exclusiveSets (networkOf (now s) c))
-        × («edge_columns» ≡ ColEdgeMap.columns (networkOf (now s) c) .count) × («edge_columns» ≤ 512)
-        × (24844 ≤ length (now words)) × (6784 ≤ length (now numbers)) × Holding (now words) (now numbers) f ⌝ }
+        × («edge_columns» ≡ ColEdgeMap.columns (networkOf (now s) c) .count) × («edge_columns» ≤ edgeCeiling)
+        × (wordsLength ≤ length (now words)) × (numbersLength ≤ length (now numbers)) × Holding (now words) (now numbers) f ⌝ }
     ensures { λ r. ⌜ ((rows : List Row) → RowsHeld rows (now (words .entry)) (now (numbers .entry)) f
         → AfterRows (rows ++ exclusivityRows (columnMap (networkOf (now (s .entry)) c)) (networkOf (now (s .entry)) c .aggregates))
         (now (words .entry)) r (now (words .exit)) (now (numbers .exit))) ⌝ }
 {
     let aggregates = c.aggregates;
     let mut filled = f;
-    let mut at = 20 * c.nodes + 6 * c.edges;
+    let mut at = NODE_LENGTH * c.nodes + EDGE_LENGTH * c.edges;
     let mut i: usize = 0;
     while i < aggregates {
         let r = add_exclusivity_row(

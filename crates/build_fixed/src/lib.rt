@@ -3,6 +3,7 @@ ghost use mathlib.Core.Path.{_≡_};
 ghost use Prim.Native.Nat.{_≤_};
 ghost use mathlib.Core.List.{List, _++_};
 ghost use lib.ListN.{length};
+ghost use Rattle.layout.specs.Layout.{wordsLength, numbersLength};
 ghost use Rattle.pywr.specs.Programme.{Row};
 ghost use Rattle.pywr.specs.Build.{programmeOf};
 ghost use Rattle.build_node_row.specs.EdgeColumns.{edgeColumns};
@@ -10,32 +11,38 @@ ghost use Rattle.build_node_row.specs.Tables.{networkOf, EdgeTables, SetTables}
 ghost use Rattle.build_append.specs.LpBuilder.{RowsHeld, Holding, AfterRows};
 use build_append::Filled;
 use build_append::RowsAdded;
+use layout::COLUMN_CEILING;
+use layout::EDGE_CEILING;
+use layout::MEMBERSHIP_CEILING;
+use layout::NODE_CEILING;
+use layout::SET_CEILING;
 use network_record::Counts;
+use pywr::ColumnNumber;
 use pywr::Sentinel;
 
 // The fixed rows: mass balances, constant bounds, mutual exclusivity.
 pub fn add_fixed_rows(
     s: &[u8],
     c: Counts,
-    first_in: &[u16; 256],
-    next_in: &[u16; 512],
-    first_out: &[u16; 256],
-    next_out: &[u16; 512],
-    edge_to_col: &[u16; 512],
+    first_in: &[u16; NODE_CEILING],
+    next_in: &[u16; EDGE_CEILING],
+    first_out: &[u16; NODE_CEILING],
+    next_out: &[u16; EDGE_CEILING],
+    edge_to_col: &[u16; EDGE_CEILING],
     edge_columns: usize,
-    set_at: &[u16; 128],
+    set_at: &[u16; SET_CEILING],
     sets: usize,
-    first_membership: &[u16; 256],
-    next_membership: &[u16; 2048],
+    first_membership: &[u16; NODE_CEILING],
+    next_membership: &[u16; MEMBERSHIP_CEILING],
     sentinel: Sentinel,
     words: &mut [u16],
     numbers: &mut [f64],
-    columns: &mut [u32; 640],
+    columns: &mut [ColumnNumber; COLUMN_CEILING],
     f: Filled,
 ) -> RowsAdded
     requires { ⌜ EdgeTables (now s) c (now «first_in») (now «next_in») (now «first_out») (now «next_out») (now «edge_to_col»)
         × SetTables (now s) c (now «set_at») sets (now «first_membership») (now «next_membership») × («edge_columns» ≡ edgeColumns (now s) c)
-        × (24844 ≤ length (now words)) × (6784 ≤ length (now numbers)) × Holding (now words) (now numbers) f ⌝ }
+        × (wordsLength ≤ length (now words)) × (numbersLength ≤ length (now numbers)) × Holding (now words) (now numbers) f ⌝ }
     ensures { λ r. ⌜ ((rows : List Row) → RowsHeld rows (now (words .entry)) (now (numbers .entry)) f
         → AfterRows (rows ++ programmeOf sentinel (networkOf (now (s .entry)) c) .programme .fixed)
         (now (words .entry)) r (now (words .exit)) (now (numbers .exit))) ⌝ }

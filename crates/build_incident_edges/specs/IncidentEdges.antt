@@ -7,10 +7,11 @@ use lib.Dec.{eqb}
 use Rattle.pywr.specs.Network.{Edge, source, target, edgesWith}
 use Rattle.network_laws.specs.NetworkAt.{edgesAt}
 use Rattle.laws.specs.Linked.{Linked}
+use Rattle.network_edge.specs.Edge.{fromOffset}
 
--- the end of an edge whose number stands so many bytes into its record: `from` 2, `to` 4
+-- the end of an edge whose number stands so many bytes into its record
 abbrev pub endAt : ℕ → Edge → ℕ
-endAt at e = cond (eqb at 2) (source e) (target e)
+endAt at e = cond (eqb at fromOffset) (source e) (target e)
 
 -- the tables list, of every node, the edges of a file that have it as this end, in index order
 pub record EdgesListed (end : Edge → ℕ) (file : List ℕ) (nodes edges : ℕ) (first next : List ℕ) : Type 0 where

@@ -1,9 +1,10 @@
 -- Varying rows asked for in turn, equal ones joined: a row gathered, and the rows of a whole list with the table of their places. Assumes nothing.
 use mathlib.Core.Path.{_≡_}
-use Prim.Native.Nat.{ℕ, _-_, _≤_}
+use Prim.Native.Nat.{ℕ, _-_}
 use mathlib.Core.List.{List, [], map}
 use mathlib.Core.Bool.{false}
 use lib.Ieee.{Float}
+use Rattle.layout.specs.Layout.{shapeMadeAt}
 use Rattle.laws.specs.Part.{part}
 use Rattle.pywr.specs.declared.Sentinel.{Sentinel}
 use Rattle.pywr.specs.Rows.{Element}
@@ -24,10 +25,10 @@ pub record HoldingVarying (s : Sentinel) (words : List ℕ) (numbers : List Floa
 abbrev pub joined : List (List Element) → List (List Element) → Joined
 joined asked rows = addVariableRows asked (record { rows = rows; places = [] })
 
--- the rows asked for are held, and the words from `at` on hold the table of their places, or the rows are over the ceilings; the words from 5,121 up to `at` stay
+-- the rows asked for are held, and the words from `at` on hold the table of their places, or the rows are over the ceilings; the shape run's words up to `at` stay
 pub record AfterVariableRows (s : Sentinel) (rows asked : List (List Element)) (at size : ℕ) (table : List ℕ → List ℕ)
     (words : List ℕ) (r : RowsAdded) (words′ : List ℕ) (numbers′ : List Float) : Type 0 where
   pub held : (f : Filled) → r ≡ Done f → RowsHeld (map (freshRow s) (joined asked rows .rows)) words′ numbers′ f
   pub placed : (f : Filled) → r ≡ Done f → part at size words′ ≡ table (joined asked rows .places)
   pub full : r ≡ Full → withinCeilings (map (freshRow s) (joined asked rows .rows)) ≡ false
-  pub kept : part 5121 (at - 5121) words′ ≡ part 5121 (at - 5121) words
+  pub kept : part shapeMadeAt (at - shapeMadeAt) words′ ≡ part shapeMadeAt (at - shapeMadeAt) words

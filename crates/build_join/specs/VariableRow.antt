@@ -5,6 +5,7 @@ use mathlib.Core.List.{List, [], map}
 use mathlib.Core.Bool.{false}
 use lib.ListN.{drop}
 use lib.Ieee.{Float}
+use Rattle.layout.specs.Layout.{shapeMadeAt}
 use Rattle.pywr.specs.declared.Sentinel.{Sentinel}
 use Rattle.pywr.specs.Rows.{Element}
 use Rattle.pywr.specs.VariableRows.{addVariableRow, position}
@@ -18,4 +19,4 @@ pub record AfterVariableRow (s : Sentinel) (rows : List (List Element)) (row : L
   pub place : (k : ℕ) (f : Filled) → r ≡ VariableRow.At k f → k ≡ position row rows
   pub held : (k : ℕ) (f : Filled) → r ≡ VariableRow.At k f → RowsHeld (map (freshRow s) (addVariableRow row (record { rows = rows; places = [] }) .rows)) words′ numbers′ f
   pub full : r ≡ VariableRow.Full → withinCeilings (map (freshRow s) (addVariableRow row (record { rows = rows; places = [] }) .rows)) ≡ false
-  pub kept : drop 5121 words′ ≡ drop 5121 words
+  pub kept : drop shapeMadeAt words′ ≡ drop shapeMadeAt words

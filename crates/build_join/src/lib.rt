@@ -5,6 +5,7 @@ ghost use mathlib.Core.Path.{_≡_};
 ghost use mathlib.Core.List.{List, [], map};
 ghost use Prim.Native.Nat.{_+_, _<_, _≤_};
 ghost use lib.ListN.{length, getD, drop};
+ghost use Rattle.layout.specs.Layout.{columnCeiling, wordsLength, elementsMadeAt, numbersLength};
 ghost use Rattle.pywr.specs.VariableRows.{sameRow, position};
 ghost use Rattle.pywr.specs.Programme.{Row};
 ghost use Rattle.build_row.specs.RowBuilder.{gathered, Rising};
@@ -14,12 +15,16 @@ ghost use Rattle.pywr.specs.VaryingRows.{freshRow};
 ghost use Rattle.build_join.specs.VariableRow.{AfterVariableRow};
 use build_append::Filled;
 use build_append::RowsAdded;
+use layout::COLUMN_CEILING;
+use layout::ELEMENTS_MADE_AT;
+use layout::STARTS_MADE_AT;
+use pywr::ColumnNumber;
 
 // A column number and a row start out of a word.
-fn wide_column(word: u16) -> u32
+fn wide_column(word: u16) -> ColumnNumber
     ensures { λ r. ⌜ (r ≡ word) × (r < 65536) ⌝ }
 {
-    word as u32
+    word as ColumnNumber
 }
 
 fn wide_start(word: u16) -> usize
@@ -32,21 +37,21 @@ fn wide_start(word: u16) -> usize
 fn same_elements(
     words: &[u16],
     numbers: &[f64],
-    columns: &[u32],
+    columns: &[ColumnNumber],
     n: usize,
     at: usize,
     from: usize,
 ) -> bool
-    requires { ⌜ (at + n ≤ length (now words)) × (2048 + at + n ≤ length (now numbers)) × (n ≤ length (now columns)) × (2048 + from + n ≤ length (now numbers)) ⌝ }
-    ensures { λ r. ⌜ r ≡ sameRow (gathered (drop at (now (words .entry))) (drop (2048 + at) (now (numbers .entry))) n)
-        (gathered (now (columns .entry)) (drop (2048 + from) (now (numbers .entry))) n) ⌝ }
+    requires { ⌜ (at + n ≤ length (now words)) × (elementsMadeAt + at + n ≤ length (now numbers)) × (n ≤ length (now columns)) × (elementsMadeAt + from + n ≤ length (now numbers)) ⌝ }
+    ensures { λ r. ⌜ r ≡ sameRow (gathered (drop at (now (words .entry))) (drop (elementsMadeAt + at) (now (numbers .entry))) n)
+        (gathered (now (columns .entry)) (drop (elementsMadeAt + from) (now (numbers .entry))) n) ⌝ }
 {
     let mut i: usize = 0;
     while i < n {
         if wide_column(words[at + i]) != columns[i] {
             return false;
         }
-        if numbers[2048 + at + i] != numbers[2048 + from + i] {
+        if numbers[ELEMENTS_MADE_AT + at + i] != numbers[ELEMENTS_MADE_AT + from + i] {
             return false;
         }
         i += 1;
@@ -55,14 +60,21 @@ fn same_elements(
 }
 
 // Whether row k equals the gathered row.
-fn same_row(words: &[u16], numbers: &[f64], columns: &[u32], n: usize, f: Filled, k: usize) -> bool
-    requires { ⌜ (24844 ≤ length (now words)) × (6784 ≤ length (now numbers)) × (n ≤ 640) × (n ≤ length (now columns)) × (k < f .rows) × Holding (now words) (now numbers) f ⌝ }
+fn same_row(
+    words: &[u16],
+    numbers: &[f64],
+    columns: &[ColumnNumber],
+    n: usize,
+    f: Filled,
+    k: usize,
+) -> bool
+    requires { ⌜ (wordsLength ≤ length (now words)) × (numbersLength ≤ length (now numbers)) × (n ≤ columnCeiling) × (n ≤ length (now columns)) × (k < f .rows) × Holding (now words) (now numbers) f ⌝ }
     ensures { λ r. ⌜ ((rows : List Row) → RowsHeld rows (now (words .entry)) (now (numbers .entry)) f
-        → r ≡ sameRow (getD (elementLists rows) k []) (gathered (now (columns .entry)) (drop (2048 + f .elements) (now (numbers .entry))) n)) ⌝ }
+        → r ≡ sameRow (getD (elementLists rows) k []) (gathered (now (columns .entry)) (drop (elementsMadeAt + f .elements) (now (numbers .entry))) n)) ⌝ }
 {
     let from = f.elements;
-    let at = wide_start(words[4096 + k]);
-    let end = wide_start(words[4096 + k + 1]);
+    let at = wide_start(words[STARTS_MADE_AT + k]);
+    let end = wide_start(words[STARTS_MADE_AT + k + 1]);
     if end - at != n {
         return false;
     }
@@ -70,12 +82,18 @@ fn same_row(words: &[u16], numbers: &[f64], columns: &[u32], n: usize, f: Filled
 }
 
 // Where the first row that equals the gathered row stands; the count of rows if there is none.
-pub fn position(words: &[u16], numbers: &[f64], columns: &[u32; 640], n: usize, f: Filled) -> usize
-    requires { ⌜ (24844 ≤ length (now words)) × (6784 ≤ length (now numbers)) × (n ≤ 640) × Holding (now words) (now numbers) f ⌝ }
+pub fn position(
+    words: &[u16],
+    numbers: &[f64],
+    columns: &[ColumnNumber; COLUMN_CEILING],
+    n: usize,
+    f: Filled,
+) -> usize
+    requires { ⌜ (wordsLength ≤ length (now words)) × (numbersLength ≤ length (now numbers)) × (n ≤ columnCeiling) × Holding (now words) (now numbers) f ⌝ }
     ensures { λ r. ⌜ ((rows : List Row) → RowsHeld rows (now (words .entry)) (now (numbers .entry)) f
-        → r ≡ position (gathered (now (columns .entry)) (drop (2048 + f .elements) (now (numbers .entry))) n) (elementLists rows)) ⌝ }
+        → r ≡ position (gathered (now (columns .entry)) (drop (elementsMadeAt + f .elements) (now (numbers .entry))) n) (elementLists rows)) ⌝ }
 {
-    let run: &[u32] = columns;
+    let run: &[ColumnNumber] = columns;
     let rows = f.rows;
     let mut k: usize = 0;
     while k < rows {
@@ -97,14 +115,14 @@ pub enum VariableRow {
 pub fn add_variable_row(
     words: &mut [u16],
     numbers: &mut [f64],
-    columns: &[u32; 640],
+    columns: &[ColumnNumber; COLUMN_CEILING],
     n: usize,
     f: Filled,
     sentinel: pywr::Sentinel,
 ) -> VariableRow
-    requires { ⌜ (24844 ≤ length (now words)) × (6784 ≤ length (now numbers)) × (n ≤ 640) × Rising (now columns) n × Holding (now words) (now numbers) f ⌝ }
+    requires { ⌜ (wordsLength ≤ length (now words)) × (numbersLength ≤ length (now numbers)) × (n ≤ columnCeiling) × Rising (now columns) n × Holding (now words) (now numbers) f ⌝ }
     ensures { λ r. ⌜ ((rows : List (List Element)) → RowsHeld (map (freshRow sentinel) rows) (now (words .entry)) (now (numbers .entry)) f
-        → AfterVariableRow sentinel rows (gathered (now (columns .entry)) (drop (2048 + f .elements) (now (numbers .entry))) n)
+        → AfterVariableRow sentinel rows (gathered (now (columns .entry)) (drop (elementsMadeAt + f .elements) (now (numbers .entry))) n)
         (now (words .entry)) r (now (words .exit)) (now (numbers .exit))) ⌝ }
 {
     let rows = f.rows;

@@ -1,37 +1,43 @@
 // The mass rows of the links (SolverBuilder::create_mass_balance_constraints of builder.rs).
 ghost use mathlib.Core.Path.{_≡_};
-ghost use Prim.Native.Nat.{ℕ, _*_, _<_, _≤_};
+ghost use Prim.Native.Nat.{ℕ, _<_, _≤_};
 ghost use mathlib.Core.List.{List, [], _∷_, _++_};
 ghost use lib.ListN.{length};
 ghost use lib.Ieee.{neg};
+ghost use Rattle.layout.specs.Layout.{edgeCeiling, columnCeiling, wordsLength, numbersLength};
 ghost use Rattle.laws.specs.Linked.{Linked};
 ghost use Rattle.pywr.specs.Numbers.{one64};
 ghost use Rattle.pywr.specs.Rows.{addOn, columnMap};
 ghost use Rattle.pywr.specs.FixedRows.{massRowsFrom};
 ghost use Rattle.pywr.specs.Programme.{Row};
-ghost use Rattle.network_node.specs.Node.{nodeAt};
+ghost use Rattle.network_node.specs.Node.{nodeAt, nodePlace};
 ghost use Rattle.build_row.specs.EdgeList.{columnsOf, ListedEdges};
 ghost use Rattle.build_append.specs.LpBuilder.{RowsHeld, Holding, AfterRows};
 ghost use Rattle.build_row.specs.Gathered.{Gathered};
 ghost use Rattle.build_node_row.specs.Tables.{networkOf, EdgeTables};
 use build_append::Filled;
 use build_append::RowsAdded;
+use layout::COLUMN_CEILING;
+use layout::EDGE_CEILING;
+use layout::ELEMENTS_MADE_AT;
+use layout::NODE_CEILING;
 use network_record::Counts;
+use pywr::ColumnNumber;
 use pywr::Interval;
 use pywr::NodeIndex;
 
 // A link's mass row gathered: 1 on the columns of its incoming edges, −1 on those of its outgoing ones.
 fn mass_row(
     first_in: u16,
-    next_in: &[u16; 512],
+    next_in: &[u16; EDGE_CEILING],
     first_out: u16,
-    next_out: &[u16; 512],
-    edge_to_col: &[u16; 512],
-    columns: &mut [u32; 640],
+    next_out: &[u16; EDGE_CEILING],
+    edge_to_col: &[u16; EDGE_CEILING],
+    columns: &mut [ColumnNumber; COLUMN_CEILING],
     elements: &mut [f64],
 ) -> usize
-    requires { ⌜ (640 ≤ length (now elements)) × ListedEdges (now «next_in») (now «edge_to_col») «first_in» × ListedEdges (now «next_out») (now «edge_to_col») «first_out» ⌝ }
-    ensures { λ r. ⌜ ((into out : List ℕ) → Linked 512 (now («next_in» .entry)) «first_in» into → Linked 512 (now («next_out» .entry)) «first_out» out
+    requires { ⌜ (columnCeiling ≤ length (now elements)) × ListedEdges (now «next_in») (now «edge_to_col») «first_in» × ListedEdges (now «next_out») (now «edge_to_col») «first_out» ⌝ }
+    ensures { λ r. ⌜ ((into out : List ℕ) → Linked edgeCeiling (now («next_in» .entry)) «first_in» into → Linked edgeCeiling (now («next_out» .entry)) «first_out» out
         → Gathered (addOn (columnsOf (now («edge_to_col» .entry)) out) (neg one64) (addOn (columnsOf (now («edge_to_col» .entry)) into) one64 []))
         (now (columns .exit)) (now (elements .exit)) r) ⌝ }
 {
@@ -43,28 +49,28 @@ fn mass_row(
 fn add_mass_row(
     s: &[u8],
     c: Counts,
-    first_in: &[u16; 256],
-    next_in: &[u16; 512],
-    first_out: &[u16; 256],
-    next_out: &[u16; 512],
-    edge_to_col: &[u16; 512],
+    first_in: &[u16; NODE_CEILING],
+    next_in: &[u16; EDGE_CEILING],
+    first_out: &[u16; NODE_CEILING],
+    next_out: &[u16; EDGE_CEILING],
+    edge_to_col: &[u16; EDGE_CEILING],
     node: NodeIndex,
     words: &mut [u16],
     numbers: &mut [f64],
-    columns: &mut [u32; 640],
+    columns: &mut [ColumnNumber; COLUMN_CEILING],
     f: Filled,
 ) -> RowsAdded
     requires { ⌜ EdgeTables (now s) c (now «first_in») (now «next_in») (now «first_out») (now «next_out») (now «edge_to_col») × (node .0 < c .nodes)
-        × (24844 ≤ length (now words)) × (6784 ≤ length (now numbers)) × Holding (now words) (now numbers) f ⌝ }
+        × (wordsLength ≤ length (now words)) × (numbersLength ≤ length (now numbers)) × Holding (now words) (now numbers) f ⌝ }
     ensures { λ r. ⌜ ((rows : List Row) → RowsHeld rows (now (words .entry)) (now (numbers .entry)) f
-        → AfterRows (rows ++ massRowsFrom (columnMap (networkOf (now (s .entry)) c)) (node .0) (nodeAt (now (s .entry)) (20 * node .0) ∷ []))
+        → AfterRows (rows ++ massRowsFrom (columnMap (networkOf (now (s .entry)) c)) (node .0) (nodeAt (now (s .entry)) (nodePlace (node .0)) ∷ []))
         (now (words .entry)) r (now (words .exit)) (now (numbers .exit))) ⌝ }
 {
     if network_node::kind(s, node) != 2 {
         return RowsAdded::Done(f);
     }
     let k = fields::wide16(node.0);
-    let at = 2048 + f.elements;
+    let at = ELEMENTS_MADE_AT + f.elements;
     let n = mass_row(
         first_in[k],
         next_in,
@@ -74,7 +80,7 @@ fn add_mass_row(
         columns,
         &mut numbers[at..],
     );
-    let run: &[u32] = columns;
+    let run: &[ColumnNumber] = columns;
     let row = &run[0..n];
     if row.len() == 1 {
         return RowsAdded::Done(f);
@@ -96,18 +102,18 @@ fn add_mass_row(
 pub fn create_mass_balance_constraints(
     s: &[u8],
     c: Counts,
-    first_in: &[u16; 256],
-    next_in: &[u16; 512],
-    first_out: &[u16; 256],
-    next_out: &[u16; 512],
-    edge_to_col: &[u16; 512],
+    first_in: &[u16; NODE_CEILING],
+    next_in: &[u16; EDGE_CEILING],
+    first_out: &[u16; NODE_CEILING],
+    next_out: &[u16; EDGE_CEILING],
+    edge_to_col: &[u16; EDGE_CEILING],
     words: &mut [u16],
     numbers: &mut [f64],
-    columns: &mut [u32; 640],
+    columns: &mut [ColumnNumber; COLUMN_CEILING],
     f: Filled,
 ) -> RowsAdded
     requires { ⌜ EdgeTables (now s) c (now «first_in») (now «next_in») (now «first_out») (now «next_out») (now «edge_to_col»)
-        × (24844 ≤ length (now words)) × (6784 ≤ length (now numbers)) × Holding (now words) (now numbers) f ⌝ }
+        × (wordsLength ≤ length (now words)) × (numbersLength ≤ length (now numbers)) × Holding (now words) (now numbers) f ⌝ }
     ensures { λ r. ⌜ ((rows : List Row) → RowsHeld rows (now (words .entry)) (now (numbers .entry)) f
         → AfterRows (rows ++ massRowsFrom (columnMap (networkOf (now (s .entry)) c)) 0 (networkOf (now (s .entry)) c .nodes))
         (now (words .entry)) r (now (words .exit)) (now (numbers .exit))) ⌝ }

@@ -3,6 +3,7 @@ ghost use mathlib.Core.Path.{_≡_};
 ghost use mathlib.Core.List.{List, [], _∷_, _++_};
 ghost use Prim.Native.Nat.{_<_, _≤_};
 ghost use lib.ListN.{length};
+ghost use Rattle.layout.specs.Layout.{columnCeiling, nodeRowCeiling, wordsLength, numbersLength};
 ghost use Rattle.pywr.specs.Rows.{columnMap, addElement, addNode, nodeRow};
 ghost use Rattle.pywr.specs.Programme.{RowType, continuous};
 ghost use Rattle.pywr.specs.VaryingRows.{RowRequest};
@@ -11,8 +12,13 @@ ghost use Rattle.build_node_row.specs.Tables.{networkOf, EdgeTables};
 ghost use Rattle.build_node_table.specs.NodeTable.{NodeRowsHeld, NodeRowsHolding, AfterRequests};
 use build_node_table::NodeRows;
 use build_node_table::NodeRowsAdded;
+use layout::COLUMN_CEILING;
+use layout::EDGE_CEILING;
+use layout::ELEMENTS_MADE_AT;
+use layout::NODE_CEILING;
 use network_record::Counts;
 use pywr::ColumnIndex;
+use pywr::ColumnNumber;
 use pywr::NodeIndex;
 use pywr::Sentinel;
 
@@ -23,26 +29,26 @@ const CONTINUOUS: u16 = 0;
 pub fn request_node_row(
     s: &[u8],
     c: Counts,
-    first_in: &[u16; 256],
-    next_in: &[u16; 512],
-    first_out: &[u16; 256],
-    next_out: &[u16; 512],
-    edge_to_col: &[u16; 512],
+    first_in: &[u16; NODE_CEILING],
+    next_in: &[u16; EDGE_CEILING],
+    first_out: &[u16; NODE_CEILING],
+    next_out: &[u16; EDGE_CEILING],
+    edge_to_col: &[u16; EDGE_CEILING],
     node: NodeIndex,
     sentinel: Sentinel,
     words: &mut [u16],
     numbers: &mut [f64],
-    columns: &mut [u32; 640],
+    columns: &mut [ColumnNumber; COLUMN_CEILING],
     rows: NodeRows,
 ) -> NodeRowsAdded
     requires { ⌜ EdgeTables (now s) c (now «first_in») (now «next_in») (now «first_out») (now «next_out») (now «edge_to_col») × (node .0 < c .nodes)
-        × (24844 ≤ length (now words)) × (6784 ≤ length (now numbers)) × NodeRowsHolding sentinel (now words) (now numbers) rows × (rows .count < 4352) ⌝ }
+        × (wordsLength ≤ length (now words)) × (numbersLength ≤ length (now numbers)) × NodeRowsHolding sentinel (now words) (now numbers) rows × (rows .count < nodeRowCeiling) ⌝ }
     ensures { λ r. ⌜ ((asks : List RowRequest) → NodeRowsHeld sentinel asks (now (words .entry)) (now (numbers .entry)) rows
         → AfterRequests sentinel (asks ++ (record { node = node .0; rowType = continuous; set = 0; row = nodeRow (columnMap (networkOf (now (s .entry)) c)) (node .0) } ∷ []))
         r (now (words .exit)) (now (numbers .exit))) ⌝ }
 {
     let f = rows.filled;
-    let at = 2048 + f.elements;
+    let at = ELEMENTS_MADE_AT + f.elements;
     let n = build_node_row::add_node(
         s,
         c,
@@ -74,11 +80,11 @@ pub fn request_node_row(
 pub fn request_bounded_row(
     s: &[u8],
     c: Counts,
-    first_in: &[u16; 256],
-    next_in: &[u16; 512],
-    first_out: &[u16; 256],
-    next_out: &[u16; 512],
-    edge_to_col: &[u16; 512],
+    first_in: &[u16; NODE_CEILING],
+    next_in: &[u16; EDGE_CEILING],
+    first_out: &[u16; NODE_CEILING],
+    next_out: &[u16; EDGE_CEILING],
+    edge_to_col: &[u16; EDGE_CEILING],
     node: NodeIndex,
     factor: f64,
     column: ColumnIndex,
@@ -88,18 +94,18 @@ pub fn request_bounded_row(
     sentinel: Sentinel,
     words: &mut [u16],
     numbers: &mut [f64],
-    columns: &mut [u32; 640],
+    columns: &mut [ColumnNumber; COLUMN_CEILING],
     rows: NodeRows,
 ) -> NodeRowsAdded
-    requires { ⌜ EdgeTables (now s) c (now «first_in») (now «next_in») (now «first_out») (now «next_out») (now «edge_to_col») × (node .0 < c .nodes) × (column .0 < 640)
-        × (24844 ≤ length (now words)) × (6784 ≤ length (now numbers)) × NodeRowsHolding sentinel (now words) (now numbers) rows × (rows .count < 4352) ⌝ }
+    requires { ⌜ EdgeTables (now s) c (now «first_in») (now «next_in») (now «first_out») (now «next_out») (now «edge_to_col») × (node .0 < c .nodes) × (column .0 < columnCeiling)
+        × (wordsLength ≤ length (now words)) × (numbersLength ≤ length (now numbers)) × NodeRowsHolding sentinel (now words) (now numbers) rows × (rows .count < nodeRowCeiling) ⌝ }
     ensures { λ r. ⌜ ((t : RowType) → rowTypeWord t ≡ «row_type» → (asks : List RowRequest) → NodeRowsHeld sentinel asks (now (words .entry)) (now (numbers .entry)) rows
         → AfterRequests sentinel
         (asks ++ (record { node = node .0; rowType = t; set = set; row = addElement (column .0) coefficient (addNode (columnMap (networkOf (now (s .entry)) c)) (node .0) factor []) } ∷ []))
         r (now (words .exit)) (now (numbers .exit))) ⌝ }
 {
     let f = rows.filled;
-    let at = 2048 + f.elements;
+    let at = ELEMENTS_MADE_AT + f.elements;
     let n = build_node_row::bounded_row(
         s,
         c,

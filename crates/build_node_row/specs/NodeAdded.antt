@@ -3,6 +3,7 @@ use mathlib.Core.Path.{_≡_}
 use Prim.Native.Nat.{ℕ, _≤_}
 use mathlib.Core.List.{List}
 use lib.Ieee.{Float}
+use Rattle.layout.specs.Layout.{columnCeiling}
 use Rattle.pywr.specs.Rows.{columnMap, addNode}
 use Rattle.network_record.specs.declared.Counts.{Counts}
 use Rattle.build_row.specs.RowBuilder.{gathered, Rising}
@@ -12,4 +13,4 @@ use Rattle.build_node_row.specs.Tables.{networkOf}
 pub record NodeAdded (file : List ℕ) (c : Counts) (node : ℕ) (factor : Float) (columns : List ℕ) (elements : List Float) (n : ℕ) (columns′ : List ℕ) (elements′ : List Float) (r : ℕ) : Type 0 where
   pub row : gathered columns′ elements′ r ≡ addNode (columnMap (networkOf file c)) node factor (gathered columns elements n)
   pub rising : Rising columns′ r
-  pub few : r ≤ 640
+  pub few : r ≤ columnCeiling

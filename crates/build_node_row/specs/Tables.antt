@@ -3,6 +3,7 @@ use mathlib.Core.Path.{_≡_}
 use Prim.Native.Nat.{ℕ, _<_}
 use mathlib.Core.List.{List}
 use lib.ListN.{getD}
+use Rattle.layout.specs.Layout.{nodeCeiling, membershipCeiling}
 use Rattle.laws.specs.Linked.{Linked}
 use Rattle.pywr.specs.Result.{value}
 use Rattle.pywr.specs.Network.{Network, source, target}
@@ -28,11 +29,11 @@ pub record EdgeTables (file : List ℕ) (c : Counts) (firstIn nextIn firstOut ne
   pub outOf : EdgesListed source file (c .nodes) (c .edges) firstOut nextOut
   pub mapped : Mapped (columns (networkOf file c)) edgeToCol (columns (networkOf file c) .count)
 
--- the distinct exclusive sets by the offsets of their records, and of each node its memberships: membership 16 k + i is member i of the set numbered k
+-- the distinct exclusive sets by the offsets of their records, and of each node its memberships: membership setSizeCeiling * k + i is member i of the set numbered k
 pub record SetTables (file : List ℕ) (c : Counts) (setAt : List ℕ) (sets : ℕ) (firstMembership nextMembership : List ℕ) : Type 0 where
   pub held : setsAt file setAt sets ≡ exclusiveSets (networkOf file c)
   pub fit : SetsFit file setAt sets
-  pub listed : (n : ℕ) → n < 256 → Linked 2048 nextMembership (getD firstMembership n 0) (membershipsOf n 0 (setsAt file setAt sets))
+  pub listed : (n : ℕ) → n < nodeCeiling → Linked membershipCeiling nextMembership (getD firstMembership n 0) (membershipsOf n 0 (setsAt file setAt sets))
 
 -- the memberships alone
 pub record MembershipTables (file : List ℕ) (c : Counts) (firstMembership nextMembership : List ℕ) : Type 0 where

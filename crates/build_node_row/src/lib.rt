@@ -2,39 +2,46 @@
 // Rows gathered from the tables of a network.
 // The tables that rows are made from. Definitions only.
 ghost use mathlib.Core.Path.{_≡_};
-ghost use Prim.Native.Nat.{ℕ, _+_, _*_, _<_, _≤_};
-ghost use lib.ListN.{length, getD};
+ghost use Prim.Native.Nat.{ℕ, _<_, _≤_};
+ghost use lib.ListN.{length};
+ghost use Rattle.layout.specs.Layout.{columnCeiling};
 ghost use Rattle.build_row.specs.RowBuilder.{Rising};
 ghost use Rattle.build_node_row.specs.Tables.{EdgeTables, networkOf};
 ghost use Rattle.build_node_row.specs.NodeAdded.{NodeAdded};
 ghost use mathlib.Core.List.{[]};
 ghost use Rattle.pywr.specs.Rows.{columnMap, addElement, addNode};
 ghost use Rattle.build_row.specs.Gathered.{Gathered};
+use layout::COLUMN_CEILING;
+use layout::EDGE_CEILING;
+use layout::NODE_CEILING;
+use network_node::KIND_OFFSET;
+use network_node::NODE_LENGTH;
 use network_record::Counts;
 use pywr::ColumnIndex;
+use pywr::ColumnNumber;
 use pywr::NodeIndex;
 
 // Adds a node to the row: an input or a link by its outgoing edges, an output by its incoming ones, a storage by both, the outgoing ones with the factor negated.
 pub fn add_node(
     s: &[u8],
     c: Counts,
-    first_in: &[u16; 256],
-    next_in: &[u16; 512],
-    first_out: &[u16; 256],
-    next_out: &[u16; 512],
-    edge_to_col: &[u16; 512],
+    first_in: &[u16; NODE_CEILING],
+    next_in: &[u16; EDGE_CEILING],
+    first_out: &[u16; NODE_CEILING],
+    next_out: &[u16; EDGE_CEILING],
+    edge_to_col: &[u16; EDGE_CEILING],
     node: NodeIndex,
     factor: f64,
-    columns: &mut [u32; 640],
+    columns: &mut [ColumnNumber; COLUMN_CEILING],
     elements: &mut [f64],
     n: usize,
 ) -> usize
     requires { ⌜ EdgeTables (now s) c (now «first_in») (now «next_in») (now «first_out») (now «next_out») (now «edge_to_col») × (node .0 < c .nodes)
-        × (n ≤ 640) × (640 ≤ length (now elements)) × Rising (now columns) n ⌝ }
+        × (n ≤ columnCeiling) × (columnCeiling ≤ length (now elements)) × Rising (now columns) n ⌝ }
     ensures { λ r. ⌜ NodeAdded (now (s .entry)) c (node .0) factor (now (columns .entry)) (now (elements .entry)) n (now (columns .exit)) (now (elements .exit)) r ⌝ }
 {
     let k = fields::wide16(node.0);
-    let kind = s[20 * k + 2];
+    let kind = s[NODE_LENGTH * k + KIND_OFFSET];
     if kind == 1 {
         return build_row::add_columns(
             next_in,
@@ -81,20 +88,20 @@ pub fn add_node(
 pub fn bounded_row(
     s: &[u8],
     c: Counts,
-    first_in: &[u16; 256],
-    next_in: &[u16; 512],
-    first_out: &[u16; 256],
-    next_out: &[u16; 512],
-    edge_to_col: &[u16; 512],
+    first_in: &[u16; NODE_CEILING],
+    next_in: &[u16; EDGE_CEILING],
+    first_out: &[u16; NODE_CEILING],
+    next_out: &[u16; EDGE_CEILING],
+    edge_to_col: &[u16; EDGE_CEILING],
     node: NodeIndex,
     factor: f64,
     column: ColumnIndex,
     coefficient: f64,
-    columns: &mut [u32; 640],
+    columns: &mut [ColumnNumber; COLUMN_CEILING],
     elements: &mut [f64],
 ) -> usize
     requires { ⌜ EdgeTables (now s) c (now «first_in») (now «next_in») (now «first_out») (now «next_out») (now «edge_to_col») × (node .0 < c .nodes)
-        × (column .0 < 640) × (640 ≤ length (now elements)) ⌝ }
+        × (column .0 < columnCeiling) × (columnCeiling ≤ length (now elements)) ⌝ }
     ensures { λ r. ⌜ Gathered (addElement (column .0) coefficient (addNode (columnMap (networkOf (now (s .entry)) c)) (node .0) factor [])) (now (columns .exit)) (now (elements .exit)) r ⌝ }
 {
     let n = add_node(

@@ -1,4 +1,4 @@
--- The rows that varying nodes ask for, as the two work runs of a build hold them: the distinct rows, and in `words` from 7,180 on the node rows, four words each.
+-- The rows that varying nodes ask for, as the two work runs of a build hold them: the distinct rows, and the node rows.
 -- Assumes nothing.
 use mathlib.Core.Path.{_≡_}
 use Prim.Native.Nat.{ℕ, _*_}
@@ -6,6 +6,7 @@ use mathlib.Core.List.{List, [], map, flatMap}
 use mathlib.Core.Bool.{false}
 use lib.ListN.{length, take}
 use lib.Ieee.{Float}
+use Rattle.layout.specs.Layout.{nodeRowWidth, nodeRowsMadeAt}
 use Rattle.laws.specs.Part.{part}
 use Rattle.pywr.specs.declared.Sentinel.{Sentinel}
 use Rattle.pywr.specs.ExclusiveSets.{setsWithNode}
@@ -35,7 +36,7 @@ listedRequests f n = exclusiveRequests f n (setsWithNode n 0 (f .sets))
 pub record NodeRowsHeld (s : Sentinel) (asks : List RowRequest) (words : List ℕ) (numbers : List Float) (r : NodeRows) : Type 0 where
   pub held : RowsHeld (map (freshRow s) (joined asks .rows)) words numbers (r .filled)
   pub counted : r .count ≡ length asks
-  pub table : part 7180 (4 * r .count) words ≡ flatMap nodeRowWords (placedNodeRows asks (joined asks .places))
+  pub table : part nodeRowsMadeAt (nodeRowWidth * r .count) words ≡ flatMap nodeRowWords (placedNodeRows asks (joined asks .places))
 
 -- some rows asked for are held
 pub record NodeRowsHolding (s : Sentinel) (words : List ℕ) (numbers : List Float) (r : NodeRows) : Type 0 where

@@ -4,6 +4,7 @@ ghost use mathlib.Core.List.{List, [], _∷_, _++_};
 ghost use Prim.Native.Nat.{_+_, _*_, _<_, _≤_};
 ghost use lib.ListN.{length, drop};
 ghost use lib.Seq.{sets};
+ghost use Rattle.layout.specs.Layout.{columnCeiling, nodeRowCeiling, nodeRowWidth, nodeRowsMadeAt, wordsLength, elementsMadeAt, numbersLength};
 ghost use Rattle.pywr.specs.Programme.{RowType};
 ghost use Rattle.pywr.specs.VaryingRows.{RowRequest};
 ghost use Rattle.pywr.specs.Written.{rowTypeWord};
@@ -11,6 +12,13 @@ ghost use Rattle.build_row.specs.RowBuilder.{gathered, Rising};
 ghost use Rattle.build_node_table.specs.NodeTable.{NodeRowsHeld, NodeRowsHolding, AfterRequests};
 use build_append::Filled;
 use build_join::VariableRow;
+use layout::COLUMN_CEILING;
+use layout::NODE_ROW_ROW;
+use layout::NODE_ROW_SET;
+use layout::NODE_ROW_TYPE;
+use layout::NODE_ROW_WIDTH;
+use layout::NODE_ROWS_MADE_AT;
+use pywr::ColumnNumber;
 use pywr::NodeIndex;
 use pywr::Sentinel;
 
@@ -28,21 +36,21 @@ pub enum NodeRowsAdded {
 
 // Node row i of the table: the node, its row, the row's type and the set's number.
 fn put_node_row(words: &mut [u16], i: usize, node: NodeIndex, row: u16, row_type: u16, set: u16)
-    requires { ⌜ 7180 + 4 * i + 4 ≤ length (now words) ⌝ }
-    ensures { λ _. ⌜ now (words .exit) ≡ sets (now (words .entry)) (7180 + 4 * i) (node .0 ∷ row ∷ «row_type» ∷ set ∷ []) ⌝ }
+    requires { ⌜ nodeRowsMadeAt + nodeRowWidth * i + nodeRowWidth ≤ length (now words) ⌝ }
+    ensures { λ _. ⌜ now (words .exit) ≡ sets (now (words .entry)) (nodeRowsMadeAt + nodeRowWidth * i) (node .0 ∷ row ∷ «row_type» ∷ set ∷ []) ⌝ }
 {
-    let at = 7180 + 4 * i;
+    let at = NODE_ROWS_MADE_AT + NODE_ROW_WIDTH * i;
     words[at] = node.0;
-    words[at + 1] = row;
-    words[at + 2] = row_type;
-    words[at + 3] = set;
+    words[at + NODE_ROW_ROW] = row;
+    words[at + NODE_ROW_TYPE] = row_type;
+    words[at + NODE_ROW_SET] = set;
 }
 
 // A node asks for the gathered row, whose elements are already in place: an equal row that stands already serves, else it becomes the last row.
 pub fn add_node_row(
     words: &mut [u16],
     numbers: &mut [f64],
-    columns: &[u32; 640],
+    columns: &[ColumnNumber; COLUMN_CEILING],
     n: usize,
     sentinel: Sentinel,
     node: NodeIndex,
@@ -50,10 +58,10 @@ pub fn add_node_row(
     set: u16,
     rows: NodeRows,
 ) -> NodeRowsAdded
-    requires { ⌜ (24844 ≤ length (now words)) × (6784 ≤ length (now numbers)) × (n ≤ 640) × Rising (now columns) n
-        × NodeRowsHolding sentinel (now words) (now numbers) rows × (rows .count < 4352) ⌝ }
+    requires { ⌜ (wordsLength ≤ length (now words)) × (numbersLength ≤ length (now numbers)) × (n ≤ columnCeiling) × Rising (now columns) n
+        × NodeRowsHolding sentinel (now words) (now numbers) rows × (rows .count < nodeRowCeiling) ⌝ }
     ensures { λ r. ⌜ ((t : RowType) → rowTypeWord t ≡ «row_type» → (asks : List RowRequest) → NodeRowsHeld sentinel asks (now (words .entry)) (now (numbers .entry)) rows
-        → AfterRequests sentinel (asks ++ (record { node = node .0; rowType = t; set = set; row = gathered (now (columns .entry)) (drop (2048 + rows .filled .elements) (now (numbers .entry))) n } ∷ []))
+        → AfterRequests sentinel (asks ++ (record { node = node .0; rowType = t; set = set; row = gathered (now (columns .entry)) (drop (elementsMadeAt + rows .filled .elements) (now (numbers .entry))) n } ∷ []))
         r (now (words .exit)) (now (numbers .exit))) ⌝ }
 {
     let count = rows.count;

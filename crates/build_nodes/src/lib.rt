@@ -3,6 +3,7 @@ ghost use mathlib.Core.Path.{_≡_};
 ghost use mathlib.Core.List.{[]};
 ghost use Prim.Native.Nat.{_+_, _<_, _≤_};
 ghost use lib.ListN.{length};
+ghost use Rattle.layout.specs.Layout.{wordsLength, numbersLength};
 ghost use Rattle.pywr.specs.Rows.{columnMap};
 ghost use Rattle.pywr.specs.VaryingRows.{requestsFrom};
 ghost use Rattle.build_append.specs.LpBuilder.{RowsHeld};
@@ -12,7 +13,12 @@ ghost use Rattle.build_node_table.specs.NodeTable.{NodeRowsHeld, AfterRequests,
 use build_append::Filled;
 use build_node_table::NodeRows;
 use build_node_table::NodeRowsAdded;
+use layout::COLUMN_CEILING;
+use layout::EDGE_CEILING;
+use layout::MEMBERSHIP_CEILING;
+use layout::NODE_CEILING;
 use network_record::Counts;
+use pywr::ColumnNumber;
 use pywr::NodeIndex;
 use pywr::Sentinel;
 
@@ -20,24 +26,24 @@ use pywr::Sentinel;
 fn request_rows(
     s: &[u8],
     c: Counts,
-    first_in: &[u16; 256],
-    next_in: &[u16; 512],
-    first_out: &[u16; 256],
-    next_out: &[u16; 512],
-    edge_to_col: &[u16; 512],
+    first_in: &[u16; NODE_CEILING],
+    next_in: &[u16; EDGE_CEILING],
+    first_out: &[u16; NODE_CEILING],
+    next_out: &[u16; EDGE_CEILING],
+    edge_to_col: &[u16; EDGE_CEILING],
     edge_columns: usize,
-    first_membership: &[u16; 256],
-    next_membership: &[u16; 2048],
+    first_membership: &[u16; NODE_CEILING],
+    next_membership: &[u16; MEMBERSHIP_CEILING],
     node: NodeIndex,
     sentinel: Sentinel,
     words: &mut [u16],
     numbers: &mut [f64],
-    columns: &mut [u32; 640],
+    columns: &mut [ColumnNumber; COLUMN_CEILING],
     rows: NodeRows,
 ) -> NodeRowsAdded
     requires { ⌜ EdgeTables (now s) c (now «first_in») (now «next_in») (now «first_out») (now «next_out») (now «edge_to_col») × (node .0 < c .nodes)
         × («edge_columns» ≡ edgeColumns (now s) c) × MembershipTables (now s) c (now «first_membership») (now «next_membership»)
-        × (24844 ≤ length (now words)) × (6784 ≤ length (now numbers))
+        × (wordsLength ≤ length (now words)) × (numbersLength ≤ length (now numbers))
         × NodeRowsHeld sentinel (requestsBefore (columnMap (networkOf (now s) c)) (node .0)) (now words) (now numbers) rows ⌝ }
     ensures { λ r. ⌜ AfterRequests sentinel (requestsBefore (columnMap (networkOf (now (s .entry)) c)) (node .0 + 1)) r (now (words .exit)) (now (numbers .exit)) ⌝ }
 {
@@ -82,27 +88,27 @@ fn request_rows(
     )
 }
 
-// The rows of all varying nodes, in node order; each node row is written to the node-row table, from word 7,180 on.
+// The rows of all varying nodes, in node order; each node row is written to the node-row table.
 pub fn create_node_constraints(
     s: &[u8],
     c: Counts,
-    first_in: &[u16; 256],
-    next_in: &[u16; 512],
-    first_out: &[u16; 256],
-    next_out: &[u16; 512],
-    edge_to_col: &[u16; 512],
+    first_in: &[u16; NODE_CEILING],
+    next_in: &[u16; EDGE_CEILING],
+    first_out: &[u16; NODE_CEILING],
+    next_out: &[u16; EDGE_CEILING],
+    edge_to_col: &[u16; EDGE_CEILING],
     edge_columns: usize,
-    first_membership: &[u16; 256],
-    next_membership: &[u16; 2048],
+    first_membership: &[u16; NODE_CEILING],
+    next_membership: &[u16; MEMBERSHIP_CEILING],
     sentinel: Sentinel,
     words: &mut [u16],
     numbers: &mut [f64],
-    columns: &mut [u32; 640],
+    columns: &mut [ColumnNumber; COLUMN_CEILING],
     f: Filled,
 ) -> NodeRowsAdded
     requires { ⌜ EdgeTables (now s) c (now «first_in») (now «next_in») (now «first_out») (now «next_out») (now «edge_to_col»)
         × («edge_columns» ≡ edgeColumns (now s) c) × MembershipTables (now s) c (now «first_membership») (now «next_membership»)
-        × (24844 ≤ length (now words)) × (6784 ≤ length (now numbers)) × RowsHeld [] (now words) (now numbers) f ⌝ }
+        × (wordsLength ≤ length (now words)) × (numbersLength ≤ length (now numbers)) × RowsHeld [] (now words) (now numbers) f ⌝ }
     ensures { λ r. ⌜ AfterRequests sentinel (requestsFrom (columnMap (networkOf (now (s .entry)) c)) 0 (networkOf (now (s .entry)) c .nodes)) r (now (words .exit)) (now (numbers .exit)) ⌝ }
 {
     let nodes = c.nodes;

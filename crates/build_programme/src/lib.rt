@@ -2,6 +2,7 @@
 ghost use mathlib.Core.Path.{_≡_};
 ghost use Prim.Native.Nat.{_≤_};
 ghost use lib.ListN.{length};
+ghost use Rattle.layout.specs.Layout.{wordsLength, numbersLength};
 ghost use Rattle.pywr.specs.Result.{value};
 ghost use Rattle.pywr.specs.NetworkFile.{parseNetwork};
 ghost use Rattle.network_record.specs.Counts.{SectionsOf};
@@ -10,7 +11,13 @@ ghost use Rattle.build_node_row.specs.Tables.{networkOf, EdgeTables};
 ghost use Rattle.build_rows.specs.Assembled.{AfterAssemble};
 use build_exclusive_sets::Sets;
 use build_rows::Assembled;
+use layout::EDGE_CEILING;
+use layout::MEMBERSHIP_CEILING;
+use layout::NODE_CEILING;
+use layout::SET_CEILING;
 use network::Loaded;
+use network_edge::FROM_OFFSET;
+use network_edge::TO_OFFSET;
 use network_record::Counts;
 use pywr::Sentinel;
 
@@ -18,27 +25,27 @@ use pywr::Sentinel;
 fn assemble_rows(
     s: &[u8],
     c: Counts,
-    first_in: &[u16; 256],
-    next_in: &[u16; 512],
-    first_out: &[u16; 256],
-    next_out: &[u16; 512],
-    edge_to_col: &[u16; 512],
+    first_in: &[u16; NODE_CEILING],
+    next_in: &[u16; EDGE_CEILING],
+    first_out: &[u16; NODE_CEILING],
+    next_out: &[u16; EDGE_CEILING],
+    edge_to_col: &[u16; EDGE_CEILING],
     edge_columns: usize,
     sentinel: Sentinel,
     words: &mut [u16],
     numbers: &mut [f64],
 ) -> Assembled
     requires { ⌜ EdgeTables (now s) c (now «first_in») (now «next_in») (now «first_out») (now «next_out») (now «edge_to_col»)
-        × («edge_columns» ≡ edgeColumns (now s) c) × (24844 ≤ length (now words)) × (6784 ≤ length (now numbers)) ⌝ }
+        × («edge_columns» ≡ edgeColumns (now s) c) × (wordsLength ≤ length (now words)) × (numbersLength ≤ length (now numbers)) ⌝ }
     ensures { λ r. ⌜ AfterAssemble sentinel (now (s .entry)) r (now (words .exit)) (now (numbers .exit)) ⌝ }
 {
-    let mut set_at = [0u16; 128];
+    let mut set_at = [0u16; SET_CEILING];
     let k = build_exclusive_sets::collect_sets(s, c, &mut set_at);
     match k {
         Sets::TooMany => Assembled::Refused(11, 0),
         Sets::Count(sets) => {
-            let mut first_membership = [0u16; 256];
-            let mut next_membership = [0u16; 2048];
+            let mut first_membership = [0u16; NODE_CEILING];
+            let mut next_membership = [0u16; MEMBERSHIP_CEILING];
             build_exclusive_sets::list_members(
                 s,
                 &set_at,
@@ -75,16 +82,23 @@ fn assemble_columns(
     words: &mut [u16],
     numbers: &mut [f64],
 ) -> Assembled
-    requires { ⌜ (parseNetwork (now s) ≡ value (networkOf (now s) c)) × SectionsOf (now s) c × (24844 ≤ length (now words)) × (6784 ≤ length (now numbers)) ⌝ }
+    requires { ⌜ (parseNetwork (now s) ≡ value (networkOf (now s) c)) × SectionsOf (now s) c × (wordsLength ≤ length (now words)) × (numbersLength ≤ length (now numbers)) ⌝ }
     ensures { λ r. ⌜ AfterAssemble sentinel (now (s .entry)) r (now (words .exit)) (now (numbers .exit)) ⌝ }
 {
-    let mut first_in = [0u16; 256];
-    let mut next_in = [0u16; 512];
-    let mut first_out = [0u16; 256];
-    let mut next_out = [0u16; 512];
-    let mut edge_to_col = [0u16; 512];
-    build_incident_edges::list_edges(s, c.nodes, c.edges, 4, &mut first_in, &mut next_in);
-    build_incident_edges::list_edges(s, c.nodes, c.edges, 2, &mut first_out, &mut next_out);
+    let mut first_in = [0u16; NODE_CEILING];
+    let mut next_in = [0u16; EDGE_CEILING];
+    let mut first_out = [0u16; NODE_CEILING];
+    let mut next_out = [0u16; EDGE_CEILING];
+    let mut edge_to_col = [0u16; EDGE_CEILING];
+    build_incident_edges::list_edges(s, c.nodes, c.edges, TO_OFFSET, &mut first_in, &mut next_in);
+    build_incident_edges::list_edges(
+        s,
+        c.nodes,
+        c.edges,
+        FROM_OFFSET,
+        &mut first_out,
+        &mut next_out,
+    );
     let edge_columns = build_col_edge_map::map_edges(
         s,
         c.nodes,
@@ -112,7 +126,7 @@ fn assemble_columns(
 
 // The programme of a network file in the work runs, or refusal 1 to 11.
 pub fn assemble(s: &[u8], sentinel: Sentinel, words: &mut [u16], numbers: &mut [f64]) -> Assembled
-    requires { ⌜ (24844 ≤ length (now words)) × (6784 ≤ length (now numbers)) ⌝ }
+    requires { ⌜ (wordsLength ≤ length (now words)) × (numbersLength ≤ length (now numbers)) ⌝ }
     ensures { λ r. ⌜ AfterAssemble sentinel (now (s .entry)) r (now (words .exit)) (now (numbers .exit)) ⌝ }
 {
     let r = network::load(s);

@@ -8,6 +8,8 @@ ghost use Rattle.pywr.specs.Numbers.{zero64};
 ghost use Rattle.pywr.specs.Store.{Store};
 ghost use Rattle.pywr.specs.Calls.{buildRoom};
 ghost use Rattle.store.specs.Reading.{Lengths};
+use layout::NUMBERS_LENGTH;
+use layout::WORDS_LENGTH;
 
 // Whether runs of these lengths have the room that the ceilings need.
 pub fn build_has_room(
@@ -37,8 +39,8 @@ pub fn build_has_room(
         row_starts,
         shape,
     )
-        & (24844 <= words)
-        & (6784 <= numbers)
+        & (WORDS_LENGTH <= words)
+        & (NUMBERS_LENGTH <= numbers)
 }
 
 // Zeroes the work area.

@@ -3,6 +3,7 @@ use mathlib.Core.Path.{_≡_}
 use Prim.Native.Nat.{ℕ, _≤_}
 use mathlib.Core.List.{List}
 use lib.Ieee.{Float}
+use Rattle.layout.specs.Layout.{columnCeiling}
 use Rattle.pywr.specs.Rows.{Element}
 use Rattle.build_row.specs.RowBuilder.{gathered, Rising}
 
@@ -10,4 +11,4 @@ use Rattle.build_row.specs.RowBuilder.{gathered, Rising}
 pub record Gathered (row : List Element) (columns : List ℕ) (elements : List Float) (n : ℕ) : Type 0 where
   pub is : gathered columns elements n ≡ row
   pub rising : Rising columns n
-  pub few : n ≤ 640
+  pub few : n ≤ columnCeiling

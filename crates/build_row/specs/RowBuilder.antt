@@ -6,6 +6,7 @@ use mathlib.Core.List.{List, _∷_, _++_}
 use mathlib.Core.Bool.{true}
 use lib.ListN.{getD, take, drop}
 use lib.Ieee.{Float}
+use Rattle.layout.specs.Layout.{columnCeiling}
 use Rattle.pywr.specs.Rows.{Element, addElement}
 use Rattle.pywr.specs.Store.{elementsOf}
 use Rattle.pywr.specs.Misshapen.{columnsRise}
@@ -14,15 +15,15 @@ use Rattle.pywr.specs.Misshapen.{columnsRise}
 unfoldable pub gathered : List ℕ → List Float → ℕ → List Element
 gathered columns elements n = elementsOf (take n columns) (take n elements)
 
--- "Elements of a row rise by column": the first n columns rise, each under 640
+-- "Elements of a row rise by column": the first n columns rise, each under the ceiling
 abbrev pub Rising : List ℕ → ℕ → Type 0
-Rising columns n = columnsRise 640 0 (take n columns) ≡ true
+Rising columns n = columnsRise columnCeiling 0 (take n columns) ≡ true
 
 -- what adding an element promises: the row with x added on column c, its count and its order
 pub record ElementAdded (columns : List ℕ) (elements : List Float) (n c : ℕ) (x : Float) (columns′ : List ℕ) (elements′ : List Float) (r : ℕ) : Type 0 where
   pub row : gathered columns′ elements′ r ≡ addElement c x (gathered columns elements n)
   pub rising : Rising columns′ r
-  pub few : r ≤ 640
+  pub few : r ≤ columnCeiling
 
 -- p is the first place, of n, whose column is not under c
 pub record Place (columns : List ℕ) (n c p : ℕ) : Type 0 where

@@ -2,13 +2,14 @@
 ghost use mathlib.Core.Path.{_≡_};
 ghost use Prim.Native.Nat.{_<_, _≤_};
 ghost use lib.ListN.{length};
+ghost use Rattle.layout.specs.Layout.{columnCeiling};
 ghost use Rattle.build_row.specs.RowBuilder.{Rising, Place, insertAt, ElementAdded};
 ghost use Rattle.build_row.specs.EdgeList.{ListedEdges, ColumnsAdded};
+use layout::COLUMN_CEILING;
+use layout::EDGE_CEILING;
 use pywr::ColumnIndex;
+use pywr::ColumnNumber;
 use pywr::EdgeIndex;
-
-// The width of a column's number in the array.
-pub type ColumnNumber = u32;
 
 fn wide(column: ColumnIndex) -> ColumnNumber
     ensures { λ r. ⌜ (r ≡ column .0) × (r < 65536) ⌝ }
@@ -69,13 +70,13 @@ fn insert_element(elements: &mut [f64], n: usize, p: usize, x: f64)
 
 // Adds value on a column of the row of n elements, and answers how many it has then.
 pub fn add_element(
-    columns: &mut [ColumnNumber; 640],
+    columns: &mut [ColumnNumber; COLUMN_CEILING],
     elements: &mut [f64],
     n: usize,
     column: ColumnIndex,
     value: f64,
 ) -> usize
-    requires { ⌜ (n ≤ 640) × (640 ≤ length (now elements)) × (column .0 < 640) × Rising (now columns) n ⌝ }
+    requires { ⌜ (n ≤ columnCeiling) × (columnCeiling ≤ length (now elements)) × (column .0 < columnCeiling) × Rising (now columns) n ⌝ }
     ensures { λ r. ⌜ ElementAdded (now (columns .entry)) (now (elements .entry)) n (column .0) value (now (columns .exit)) (now (elements .exit)) r ⌝ }
 {
     let c = wide(column);
@@ -100,15 +101,15 @@ fn index(edge: EdgeIndex) -> usize
 // Adds the factor on the column of each edge of a list. `first` is 0 or an edge's number plus 1, and so is each entry of `next`;
 // `edge_to_col` has each edge's column plus 1.
 pub fn add_columns(
-    next: &[u16; 512],
-    edge_to_col: &[u16; 512],
+    next: &[u16; EDGE_CEILING],
+    edge_to_col: &[u16; EDGE_CEILING],
     first: u16,
     factor: f64,
-    columns: &mut [ColumnNumber; 640],
+    columns: &mut [ColumnNumber; COLUMN_CEILING],
     elements: &mut [f64],
     n: usize,
 ) -> usize
-    requires { ⌜ (n ≤ 640) × (640 ≤ length (now elements)) × Rising (now columns) n × ListedEdges (now next) (now «edge_to_col») first ⌝ }
+    requires { ⌜ (n ≤ columnCeiling) × (columnCeiling ≤ length (now elements)) × Rising (now columns) n × ListedEdges (now next) (now «edge_to_col») first ⌝ }
     ensures { λ r. ⌜ ColumnsAdded (now (next .entry)) (now («edge_to_col» .entry)) first factor (now (columns .entry)) (now (elements .entry)) n (now (columns .exit)) (now (elements .exit)) r ⌝ }
 {
     let mut count = n;

@@ -1,10 +1,11 @@
--- A programme assembled in a build's work runs. In `words` the columns of the elements stand from 0, the row starts from 4,096 and the shape run's words from 5,121;
--- in `numbers` the lower bounds of the rows stand from 0, the upper from 1,024 and the elements from 2,048. Assumes nothing.
+-- A programme assembled in a build's work runs. In `words` stand the columns of the elements, the row starts and the shape run's words;
+-- in `numbers` the lower bounds of the rows, the upper bounds and the elements. Assumes nothing.
 use mathlib.Core.Path.{_≡_}
 use Prim.Native.Nat.{ℕ, _*_}
 use mathlib.Core.List.{List, map, flatMap}
 use lib.Seq.{sets}
 use lib.Ieee.{Float}
+use Rattle.layout.specs.Layout.{countsLength, nodeWidth, edgeWidth, nodeRowWidth, virtualStorageWidth, shapeMadeAt, nodesMadeAt, edgesMadeAt, nodeRowsMadeAt, aggregatesMadeAt, virtualStoragesMadeAt}
 use Rattle.laws.specs.Part.{part}
 use Rattle.pywr.specs.declared.Sentinel.{Sentinel}
 use Rattle.pywr.specs.Result.{value, refused}
@@ -23,12 +24,12 @@ pub record Laid (s : Sentinel) (b : Built) (z : Sizes) (words : List ℕ) (numbe
   pub few : Few z
   pub columns : columnsOf s z ≡ b .programme .columns
   pub rows : RowsHeld (rowsOf (b .programme)) words numbers (record { rows = z .rows; elements = z .elements })
-  pub counts : part 5121 11 words ≡ countWords b
-  pub nodes : part 5132 (2 * z .nodes) words ≡ flatMap nodeWords (b .shape .nodes)
-  pub edges : part 5644 (3 * z .edges) words ≡ flatMap edgeWords (b .shape .mappedEdges)
-  pub nodeRows : part 7180 (4 * z .«node_rows») words ≡ flatMap nodeRowWords (b .shape .nodeRows)
-  pub aggregates : part 24588 (z .aggregates) words ≡ b .shape .aggregates
-  pub virtualStorages : part 24652 (6 * z .«virtual_storages») words ≡ flatMap virtualStorageWords (b .shape .virtualStorages)
+  pub counts : part shapeMadeAt countsLength words ≡ countWords b
+  pub nodes : part nodesMadeAt (nodeWidth * z .nodes) words ≡ flatMap nodeWords (b .shape .nodes)
+  pub edges : part edgesMadeAt (edgeWidth * z .edges) words ≡ flatMap edgeWords (b .shape .mappedEdges)
+  pub nodeRows : part nodeRowsMadeAt (nodeRowWidth * z .«node_rows») words ≡ flatMap nodeRowWords (b .shape .nodeRows)
+  pub aggregates : part aggregatesMadeAt (z .aggregates) words ≡ b .shape .aggregates
+  pub virtualStorages : part virtualStoragesMadeAt (virtualStorageWidth * z .«virtual_storages») words ≡ flatMap virtualStorageWords (b .shape .virtualStorages)
 
 -- the build's programme is laid out
 pub record Made (s : Sentinel) (file : List ℕ) (z : Sizes) (words : List ℕ) (numbers : List Float) : Type 0 where
@@ -45,5 +46,7 @@ pub record AfterAssemble (s : Sentinel) (file : List ℕ) (r : Assembled) (words
 abbrev pub tablesWritten : Sentinel → List ℕ → List ℕ → Sizes → ℕ → List ℕ → List ℕ
 tablesWritten s file table z varying words =
     sets
-    (sets (sets words 5132 (flatMap nodeWords (map nodeShape (nodesAt file (z .nodes))))) 5644 (flatMap edgeWords (edgeEntries file table (z .nodes) (z .edges))))
-    5121 (counts s z varying)
+    (sets
+    (sets words nodesMadeAt (flatMap nodeWords (map nodeShape (nodesAt file (z .nodes)))))
+    edgesMadeAt (flatMap edgeWords (edgeEntries file table (z .nodes) (z .edges))))
+    shapeMadeAt (counts s z varying)

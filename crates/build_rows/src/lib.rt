@@ -1,7 +1,9 @@
 // A programme in the work runs of a build: all rows, the tables of nodes and edges, the counts.
 ghost use mathlib.Core.Path.{_≡_};
-ghost use Prim.Native.Nat.{ℕ, _+_, _*_, _<_, _≤_};
+ghost use Prim.Native.Nat.{ℕ, _<_, _≤_};
 ghost use lib.ListN.{length, getD};
+ghost use Rattle.layout.specs.Layout.{wordsLength, numbersLength};
+ghost use Rattle.network_edge.specs.Edge.{edgePlace};
 ghost use Rattle.build_node_row.specs.EdgeColumns.{edgeColumns};
 ghost use Rattle.build_node_row.specs.Tables.{EdgeTables, SetTables};
 ghost use Rattle.build_write.specs.Lp.{Few};
@@ -10,7 +12,13 @@ use build_append::Filled;
 use build_append::RowsAdded;
 use build_node_table::NodeRowsAdded;
 use build_write::Sizes;
+use layout::COLUMN_CEILING;
+use layout::EDGE_CEILING;
+use layout::MEMBERSHIP_CEILING;
+use layout::NODE_CEILING;
+use layout::SET_CEILING;
 use network_record::Counts;
+use pywr::ColumnNumber;
 use pywr::Sentinel;
 
 // The sizes of the assembled programme, or a refusal's number and place.
@@ -23,12 +31,12 @@ pub enum Assembled {
 fn write_tables(
     s: &[u8],
     sentinel: Sentinel,
-    edge_to_col: &[u16; 512],
+    edge_to_col: &[u16; EDGE_CEILING],
     z: Sizes,
     varying: usize,
     words: &mut [u16],
 )
-    requires { ⌜ Few z × (20 * z .nodes + 6 * z .edges ≤ length (now s)) × (24844 ≤ length (now words)) × (varying ≤ z .rows)
+    requires { ⌜ Few z × (edgePlace (z .nodes) (z .edges) ≤ length (now s)) × (wordsLength ≤ length (now words)) × (varying ≤ z .rows)
         × ((e : ℕ) → e < z .edges → 1 ≤ getD (now «edge_to_col») e 0) ⌝ }
     ensures { λ _. ⌜ now (words .exit) ≡ tablesWritten sentinel (now (s .entry)) (now («edge_to_col» .entry)) z varying (now (words .entry)) ⌝ }
 {
@@ -43,26 +51,26 @@ fn write_tables(
 pub fn add_rows(
     s: &[u8],
     c: Counts,
-    first_in: &[u16; 256],
-    next_in: &[u16; 512],
-    first_out: &[u16; 256],
-    next_out: &[u16; 512],
-    edge_to_col: &[u16; 512],
+    first_in: &[u16; NODE_CEILING],
+    next_in: &[u16; EDGE_CEILING],
+    first_out: &[u16; NODE_CEILING],
+    next_out: &[u16; EDGE_CEILING],
+    edge_to_col: &[u16; EDGE_CEILING],
     edge_columns: usize,
-    set_at: &[u16; 128],
+    set_at: &[u16; SET_CEILING],
     sets: usize,
-    first_membership: &[u16; 256],
-    next_membership: &[u16; 2048],
+    first_membership: &[u16; NODE_CEILING],
+    next_membership: &[u16; MEMBERSHIP_CEILING],
     sentinel: Sentinel,
     words: &mut [u16],
     numbers: &mut [f64],
 ) -> Assembled
     requires { ⌜ EdgeTables (now s) c (now «first_in») (now «next_in») (now «first_out») (now «next_out») (now «edge_to_col»)
         × SetTables (now s) c (now «set_at») sets (now «first_membership») (now «next_membership») × («edge_columns» ≡ edgeColumns (now s) c)
-        × (24844 ≤ length (now words)) × (6784 ≤ length (now numbers)) ⌝ }
+        × (wordsLength ≤ length (now words)) × (numbersLength ≤ length (now numbers)) ⌝ }
     ensures { λ r. ⌜ AfterAssemble sentinel (now (s .entry)) r (now (words .exit)) (now (numbers .exit)) ⌝ }
 {
-    let mut columns = [0u32; 640];
+    let mut columns: [ColumnNumber; COLUMN_CEILING] = [0; COLUMN_CEILING];
     build_append::start_rows(words);
     let v = build_varying::add_varying_rows(
         s,

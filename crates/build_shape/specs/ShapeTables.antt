@@ -1,16 +1,16 @@
 -- The edges of a file with the columns of a table that has each edge's column plus 1, and the counts of a programme. Assumes nothing.
-use Prim.Native.Nat.{ℕ, zero, suc, _+_, _*_, _-_}
+use Prim.Native.Nat.{ℕ, zero, suc, _+_, _-_}
 use mathlib.Core.List.{List, [], _∷_}
 use lib.ListN.{getD}
 use Rattle.pywr.specs.declared.Sentinel.{Sentinel}
 use Rattle.pywr.specs.ColEdgeMap.{MappedEdge}
 use Rattle.pywr.specs.Written.{sentinelWord}
 use Rattle.build_write.specs.declared.Sizes.{Sizes}
-use Rattle.network_edge.specs.Edge.{edgeAt}
+use Rattle.network_edge.specs.Edge.{edgeAt, edgePlace}
 
 abbrev pub edgeEntry : List ℕ → List ℕ → ℕ → ℕ → MappedEdge
 edgeEntry file table nodes e =
-    record { from = edgeAt file (20 * nodes + 6 * e) .from; to = edgeAt file (20 * nodes + 6 * e) .to; column = getD table e 0 - 1 }
+    record { from = edgeAt file (edgePlace nodes e) .from; to = edgeAt file (edgePlace nodes e) .to; column = getD table e 0 - 1 }
 
 -- `count` edges from edge e on
 unfoldable pub edgesFrom : List ℕ → List ℕ → ℕ → ℕ → ℕ → List MappedEdge

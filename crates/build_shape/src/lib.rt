@@ -1,15 +1,38 @@
 // The tables of the shape run that follow from the network file and its columns, written into a build's work run.
 ghost use mathlib.Core.Path.{_≡_};
-ghost use Prim.Native.Nat.{ℕ, suc, _+_, _*_, _<_, _≤_};
+ghost use Prim.Native.Nat.{ℕ, suc, _<_, _≤_};
 ghost use mathlib.Core.List.{List, [], _∷_, map, flatMap};
 ghost use lib.ListN.{length, getD};
 ghost use lib.Seq.{sets};
+ghost use Rattle.layout.specs.Layout.{nodeCeiling, edgeCeiling, shapeMadeAt, nodesMadeAt, edgesMadeAt, wordsLength};
 ghost use Rattle.pywr.specs.Build.{nodeShape};
 ghost use Rattle.pywr.specs.Written.{sentinelWord, nodeWords, edgeWords};
+ghost use Rattle.network_node.specs.Node.{nodePlace};
+ghost use Rattle.network_edge.specs.Edge.{edgePlace};
 ghost use Rattle.build_write.specs.Lp.{Few};
 ghost use Rattle.network_laws.specs.NetworkAt.{nodesAt};
 ghost use Rattle.build_shape.specs.ShapeTables.{edgeEntries, counts};
 use build_write::Sizes;
+use layout::AGGREGATE_COUNT_AT;
+use layout::EDGE_CEILING;
+use layout::EDGE_COLUMN_COUNT_AT;
+use layout::EDGE_COUNT_AT;
+use layout::EDGE_TO;
+use layout::EDGE_WIDTH;
+use layout::EDGES_MADE_AT;
+use layout::ELEMENT_COUNT_AT;
+use layout::FIXED_COUNT_AT;
+use layout::MAPPED_COLUMN;
+use layout::NODE_COUNT_AT;
+use layout::NODE_FLAG;
+use layout::NODE_ROW_COUNT_AT;
+use layout::NODE_WIDTH;
+use layout::NODES_MADE_AT;
+use layout::SENTINEL_AT;
+use layout::SET_COUNT_AT;
+use layout::SHAPE_MADE_AT;
+use layout::VARYING_COUNT_AT;
+use layout::VIRTUAL_STORAGE_COUNT_AT;
 use pywr::EdgeIndex;
 use pywr::NodeIndex;
 use pywr::Sentinel;
@@ -22,18 +45,18 @@ fn word(x: u8) -> u16
 
 // Of each node its kind, and whether it is constant.
 pub fn write_nodes(s: &[u8], nodes: usize, words: &mut [u16])
-    requires { ⌜ (nodes ≤ 256) × (20 * nodes ≤ length (now s)) × (24844 ≤ length (now words)) ⌝ }
-    ensures { λ _. ⌜ now (words .exit) ≡ sets (now (words .entry)) 5132 (flatMap nodeWords (map nodeShape (nodesAt (now (s .entry)) nodes))) ⌝ }
+    requires { ⌜ (nodes ≤ nodeCeiling) × (nodePlace nodes ≤ length (now s)) × (wordsLength ≤ length (now words)) ⌝ }
+    ensures { λ _. ⌜ now (words .exit) ≡ sets (now (words .entry)) nodesMadeAt (flatMap nodeWords (map nodeShape (nodesAt (now (s .entry)) nodes))) ⌝ }
 {
     let mut i: usize = 0;
     while i < nodes {
         let n = NodeIndex(fields::narrow16(i));
-        words[5132 + 2 * i] = word(network_node::kind(s, n));
+        words[NODES_MADE_AT + NODE_WIDTH * i] = word(network_node::kind(s, n));
         if network_node::is_constant(s, n) {
-            words[5132 + 2 * i + 1] = 1;
+            words[NODES_MADE_AT + NODE_WIDTH * i + NODE_FLAG] = 1;
             i += 1;
         } else {
-            words[5132 + 2 * i + 1] = 0;
+            words[NODES_MADE_AT + NODE_WIDTH * i + NODE_FLAG] = 0;
             i += 1;
         }
     }
@@ -44,24 +67,47 @@ pub fn write_edges(
     s: &[u8],
     nodes: usize,
     edges: usize,
-    edge_to_col: &[u16; 512],
+    edge_to_col: &[u16; EDGE_CEILING],
     words: &mut [u16],
 )
-    requires { ⌜ (nodes ≤ 256) × (edges ≤ 512) × (20 * nodes + 6 * edges ≤ length (now s)) × (24844 ≤ length (now words))
+    requires { ⌜ (nodes ≤ nodeCeiling) × (edges ≤ edgeCeiling) × (edgePlace nodes edges ≤ length (now s)) × (wordsLength ≤ length (now words))
         × ((e : ℕ) → e < edges → 1 ≤ getD (now «edge_to_col») e 0) ⌝ }
-    ensures { λ _. ⌜ now (words .exit) ≡ sets (now (words .entry)) 5644 (flatMap edgeWords (edgeEntries (now (s .entry)) (now («edge_to_col» .entry)) nodes edges)) ⌝ }
+    ensures { λ _. ⌜ now (words .exit) ≡ sets (now (words .entry)) edgesMadeAt (flatMap edgeWords (edgeEntries (now (s .entry)) (now («edge_to_col» .entry)) nodes edges)) ⌝ }
 {
     let mut i: usize = 0;
     while i < edges {
         let e = EdgeIndex(fields::narrow16(i));
         let from = network_edge::from_node_index(s, nodes, e);
         let to = network_edge::to_node_index(s, nodes, e);
-        words[5644 + 3 * i] = from.0;
-        words[5644 + 3 * i + 1] = to.0;
-        words[5644 + 3 * i + 2] = edge_to_col[i] - 1;
+        words[EDGES_MADE_AT + EDGE_WIDTH * i] = from.0;
+        words[EDGES_MADE_AT + EDGE_WIDTH * i + EDGE_TO] = to.0;
+        words[EDGES_MADE_AT + EDGE_WIDTH * i + MAPPED_COLUMN] = edge_to_col[i] - 1;
         i += 1;
     }
 }
+
+// Where the words of the shape run are made that come before its tables.
+const SENTINEL_MADE_AT: usize = SHAPE_MADE_AT + SENTINEL_AT;
+
+const NODE_COUNT_MADE_AT: usize = SHAPE_MADE_AT + NODE_COUNT_AT;
+
+const EDGE_COUNT_MADE_AT: usize = SHAPE_MADE_AT + EDGE_COUNT_AT;
+
+const EDGE_COLUMN_COUNT_MADE_AT: usize = SHAPE_MADE_AT + EDGE_COLUMN_COUNT_AT;
+
+const SET_COUNT_MADE_AT: usize = SHAPE_MADE_AT + SET_COUNT_AT;
+
+const VARYING_COUNT_MADE_AT: usize = SHAPE_MADE_AT + VARYING_COUNT_AT;
+
+const FIXED_COUNT_MADE_AT: usize = SHAPE_MADE_AT + FIXED_COUNT_AT;
+
+const ELEMENT_COUNT_MADE_AT: usize = SHAPE_MADE_AT + ELEMENT_COUNT_AT;
+
+const NODE_ROW_COUNT_MADE_AT: usize = SHAPE_MADE_AT + NODE_ROW_COUNT_AT;
+
+const AGGREGATE_COUNT_MADE_AT: usize = SHAPE_MADE_AT + AGGREGATE_COUNT_AT;
+
+const VIRTUAL_STORAGE_COUNT_MADE_AT: usize = SHAPE_MADE_AT + VIRTUAL_STORAGE_COUNT_AT;
 
 fn sentinel_word(sentinel: Sentinel) -> u16
     ensures { λ r. ⌜ r ≡ sentinelWord sentinel ⌝ }
@@ -74,18 +120,18 @@ fn sentinel_word(sentinel: Sentinel) -> u16
 
 // The sentinel and the counts; `varying` of the rows vary.
 pub fn write_counts(words: &mut [u16], sentinel: Sentinel, z: Sizes, varying: usize)
-    requires { ⌜ (24844 ≤ length (now words)) × Few z × (varying ≤ z .rows) ⌝ }
-    ensures { λ _. ⌜ now (words .exit) ≡ sets (now (words .entry)) 5121 (counts sentinel z varying) ⌝ }
+    requires { ⌜ (wordsLength ≤ length (now words)) × Few z × (varying ≤ z .rows) ⌝ }
+    ensures { λ _. ⌜ now (words .exit) ≡ sets (now (words .entry)) shapeMadeAt (counts sentinel z varying) ⌝ }
 {
-    words[5121] = sentinel_word(sentinel);
-    words[5122] = fields::narrow16(z.nodes);
-    words[5123] = fields::narrow16(z.edges);
-    words[5124] = fields::narrow16(z.edge_columns);
-    words[5125] = fields::narrow16(z.sets);
-    words[5126] = fields::narrow16(varying);
-    words[5127] = fields::narrow16(z.rows - varying);
-    words[5128] = fields::narrow16(z.elements);
-    words[5129] = fields::narrow16(z.node_rows);
-    words[5130] = fields::narrow16(z.aggregates);
-    words[5131] = fields::narrow16(z.virtual_storages);
+    words[SENTINEL_MADE_AT] = sentinel_word(sentinel);
+    words[NODE_COUNT_MADE_AT] = fields::narrow16(z.nodes);
+    words[EDGE_COUNT_MADE_AT] = fields::narrow16(z.edges);
+    words[EDGE_COLUMN_COUNT_MADE_AT] = fields::narrow16(z.edge_columns);
+    words[SET_COUNT_MADE_AT] = fields::narrow16(z.sets);
+    words[VARYING_COUNT_MADE_AT] = fields::narrow16(varying);
+    words[FIXED_COUNT_MADE_AT] = fields::narrow16(z.rows - varying);
+    words[ELEMENT_COUNT_MADE_AT] = fields::narrow16(z.elements);
+    words[NODE_ROW_COUNT_MADE_AT] = fields::narrow16(z.node_rows);
+    words[AGGREGATE_COUNT_MADE_AT] = fields::narrow16(z.aggregates);
+    words[VIRTUAL_STORAGE_COUNT_MADE_AT] = fields::narrow16(z.virtual_storages);
 }

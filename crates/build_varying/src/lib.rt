@@ -3,6 +3,7 @@ ghost use mathlib.Core.Path.{_≡_};
 ghost use Prim.Native.Nat.{_≤_};
 ghost use mathlib.Core.List.{[]};
 ghost use lib.ListN.{length};
+ghost use Rattle.layout.specs.Layout.{wordsLength, numbersLength};
 ghost use Rattle.build_node_row.specs.EdgeColumns.{edgeColumns};
 ghost use Rattle.build_node_row.specs.Tables.{networkOf, EdgeTables, MembershipTables};
 ghost use Rattle.build_append.specs.LpBuilder.{RowsHeld};
@@ -11,30 +12,35 @@ use build_append::Filled;
 use build_append::RowsAdded;
 use build_node_table::NodeRows;
 use build_node_table::NodeRowsAdded;
+use layout::COLUMN_CEILING;
+use layout::EDGE_CEILING;
+use layout::MEMBERSHIP_CEILING;
+use layout::NODE_CEILING;
 use network_record::Counts;
+use pywr::ColumnNumber;
 use pywr::Sentinel;
 
 // The varying rows: of nodes, of aggregates, of virtual storages.
 pub fn add_varying_rows(
     s: &[u8],
     c: Counts,
-    first_in: &[u16; 256],
-    next_in: &[u16; 512],
-    first_out: &[u16; 256],
-    next_out: &[u16; 512],
-    edge_to_col: &[u16; 512],
+    first_in: &[u16; NODE_CEILING],
+    next_in: &[u16; EDGE_CEILING],
+    first_out: &[u16; NODE_CEILING],
+    next_out: &[u16; EDGE_CEILING],
+    edge_to_col: &[u16; EDGE_CEILING],
     edge_columns: usize,
-    first_membership: &[u16; 256],
-    next_membership: &[u16; 2048],
+    first_membership: &[u16; NODE_CEILING],
+    next_membership: &[u16; MEMBERSHIP_CEILING],
     sentinel: Sentinel,
     words: &mut [u16],
     numbers: &mut [f64],
-    columns: &mut [u32; 640],
+    columns: &mut [ColumnNumber; COLUMN_CEILING],
     f: Filled,
 ) -> NodeRowsAdded
     requires { ⌜ EdgeTables (now s) c (now «first_in») (now «next_in») (now «first_out») (now «next_out») (now «edge_to_col»)
         × MembershipTables (now s) c (now «first_membership») (now «next_membership») × («edge_columns» ≡ edgeColumns (now s) c)
-        × (24844 ≤ length (now words)) × (6784 ≤ length (now numbers)) × RowsHeld [] (now words) (now numbers) f ⌝ }
+        × (wordsLength ≤ length (now words)) × (numbersLength ≤ length (now numbers)) × RowsHeld [] (now words) (now numbers) f ⌝ }
     ensures { λ r. ⌜ AfterVarying sentinel (networkOf (now (s .entry)) c) r (now (words .exit)) (now (numbers .exit)) ⌝ }
 {
     let n = build_nodes::create_node_constraints(

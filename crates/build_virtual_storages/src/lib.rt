@@ -5,6 +5,7 @@ ghost use mathlib.Core.Bool.{not};
 ghost use Prim.Native.Nat.{_+_, _*_, _≤_};
 ghost use lib.ListN.{length};
 ghost use lib.Seq.{sets};
+ghost use Rattle.layout.specs.Layout.{columnCeiling, virtualStorageWidth, virtualStoragesMadeAt, wordsLength, numbersLength};
 ghost use Rattle.pywr.specs.Rows.{Element, columnMap, virtualStorageRow};
 ghost use Rattle.pywr.specs.VaryingRows.{freshRow};
 ghost use Rattle.pywr.specs.Written.{flagWord, virtualStorageWords};
@@ -20,25 +21,37 @@ ghost use Rattle.build_virtual_storages.specs.VirtualStorageRows.{virtua
 use build_append::Filled;
 use build_append::RowsAdded;
 use build_join::VariableRow;
+use layout::COLUMN_CEILING;
+use layout::EDGE_CEILING;
+use layout::ELEMENTS_MADE_AT;
+use layout::NODE_CEILING;
+use layout::PERIOD_END_DAY;
+use layout::PERIOD_END_MONTH;
+use layout::PERIOD_FLAG;
+use layout::PERIOD_START_DAY;
+use layout::PERIOD_START_MONTH;
+use layout::VIRTUAL_STORAGE_WIDTH;
+use layout::VIRTUAL_STORAGES_MADE_AT;
 use network_record::Counts;
 use network_virtual_storage::Period;
+use pywr::ColumnNumber;
 use pywr::Sentinel;
 
 // Gathers the row of the virtual storage at `at`: minus factor times node row, part by part.
 fn virtual_storage_row(
     s: &[u8],
     c: Counts,
-    first_in: &[u16; 256],
-    next_in: &[u16; 512],
-    first_out: &[u16; 256],
-    next_out: &[u16; 512],
-    edge_to_col: &[u16; 512],
+    first_in: &[u16; NODE_CEILING],
+    next_in: &[u16; EDGE_CEILING],
+    first_out: &[u16; NODE_CEILING],
+    next_out: &[u16; EDGE_CEILING],
+    edge_to_col: &[u16; EDGE_CEILING],
     at: usize,
-    columns: &mut [u32; 640],
+    columns: &mut [ColumnNumber; COLUMN_CEILING],
     elements: &mut [f64],
 ) -> usize
     requires { ⌜ EdgeTables (now s) c (now «first_in») (now «next_in») (now «first_out») (now «next_out») (now «edge_to_col»)
-        × (checkVirtualStorage (now s) (c .nodes) at ≡ Next (virtualStorageEnd (now s) at)) × (640 ≤ length (now elements)) ⌝ }
+        × (checkVirtualStorage (now s) (c .nodes) at ≡ Next (virtualStorageEnd (now s) at)) × (columnCeiling ≤ length (now elements)) ⌝ }
     ensures { λ r. ⌜ Gathered (virtualStorageRow (columnMap (networkOf (now (s .entry)) c)) (virtualStorageAt (now (s .entry)) at)) (now (columns .exit)) (now (elements .exit)) r ⌝ }
 {
     let parts = network_virtual_storage::part_count(s, at);
@@ -70,26 +83,26 @@ fn virtual_storage_row(
 fn add_virtual_storage_row(
     s: &[u8],
     c: Counts,
-    first_in: &[u16; 256],
-    next_in: &[u16; 512],
-    first_out: &[u16; 256],
-    next_out: &[u16; 512],
-    edge_to_col: &[u16; 512],
+    first_in: &[u16; NODE_CEILING],
+    next_in: &[u16; EDGE_CEILING],
+    first_out: &[u16; NODE_CEILING],
+    next_out: &[u16; EDGE_CEILING],
+    edge_to_col: &[u16; EDGE_CEILING],
     at: usize,
     sentinel: Sentinel,
     words: &mut [u16],
     numbers: &mut [f64],
-    columns: &mut [u32; 640],
+    columns: &mut [ColumnNumber; COLUMN_CEILING],
     f: Filled,
 ) -> VariableRow
     requires { ⌜ EdgeTables (now s) c (now «first_in») (now «next_in») (now «first_out») (now «next_out») (now «edge_to_col»)
         × (checkVirtualStorage (now s) (c .nodes) at ≡ Next (virtualStorageEnd (now s) at))
-        × (24844 ≤ length (now words)) × (6784 ≤ length (now numbers)) × Holding (now words) (now numbers) f ⌝ }
+        × (wordsLength ≤ length (now words)) × (numbersLength ≤ length (now numbers)) × Holding (now words) (now numbers) f ⌝ }
     ensures { λ r. ⌜ ((rows : List (List Element)) → RowsHeld (map (freshRow sentinel) rows) (now (words .entry)) (now (numbers .entry)) f
         → AfterVariableRow sentinel rows (virtualStorageRow (columnMap (networkOf (now (s .entry)) c)) (virtualStorageAt (now (s .entry)) at))
         (now (words .entry)) r (now (words .exit)) (now (numbers .exit))) ⌝ }
 {
-    let from = 2048 + f.elements;
+    let from = ELEMENTS_MADE_AT + f.elements;
     let n = virtual_storage_row(
         s,
         c,
@@ -124,36 +137,36 @@ fn date_word(date: u8) -> u16
 
 // Writes a virtual storage's entry from `at` on: its row, then its period.
 fn put_virtual_storage(words: &mut [u16], at: usize, row: u16, period: Period)
-    requires { ⌜ at + 6 ≤ length (now words) ⌝ }
+    requires { ⌜ at + virtualStorageWidth ≤ length (now words) ⌝ }
     ensures { λ _. ⌜ now (words .exit) ≡ sets (now (words .entry)) at (virtualStorageWords (record { row = row; period = periodOf period })) ⌝ }
 {
     words[at] = row;
-    words[at + 1] = period_word(period.always);
-    words[at + 2] = date_word(period.start_month);
-    words[at + 3] = date_word(period.start_day);
-    words[at + 4] = date_word(period.end_month);
-    words[at + 5] = date_word(period.end_day);
+    words[at + PERIOD_FLAG] = period_word(period.always);
+    words[at + PERIOD_START_MONTH] = date_word(period.start_month);
+    words[at + PERIOD_START_DAY] = date_word(period.start_day);
+    words[at + PERIOD_END_MONTH] = date_word(period.end_month);
+    words[at + PERIOD_END_DAY] = date_word(period.end_day);
 }
 
-// Each virtual storage asks for its row; the row's number and the period are written to the virtual storages' table, from word 24,652 on.
+// Each virtual storage asks for its row; the row's number and the period are written to the virtual storages' table.
 pub fn create_virtual_storage_constraints(
     s: &[u8],
     c: Counts,
-    first_in: &[u16; 256],
-    next_in: &[u16; 512],
-    first_out: &[u16; 256],
-    next_out: &[u16; 512],
-    edge_to_col: &[u16; 512],
+    first_in: &[u16; NODE_CEILING],
+    next_in: &[u16; EDGE_CEILING],
+    first_out: &[u16; NODE_CEILING],
+    next_out: &[u16; EDGE_CEILING],
+    edge_to_col: &[u16; EDGE_CEILING],
     sentinel: Sentinel,
     words: &mut [u16],
     numbers: &mut [f64],
-    columns: &mut [u32; 640],
+    columns: &mut [ColumnNumber; COLUMN_CEILING],
     f: Filled,
 ) -> RowsAdded
     requires { ⌜ EdgeTables (now s) c (now «first_in») (now «next_in») (now «first_out») (now «next_out») (now «edge_to_col»)
-        × (24844 ≤ length (now words)) × (6784 ≤ length (now numbers)) × HoldingVarying sentinel (now words) (now numbers) f ⌝ }
+        × (wordsLength ≤ length (now words)) × (numbersLength ≤ length (now numbers)) × HoldingVarying sentinel (now words) (now numbers) f ⌝ }
     ensures { λ r. ⌜ ((rows : List (List Element)) → RowsHeld (map (freshRow sentinel) rows) (now (words .entry)) (now (numbers .entry)) f
-        → AfterVariableRows sentinel rows (virtualStorageRows (networkOf (now (s .entry)) c)) 24652 (6 * c .«virtual_storages») (virtualStorageTable (networkOf (now (s .entry)) c))
+        → AfterVariableRows sentinel rows (virtualStorageRows (networkOf (now (s .entry)) c)) virtualStoragesMadeAt (virtualStorageWidth * c .«virtual_storages») (virtualStorageTable (networkOf (now (s .entry)) c))
         (now (words .entry)) r (now (words .exit)) (now (numbers .exit))) ⌝ }
 {
     let mut at = c.virtual_storages_at;
@@ -181,7 +194,12 @@ pub fn create_virtual_storage_constraints(
             }
             VariableRow::At(row, more) => {
                 let period = network_virtual_storage::active_period(s, at);
-                put_virtual_storage(words, 24652 + 6 * i, build_join::row_word(row), period);
+                put_virtual_storage(
+                    words,
+                    VIRTUAL_STORAGES_MADE_AT + VIRTUAL_STORAGE_WIDTH * i,
+                    build_join::row_word(row),
+                    period,
+                );
                 filled = more;
                 at = network_virtual_storage::virtual_storage_end(s, at);
                 i += 1;

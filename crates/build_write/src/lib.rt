@@ -1,10 +1,30 @@
 // An assembled programme written from the work runs into the store's runs (LpBuilder::build of builder.rs).
 ghost use mathlib.Core.Path.{_≡_};
-ghost use Prim.Native.Nat.{ℕ, _+_, _*_, _≤_};
+ghost use Prim.Native.Nat.{ℕ, _≤_};
 ghost use lib.ListN.{length};
 ghost use lib.Seq.{sets};
+ghost use Rattle.layout.specs.Layout.{columnCeiling, rowCeiling, elementCeiling, rowStartsLength, shapeLength, wordsLength, elementsMadeAt, numbersLength};
 ghost use Rattle.laws.specs.Part.{part};
 ghost use Rattle.build_write.specs.Lp.{Few, RowStarts, ColumnsWritten, RowsWritten, MatrixWritten, shapeWritten};
+use layout::AGGREGATES_AT;
+use layout::AGGREGATES_MADE_AT;
+use layout::COUNTS_LENGTH;
+use layout::EDGE_WIDTH;
+use layout::EDGES_AT;
+use layout::EDGES_MADE_AT;
+use layout::ELEMENTS_MADE_AT;
+use layout::NODE_ROW_WIDTH;
+use layout::NODE_ROWS_AT;
+use layout::NODE_ROWS_MADE_AT;
+use layout::NODE_WIDTH;
+use layout::NODES_AT;
+use layout::NODES_MADE_AT;
+use layout::SHAPE_MADE_AT;
+use layout::STARTS_MADE_AT;
+use layout::UPPERS_MADE_AT;
+use layout::VIRTUAL_STORAGE_WIDTH;
+use layout::VIRTUAL_STORAGES_AT;
+use layout::VIRTUAL_STORAGES_MADE_AT;
 use pywr::Sentinel;
 
 // How much an assembled programme holds.
@@ -28,7 +48,7 @@ pub fn write_columns(
     col_upper: &mut [f64],
     col_obj_coef: &mut [f64],
 )
-    requires { ⌜ Few z × (640 ≤ length (now «col_lower»)) × (640 ≤ length (now «col_upper»)) × (640 ≤ length (now «col_obj_coef»)) ⌝ }
+    requires { ⌜ Few z × (columnCeiling ≤ length (now «col_lower»)) × (columnCeiling ≤ length (now «col_upper»)) × (columnCeiling ≤ length (now «col_obj_coef»)) ⌝ }
     ensures { λ _. ⌜ ColumnsWritten sentinel z (now («col_lower» .entry)) (now («col_upper» .entry)) (now («col_obj_coef» .entry))
         (now («col_lower» .exit)) (now («col_upper» .exit)) (now («col_obj_coef» .exit)) ⌝ }
 {
@@ -42,12 +62,12 @@ pub fn write_columns(
 
 // Row bounds.
 pub fn write_rows(z: Sizes, numbers: &[f64], row_lower: &mut [f64], row_upper: &mut [f64])
-    requires { ⌜ Few z × (6784 ≤ length (now numbers)) × (1024 ≤ length (now «row_lower»)) × (1024 ≤ length (now «row_upper»)) ⌝ }
+    requires { ⌜ Few z × (numbersLength ≤ length (now numbers)) × (rowCeiling ≤ length (now «row_lower»)) × (rowCeiling ≤ length (now «row_upper»)) ⌝ }
     ensures { λ _. ⌜ RowsWritten z (now (numbers .entry)) (now («row_lower» .entry)) (now («row_upper» .entry)) (now («row_lower» .exit)) (now («row_upper» .exit)) ⌝ }
 {
     let k = z.rows;
     runs::copy_f64(row_lower, 0, numbers, 0, k);
-    runs::copy_f64(row_upper, 0, numbers, 1024, k);
+    runs::copy_f64(row_upper, 0, numbers, UPPERS_MADE_AT, k);
 }
 
 // One row's elements, written at the front of the run lent.
@@ -60,15 +80,15 @@ fn write_row(elements: &mut [f64], row: &[f64])
 
 // The elements row by row: each row is written into the element run from its start.
 fn write_elements(z: Sizes, words: &[u16], numbers: &[f64], elements: &mut [f64])
-    requires { ⌜ Few z × RowStarts z (now words) × (24844 ≤ length (now words)) × (6784 ≤ length (now numbers)) × (4096 ≤ length (now elements)) ⌝ }
-    ensures { λ _. ⌜ now (elements .exit) ≡ sets (now (elements .entry)) 0 (part 2048 (z .elements) (now (numbers .entry))) ⌝ }
+    requires { ⌜ Few z × RowStarts z (now words) × (wordsLength ≤ length (now words)) × (numbersLength ≤ length (now numbers)) × (elementCeiling ≤ length (now elements)) ⌝ }
+    ensures { λ _. ⌜ now (elements .exit) ≡ sets (now (elements .entry)) 0 (part elementsMadeAt (z .elements) (now (numbers .entry))) ⌝ }
 {
     let rows = z.rows;
     let mut r: usize = 0;
     while r < rows {
-        let start = fields::wide16(words[4096 + r]);
-        let end = fields::wide16(words[4096 + r + 1]);
-        let row = &numbers[2048 + start..2048 + end];
+        let start = fields::wide16(words[STARTS_MADE_AT + r]);
+        let end = fields::wide16(words[STARTS_MADE_AT + r + 1]);
+        let row = &numbers[ELEMENTS_MADE_AT + start..ELEMENTS_MADE_AT + end];
         write_row(&mut elements[start..], row);
         r += 1;
     }
@@ -83,8 +103,8 @@ pub fn write_matrix(
     columns: &mut [u16],
     row_starts: &mut [u32],
 )
-    requires { ⌜ Few z × RowStarts z (now words) × (24844 ≤ length (now words)) × (6784 ≤ length (now numbers))
-        × (4096 ≤ length (now elements)) × (4096 ≤ length (now columns)) × (1025 ≤ length (now «row_starts»)) ⌝ }
+    requires { ⌜ Few z × RowStarts z (now words) × (wordsLength ≤ length (now words)) × (numbersLength ≤ length (now numbers))
+        × (elementCeiling ≤ length (now elements)) × (elementCeiling ≤ length (now columns)) × (rowStartsLength ≤ length (now «row_starts»)) ⌝ }
     ensures { λ _. ⌜ MatrixWritten z (now (words .entry)) (now (numbers .entry)) (now (elements .entry)) (now (columns .entry)) (now («row_starts» .entry))
         (now (elements .exit)) (now (columns .exit)) (now («row_starts» .exit)) ⌝ }
 {
@@ -92,18 +112,36 @@ pub fn write_matrix(
     let n = z.rows + 1;
     write_elements(z, words, numbers, elements);
     runs::copy_u16(columns, 0, words, 0, k);
-    runs::widen_u16(row_starts, 0, words, 4096, n);
+    runs::widen_u16(row_starts, 0, words, STARTS_MADE_AT, n);
 }
 
 // The shape run: counts and tables.
 pub fn write_shape(z: Sizes, words: &[u16], shape: &mut [u16])
-    requires { ⌜ Few z × (24844 ≤ length (now words)) × (19723 ≤ length (now shape)) ⌝ }
+    requires { ⌜ Few z × (wordsLength ≤ length (now words)) × (shapeLength ≤ length (now shape)) ⌝ }
     ensures { λ _. ⌜ now (shape .exit) ≡ shapeWritten z (now (words .entry)) (now (shape .entry)) ⌝ }
 {
-    runs::copy_u16(shape, 0, words, 5121, 11);
-    runs::copy_u16(shape, 11, words, 5132, 2 * z.nodes);
-    runs::copy_u16(shape, 523, words, 5644, 3 * z.edges);
-    runs::copy_u16(shape, 2059, words, 7180, 4 * z.node_rows);
-    runs::copy_u16(shape, 19467, words, 24588, z.aggregates);
-    runs::copy_u16(shape, 19531, words, 24652, 6 * z.virtual_storages);
+    runs::copy_u16(shape, 0, words, SHAPE_MADE_AT, COUNTS_LENGTH);
+    runs::copy_u16(shape, NODES_AT, words, NODES_MADE_AT, NODE_WIDTH * z.nodes);
+    runs::copy_u16(shape, EDGES_AT, words, EDGES_MADE_AT, EDGE_WIDTH * z.edges);
+    runs::copy_u16(
+        shape,
+        NODE_ROWS_AT,
+        words,
+        NODE_ROWS_MADE_AT,
+        NODE_ROW_WIDTH * z.node_rows,
+    );
+    runs::copy_u16(
+        shape,
+        AGGREGATES_AT,
+        words,
+        AGGREGATES_MADE_AT,
+        z.aggregates,
+    );
+    runs::copy_u16(
+        shape,
+        VIRTUAL_STORAGES_AT,
+        words,
+        VIRTUAL_STORAGES_MADE_AT,
+        VIRTUAL_STORAGE_WIDTH * z.virtual_storages,
+    );
 }

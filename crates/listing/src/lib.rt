@@ -2,6 +2,8 @@
 // What stands in each line is proved, in `listing_lines` and `stored_lines`; the functions here answer how many bytes the text has that they hand to
 // standard output. That the bytes go out is not stated: output is outside the logic. Where a write fails the answer says so, the rest is not
 // written, and errno says why.
+use layout::EDGE_COLUMN_COUNT_AT;
+use layout::SET_COUNT_AT;
 use listing_rows::Listed;
 use listing_rows::least;
 use listing_rows::list_rows;
@@ -10,11 +12,10 @@ use listing_rows::write_out;
 use listing_stored::put_counts;
 use listing_stored::put_stored_column;
 use listing_stored::word;
-use store_shape::EDGE_COLUMN_COUNT;
-use store_shape::SET_COUNT;
 ghost use mathlib.Core.Path.{_≡_};
 ghost use Prim.Native.Nat.{_+_, _<_, _≤_, _^_, min};
-ghost use lib.ListN.{length, getD};
+ghost use lib.ListN.{length};
+ghost use Rattle.layout.specs.Layout.{edgeColumnsIn, setsIn};
 ghost use Rattle.pywr.specs.Store.{Store};
 ghost use Rattle.listing_fields.specs.Fields.{PutWithin};
 ghost use Rattle.listing_lines.specs.Lines.{refusalLine, stepLine};
@@ -28,10 +29,10 @@ pub struct Output {
 
 // How many columns are listed of a store whose runs have these lengths.
 fn listed_columns(shape: &[u16], lower: usize, upper: usize, cost: usize) -> usize
-    ensures { λ r. ⌜ (r ≡ min (min (getD (now (shape .entry)) 3 0 + getD (now (shape .entry)) 4 0) lower) (min upper cost))
+    ensures { λ r. ⌜ (r ≡ min (min (edgeColumnsIn (now (shape .entry)) + setsIn (now (shape .entry))) lower) (min upper cost))
         × (r ≤ lower) × (r ≤ upper) × (r ≤ cost) × (r < 131072) ⌝ }
 {
-    let columns = word(shape, EDGE_COLUMN_COUNT) + word(shape, SET_COUNT);
+    let columns = word(shape, EDGE_COLUMN_COUNT_AT) + word(shape, SET_COUNT_AT);
     least(least(columns, lower), least(upper, cost))
 }
 

@@ -2,17 +2,18 @@
 // What stands in each line is proved, in `listing_lines` and `stored_lines`, and how many bytes the lines have together, here.
 // That the bytes go out is not stated: output is outside the logic. `written` says whether standard output took all that it was handed so far; where a
 // write failed, nothing more is written, and errno says why.
+use layout::FIXED_COUNT_AT;
+use layout::VARYING_COUNT_AT;
 use listing_stored::put_stored_row;
 use listing_stored::word;
 use store_rows::wide_start;
-use store_shape::FIXED_COUNT;
-use store_shape::VARYING_COUNT;
 use store_shape::wide;
 ghost use mathlib.Core.Path.{_≡_};
 ghost use mathlib.Core.Bool.{false};
 ghost use Prim.Native.Nat.{_+_, _-_, _*_, _<_, _≤_, _^_, min};
 ghost use lib.ListN.{length, getD};
 ghost use lib.Seq.{slice};
+ghost use Rattle.layout.specs.Layout.{varyingIn, fixedIn};
 ghost use Rattle.pywr.specs.Store.{Store, elementsOf};
 ghost use Rattle.listing_rows.specs.Rows.{lineAt, elementsText, rowLines, rowsText, listedRows};
 
@@ -128,13 +129,13 @@ fn list_row(
 
 // How many rows are listed of a store whose runs have these lengths.
 fn listed_rows(shape: &[u16], starts: usize, lower: usize, upper: usize) -> usize
-    ensures { λ r. ⌜ (r ≡ min (min (getD (now (shape .entry)) 5 0 + getD (now (shape .entry)) 6 0) (starts - 1)) (min lower upper))
+    ensures { λ r. ⌜ (r ≡ min (min (varyingIn (now (shape .entry)) + fixedIn (now (shape .entry))) (starts - 1)) (min lower upper))
         × (r ≤ lower) × (r ≤ upper) × (r ≤ starts - 1) × (r < 131072) ⌝ }
 {
     if starts == 0 {
         return 0;
     }
-    let rows = word(shape, VARYING_COUNT) + word(shape, FIXED_COUNT);
+    let rows = word(shape, VARYING_COUNT_AT) + word(shape, FIXED_COUNT_AT);
     least(least(rows, starts - 1), least(lower, upper))
 }
 

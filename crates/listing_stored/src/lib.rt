@@ -1,9 +1,9 @@
 // The lines of what a store holds: its counts, a column, a row.
-use store_shape::EDGE_COLUMN_COUNT;
-use store_shape::ELEMENTS_KEPT;
-use store_shape::FIXED_COUNT;
-use store_shape::SET_COUNT;
-use store_shape::VARYING_COUNT;
+use layout::EDGE_COLUMN_COUNT_AT;
+use layout::ELEMENT_COUNT_AT;
+use layout::FIXED_COUNT_AT;
+use layout::SET_COUNT_AT;
+use layout::VARYING_COUNT_AT;
 use store_shape::wide;
 ghost use mathlib.Core.Path.{_≡_};
 ghost use Prim.Native.Nat.{_+_, _<_, _≤_};
@@ -29,10 +29,10 @@ pub fn put_counts(out: &mut [u8], at: usize, shape: &[u16]) -> usize
     ensures { λ r. ⌜ ((s : Store) → s .shape ≡ now (shape .entry)
         → Put (programmeLine (columnCount s) (rowCount s) (varyingCount s) (elementsKept s)) (now (out .entry)) at (now (out .exit)) r) × (r ≤ at + 128) ⌝ }
 {
-    let columns = word(shape, EDGE_COLUMN_COUNT) + word(shape, SET_COUNT);
-    let varying = word(shape, VARYING_COUNT);
-    let rows = varying + word(shape, FIXED_COUNT);
-    let elements = word(shape, ELEMENTS_KEPT);
+    let columns = word(shape, EDGE_COLUMN_COUNT_AT) + word(shape, SET_COUNT_AT);
+    let varying = word(shape, VARYING_COUNT_AT);
+    let rows = varying + word(shape, FIXED_COUNT_AT);
+    let elements = word(shape, ELEMENT_COUNT_AT);
     listing_lines::put_programme(out, at, columns, rows, varying, elements)
 }
 
@@ -51,7 +51,7 @@ pub fn put_stored_column(
         → s .colObjCoef ≡ now («col_obj_coef» .entry) → s .shape ≡ now (shape .entry)
         → Put (columnText s c) (now (out .entry)) at (now (out .exit)) r) × (r ≤ at + 128) ⌝ }
 {
-    let integer = word(shape, EDGE_COLUMN_COUNT) <= c;
+    let integer = word(shape, EDGE_COLUMN_COUNT_AT) <= c;
     listing_lines::put_column(
         out,
         at,
@@ -77,7 +77,7 @@ pub fn put_stored_row(
     ensures { λ r. ⌜ ((s : Store) → s .rowLower ≡ now («row_lower» .entry) → s .rowUpper ≡ now («row_upper» .entry) → s .shape ≡ now (shape .entry)
         → Put (rowText s row elements) (now (out .entry)) at (now (out .exit)) r) × (r ≤ at + 128) ⌝ }
 {
-    let varying = row < word(shape, VARYING_COUNT);
+    let varying = row < word(shape, VARYING_COUNT_AT);
     listing_lines::put_row(
         out,
         at,

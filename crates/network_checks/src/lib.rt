@@ -2,20 +2,26 @@
 ghost use mathlib.Core.Path.{_≡_};
 ghost use mathlib.Core.Bool.{true, false, not, _&&_, _||_};
 ghost use mathlib.Core.List.{map};
-ghost use Prim.Native.Nat.{ℕ, _+_, _*_, _<_, _≤_};
+ghost use Prim.Native.Nat.{ℕ, _+_, _<_, _≤_};
 ghost use lib.ListN.{length, getD};
 ghost use lib.Dec.{eqb};
 ghost use lib.Ieee.{inf, lt, eq};
+ghost use Rattle.layout.specs.Layout.{nodeCeiling, edgeCeiling};
 ghost use Rattle.pywr.specs.Network.{link, source, target, incoming, outgoing, isExclusive};
 ghost use Rattle.pywr.specs.NetworkFile.{firstRefused, isEmpty, unconnectedLink, badConstant, checkNetwork};
 ghost use Rattle.fields.specs.Records.{recordsAt, recordsEnd};
-ghost use Rattle.network_node.specs.Node.{nodeAt};
+ghost use Rattle.network_node.specs.Node.{nodeAt, nodeLength, nodePlace};
+ghost use Rattle.network_edge.specs.Edge.{edgePlace};
 ghost use Rattle.network_aggregate.specs.AggregatedNode.{setAt, aggregateAt, aggregateEnd};
 ghost use Rattle.network_laws.specs.NetworkAt.{nodesAt, edgesAt};
 ghost use Rattle.network_laws.specs.Passed.{NodePassed, EdgePassed, SetPassed, AggregatePassed};
 ghost use Rattle.network_record.specs.Counts.{networkOf, SectionsOf};
 ghost use Rattle.network_checks.specs.Marks.{markAll, markSets, markExclusive, MarkedBy};
 ghost use Rattle.network_checks.specs.Refusal.{foundBy, resultWith};
+use layout::NODE_CEILING;
+use network_aggregate::SETS_OFFSET;
+use network_edge::EDGE_LENGTH;
+use network_node::NODE_LENGTH;
 use network_record::Counts;
 use pywr::EdgeIndex;
 use pywr::NodeIndex;
@@ -27,8 +33,14 @@ pub enum Refusal {
 }
 
 // Marks in `into` the node that each edge goes to, and in `out` the node that it comes from.
-fn mark_ends(s: &[u8], n: usize, e: usize, into: &mut [bool; 256], out: &mut [bool; 256])
-    requires { ⌜ (n ≤ 256) × (e ≤ 512) × ((j : ℕ) → j < e → EdgePassed (now s) n (20 * n + 6 * j)) ⌝ }
+fn mark_ends(
+    s: &[u8],
+    n: usize,
+    e: usize,
+    into: &mut [bool; NODE_CEILING],
+    out: &mut [bool; NODE_CEILING],
+)
+    requires { ⌜ (n ≤ nodeCeiling) × (e ≤ edgeCeiling) × ((j : ℕ) → j < e → EdgePassed (now s) n (edgePlace n j)) ⌝ }
     ensures { λ _. ⌜ (now (into .exit) ≡ markAll (map target (edgesAt (now (s .entry)) n e)) (now (into .entry)))
         × (now (out .exit) ≡ markAll (map source (edgesAt (now (s .entry)) n e)) (now (out .entry))) ⌝ }
 {
@@ -46,9 +58,14 @@ fn mark_ends(s: &[u8], n: usize, e: usize, into: &mut [bool; 256], out: &mut [bo
 }
 
 // 8 of node i: a link that no edge goes to, or that none comes from.
-fn is_unconnected(s: &[u8], i: NodeIndex, into: &[bool; 256], out: &[bool; 256]) -> bool
-    requires { ⌜ (i .0 < 256) × (20 * i .0 + 20 ≤ length (now s)) ⌝ }
-    ensures { λ r. ⌜ r ≡ (eqb (nodeAt (now (s .entry)) (20 * i .0) .kind) link && (not (getD (now (into .entry)) (i .0) false) || not (getD (now (out .entry)) (i .0) false))) ⌝ }
+fn is_unconnected(
+    s: &[u8],
+    i: NodeIndex,
+    into: &[bool; NODE_CEILING],
+    out: &[bool; NODE_CEILING],
+) -> bool
+    requires { ⌜ (i .0 < nodeCeiling) × (nodePlace (i .0) + nodeLength ≤ length (now s)) ⌝ }
+    ensures { λ r. ⌜ r ≡ (eqb (nodeAt (now (s .entry)) (nodePlace (i .0)) .kind) link && (not (getD (now (into .entry)) (i .0) false) || not (getD (now (out .entry)) (i .0) false))) ⌝ }
 {
     let k = fields::wide16(i.0);
     if network_node::kind(s, i) == 2 {
@@ -64,8 +81,13 @@ fn is_unconnected(s: &[u8], i: NodeIndex, into: &[bool; 256], out: &[bool; 256])
 }
 
 // The first node that 8 refuses.
-fn first_unconnected(s: &[u8], c: Counts, into: &[bool; 256], out: &[bool; 256]) -> Refusal
-    requires { ⌜ (c .nodes ≤ 256) × (20 * c .nodes ≤ length (now s))
+fn first_unconnected(
+    s: &[u8],
+    c: Counts,
+    into: &[bool; NODE_CEILING],
+    out: &[bool; NODE_CEILING],
+) -> Refusal
+    requires { ⌜ (c .nodes ≤ nodeCeiling) × (nodePlace (c .nodes) ≤ length (now s))
         × MarkedBy (λ i. not (isEmpty (incoming (networkOf (now s) c) i))) (c .nodes) (now into)
         × MarkedBy (λ i. not (isEmpty (outgoing (networkOf (now s) c) i))) (c .nodes) (now out) ⌝ }
     ensures { λ r. ⌜ foundBy r ≡ firstRefused (unconnectedLink (networkOf (now (s .entry)) c)) 0 (nodesAt (now (s .entry)) (c .nodes)) ⌝ }
@@ -85,15 +107,15 @@ fn check_links(s: &[u8], c: Counts) -> Refusal
     requires { ⌜ SectionsOf (now s) c ⌝ }
     ensures { λ r. ⌜ foundBy r ≡ firstRefused (unconnectedLink (networkOf (now (s .entry)) c)) 0 (nodesAt (now (s .entry)) (c .nodes)) ⌝ }
 {
-    let mut into = [false; 256];
-    let mut out = [false; 256];
+    let mut into = [false; NODE_CEILING];
+    let mut out = [false; NODE_CEILING];
     mark_ends(s, c.nodes, c.edges, &mut into, &mut out);
     first_unconnected(s, c, &into, &out)
 }
 
 // Marks the nodes of the set at `at`.
-fn mark_set(s: &[u8], at: usize, marks: &mut [bool; 256])
-    requires { ⌜ SetPassed (now s) 256 at ⌝ }
+fn mark_set(s: &[u8], at: usize, marks: &mut [bool; NODE_CEILING])
+    requires { ⌜ SetPassed (now s) nodeCeiling at ⌝ }
     ensures { λ _. ⌜ now (marks .exit) ≡ markAll (setAt (now (s .entry)) at) (now (marks .entry)) ⌝ }
 {
     let size = network_aggregate::set_size(s, at);
@@ -107,12 +129,12 @@ fn mark_set(s: &[u8], at: usize, marks: &mut [bool; 256])
 }
 
 // Marks the nodes of every set of the aggregate at `at`, and answers where the aggregate ends.
-fn mark_sets(s: &[u8], at: usize, marks: &mut [bool; 256]) -> usize
-    requires { ⌜ AggregatePassed (now s) 256 at ⌝ }
+fn mark_sets(s: &[u8], at: usize, marks: &mut [bool; NODE_CEILING]) -> usize
+    requires { ⌜ AggregatePassed (now s) nodeCeiling at ⌝ }
     ensures { λ r. ⌜ (r ≡ aggregateEnd (now (s .entry)) at) × (now (marks .exit) ≡ markSets (aggregateAt (now (s .entry)) at .sets) (now (marks .entry))) ⌝ }
 {
     let count = network_aggregate::set_count(s, at);
-    let mut here = at + 12;
+    let mut here = at + SETS_OFFSET;
     let mut i: usize = 0;
     while i < count {
         mark_set(s, here, marks);
@@ -123,8 +145,8 @@ fn mark_sets(s: &[u8], at: usize, marks: &mut [bool; 256]) -> usize
 }
 
 // Marks the nodes that an exclusive aggregate lists; the a aggregates start at `start`.
-fn mark_exclusive(s: &[u8], start: usize, a: usize, marks: &mut [bool; 256])
-    requires { ⌜ (start ≤ length (now s)) × ((k : ℕ) → k < a → AggregatePassed (now s) 256 (recordsEnd (aggregateEnd (now s)) k start)) ⌝ }
+fn mark_exclusive(s: &[u8], start: usize, a: usize, marks: &mut [bool; NODE_CEILING])
+    requires { ⌜ (start ≤ length (now s)) × ((k : ℕ) → k < a → AggregatePassed (now s) nodeCeiling (recordsEnd (aggregateEnd (now s)) k start)) ⌝ }
     ensures { λ _. ⌜ now (marks .exit) ≡ markExclusive (recordsAt (aggregateAt (now (s .entry))) (aggregateEnd (now (s .entry))) a start) (now (marks .entry)) ⌝ }
 {
     let mut at = start;
@@ -142,8 +164,8 @@ fn mark_exclusive(s: &[u8], start: usize, a: usize, marks: &mut [bool; 256])
 
 // 9 of node i: a constant's min over its max.
 fn is_crossed(s: &[u8], i: NodeIndex) -> bool
-    requires { ⌜ NodePassed (now s) (20 * i .0) ⌝ }
-    ensures { λ r. ⌜ r ≡ (nodeAt (now (s .entry)) (20 * i .0) .constant && lt (nodeAt (now (s .entry)) (20 * i .0) .max) (nodeAt (now (s .entry)) (20 * i .0) .min)) ⌝ }
+    requires { ⌜ NodePassed (now s) (nodePlace (i .0)) ⌝ }
+    ensures { λ r. ⌜ r ≡ (nodeAt (now (s .entry)) (nodePlace (i .0)) .constant && lt (nodeAt (now (s .entry)) (nodePlace (i .0)) .max) (nodeAt (now (s .entry)) (nodePlace (i .0)) .min)) ⌝ }
 {
     if network_node::is_constant(s, i) {
         let max = network_node::max(s, i);
@@ -154,10 +176,10 @@ fn is_crossed(s: &[u8], i: NodeIndex) -> bool
 }
 
 // 10 of node i: an exclusive constant's max −infinity or min +infinity.
-fn is_unbounded(s: &[u8], i: NodeIndex, exclusive: &[bool; 256]) -> bool
-    requires { ⌜ (i .0 < 256) × NodePassed (now s) (20 * i .0) ⌝ }
-    ensures { λ r. ⌜ r ≡ (nodeAt (now (s .entry)) (20 * i .0) .constant && getD (now (exclusive .entry)) (i .0) false
-        && (eq (nodeAt (now (s .entry)) (20 * i .0) .max) (inf true) || eq (nodeAt (now (s .entry)) (20 * i .0) .min) (inf false))) ⌝ }
+fn is_unbounded(s: &[u8], i: NodeIndex, exclusive: &[bool; NODE_CEILING]) -> bool
+    requires { ⌜ (i .0 < nodeCeiling) × NodePassed (now s) (nodePlace (i .0)) ⌝ }
+    ensures { λ r. ⌜ r ≡ (nodeAt (now (s .entry)) (nodePlace (i .0)) .constant && getD (now (exclusive .entry)) (i .0) false
+        && (eq (nodeAt (now (s .entry)) (nodePlace (i .0)) .max) (inf true) || eq (nodeAt (now (s .entry)) (nodePlace (i .0)) .min) (inf false))) ⌝ }
 {
     let k = fields::wide16(i.0);
     if network_node::is_constant(s, i) {
@@ -173,8 +195,8 @@ fn is_unbounded(s: &[u8], i: NodeIndex, exclusive: &[bool; 256]) -> bool
 }
 
 // The first node that 9 or 10 refuses.
-fn first_bad_constant(s: &[u8], c: Counts, exclusive: &[bool; 256]) -> Refusal
-    requires { ⌜ (c .nodes ≤ 256) × ((i : ℕ) → i < c .nodes → NodePassed (now s) (20 * i))
+fn first_bad_constant(s: &[u8], c: Counts, exclusive: &[bool; NODE_CEILING]) -> Refusal
+    requires { ⌜ (c .nodes ≤ nodeCeiling) × ((i : ℕ) → i < c .nodes → NodePassed (now s) (nodePlace i))
         × MarkedBy (isExclusive (networkOf (now s) c .aggregates)) (c .nodes) (now exclusive) ⌝ }
     ensures { λ r. ⌜ foundBy r ≡ firstRefused (badConstant (networkOf (now (s .entry)) c)) 0 (nodesAt (now (s .entry)) (c .nodes)) ⌝ }
 {
@@ -197,8 +219,13 @@ fn check_constants(s: &[u8], c: Counts) -> Refusal
     requires { ⌜ SectionsOf (now s) c ⌝ }
     ensures { λ r. ⌜ foundBy r ≡ firstRefused (badConstant (networkOf (now (s .entry)) c)) 0 (nodesAt (now (s .entry)) (c .nodes)) ⌝ }
 {
-    let mut exclusive = [false; 256];
-    mark_exclusive(s, 20 * c.nodes + 6 * c.edges, c.aggregates, &mut exclusive);
+    let mut exclusive = [false; NODE_CEILING];
+    mark_exclusive(
+        s,
+        NODE_LENGTH * c.nodes + EDGE_LENGTH * c.edges,
+        c.aggregates,
+        &mut exclusive,
+    );
     first_bad_constant(s, c, &exclusive)
 }
 

@@ -1,24 +1,24 @@
--- The network of a file, each record read where it stands and nothing tested: node i at 20 i, edge j at 20 n + 6 j, the aggregates behind the edges,
--- the virtual storages behind the aggregates. Assumes nothing.
-use Prim.Native.Nat.{ℕ, _+_, _*_}
+-- The network of a file, each record read where it stands and nothing tested: the aggregates behind the edges, the virtual storages behind
+-- the aggregates. Assumes nothing.
+use Prim.Native.Nat.{ℕ, _+_}
 use mathlib.Core.List.{List}
 use Rattle.pywr.specs.Network.{Node, Edge, Network}
 use Rattle.fields.specs.Records.{recordsAt, recordsEnd}
-use Rattle.network_node.specs.Node.{nodeAt}
-use Rattle.network_edge.specs.Edge.{edgeAt}
+use Rattle.network_node.specs.Node.{nodeAt, nodeLength, nodePlace}
+use Rattle.network_edge.specs.Edge.{edgeAt, edgeLength, edgePlace}
 use Rattle.network_aggregate.specs.AggregatedNode.{aggregateAt, aggregateEnd}
 use Rattle.network_virtual_storage.specs.VirtualStorage.{virtualStorageAt, virtualStorageEnd}
 
 module _ (file : List ℕ) where
   abbrev pub nodesAt : ℕ → List Node
-  nodesAt n = recordsAt (nodeAt file) (λ at. at + 20) n 0
+  nodesAt n = recordsAt (nodeAt file) (λ at. at + nodeLength) n 0
 
   abbrev pub edgesAt : ℕ → ℕ → List Edge
-  edgesAt n e = recordsAt (edgeAt file) (λ at. at + 6) e (20 * n)
+  edgesAt n e = recordsAt (edgeAt file) (λ at. at + edgeLength) e (nodePlace n)
 
   -- where aggregate k starts
   abbrev pub aggregateStart : ℕ → ℕ → ℕ → ℕ
-  aggregateStart n e k = recordsEnd (aggregateEnd file) k (20 * n + 6 * e)
+  aggregateStart n e k = recordsEnd (aggregateEnd file) k (edgePlace n e)
 
   -- where virtual storage k starts
   abbrev pub virtualStorageStart : ℕ → ℕ → ℕ → ℕ → ℕ
@@ -30,6 +30,6 @@ module _ (file : List ℕ) where
       record {
         nodes = nodesAt n;
         edges = edgesAt n e;
-        aggregates = recordsAt (aggregateAt file) (aggregateEnd file) a (20 * n + 6 * e);
+        aggregates = recordsAt (aggregateAt file) (aggregateEnd file) a (edgePlace n e);
         virtualStorages = recordsAt (virtualStorageAt file) (virtualStorageEnd file) v (aggregateStart n e a);
       }

@@ -6,6 +6,7 @@ use mathlib.Core.List.{List}
 use mathlib.Core.Bool.{cond}
 use lib.ListN.{length}
 use lib.Dec.{ltb, eqb}
+use Rattle.layout.specs.Layout.{nodeCeiling, edgeCeiling, aggregateCeiling, virtualStorageCeiling}
 use Rattle.pywr.specs.Bytes.{within, markIs}
 use Rattle.fields.specs.declared.Checked.{Checked}
 use Rattle.network_node.specs.Node.{checkNode}
@@ -28,10 +29,10 @@ module _ (file : List ℕ) (at n e a v : ℕ) where
   -- the record at `at`, whose mark has rank m: 6 where it is one too many, else its check; 2 where the mark is unknown
   unfoldable pub checkRanked : ℕ → Checked
   checkRanked m =
-      cond (eqb m 0) (cond (ltb n 256) (checkNode file at) (Checked.Refused 6 at))
-      (cond (eqb m 1) (cond (ltb e 512) (checkEdge file n e at) (Checked.Refused 6 at))
-      (cond (eqb m 2) (cond (ltb a 64) (checkAggregate file n at) (Checked.Refused 6 at))
-      (cond (eqb m 3) (cond (ltb v 32) (checkVirtualStorage file n at) (Checked.Refused 6 at))
+      cond (eqb m 0) (cond (ltb n nodeCeiling) (checkNode file at) (Checked.Refused 6 at))
+      (cond (eqb m 1) (cond (ltb e edgeCeiling) (checkEdge file n e at) (Checked.Refused 6 at))
+      (cond (eqb m 2) (cond (ltb a aggregateCeiling) (checkAggregate file n at) (Checked.Refused 6 at))
+      (cond (eqb m 3) (cond (ltb v virtualStorageCeiling) (checkVirtualStorage file n at) (Checked.Refused 6 at))
       (Checked.Refused 2 at))))
 
   -- the record at `at`: its mark (1, 2), 6, its check; `stage` is the rank of the record before
@@ -43,8 +44,8 @@ module _ (file : List ℕ) (at n e a v : ℕ) where
 
   -- what holds of a record that passed: it is in order and not one too many, and it ends within the file
   abbrev pub RecordPassed : ℕ → Record → Type 0
-  RecordPassed stage (Record.Node x) = (stage ≤ 0) × (n < 256) × (checkNode file at ≡ Checked.Next x) × (x ≤ length file)
-  RecordPassed stage (Record.Edge x) = (stage ≤ 1) × (e < 512) × (checkEdge file n e at ≡ Checked.Next x) × (x ≤ length file)
-  RecordPassed stage (Record.Aggregate x) = (stage ≤ 2) × (a < 64) × (checkAggregate file n at ≡ Checked.Next x) × (x ≤ length file)
-  RecordPassed stage (Record.VirtualStorage x) = (stage ≤ 3) × (v < 32) × (checkVirtualStorage file n at ≡ Checked.Next x) × (x ≤ length file)
+  RecordPassed stage (Record.Node x) = (stage ≤ 0) × (n < nodeCeiling) × (checkNode file at ≡ Checked.Next x) × (x ≤ length file)
+  RecordPassed stage (Record.Edge x) = (stage ≤ 1) × (e < edgeCeiling) × (checkEdge file n e at ≡ Checked.Next x) × (x ≤ length file)
+  RecordPassed stage (Record.Aggregate x) = (stage ≤ 2) × (a < aggregateCeiling) × (checkAggregate file n at ≡ Checked.Next x) × (x ≤ length file)
+  RecordPassed stage (Record.VirtualStorage x) = (stage ≤ 3) × (v < virtualStorageCeiling) × (checkVirtualStorage file n at ≡ Checked.Next x) × (x ≤ length file)
   RecordPassed stage (Record.Refused k p) = Unit {0}

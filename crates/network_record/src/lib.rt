@@ -1,10 +1,16 @@
 // One record of the network file, behind the records before it: its mark, its count, its check.
 ghost use mathlib.Core.Path.{_≡_};
-ghost use Prim.Native.Nat.{_+_, _*_, _<_, _≤_};
+ghost use Prim.Native.Nat.{_+_, _<_, _≤_};
 ghost use lib.ListN.{length};
+ghost use Rattle.layout.specs.Layout.{nodeCeiling};
 ghost use Rattle.fields.specs.Field.{NextWithin};
+ghost use Rattle.network_edge.specs.Edge.{edgePlace};
 ghost use Rattle.network_record.specs.Record.{markRank, checkRanked, checkRecord, RecordPassed};
 use fields::Checked;
+use layout::AGGREGATE_CEILING;
+use layout::EDGE_CEILING;
+use layout::NODE_CEILING;
+use layout::VIRTUAL_STORAGE_CEILING;
 
 // A record: its kind and where the next one starts, or a refusal's number and place.
 pub enum Record {
@@ -16,7 +22,6 @@ pub enum Record {
 }
 
 // The records of a whole file: how many of each kind, and where the virtual storages start.
-// The edges start at 20 nodes, the aggregates at 20 nodes + 6 edges.
 pub struct Counts {
     pub nodes: usize,
     pub edges: usize,
@@ -59,29 +64,29 @@ fn mark_rank(s: &[u8], at: usize) -> usize
 
 // The record at `at`, whose mark has rank m, behind n nodes, e edges, a aggregates and v virtual storages: 6, or its check.
 fn check_ranked(s: &[u8], at: usize, m: usize, n: usize, e: usize, a: usize, v: usize) -> Checked
-    requires { ⌜ (at + 2 ≤ length (now s)) × (m ≡ 1 → 20 * n + 6 * e ≤ length (now s)) × (n ≤ 256) ⌝ }
+    requires { ⌜ (at + 2 ≤ length (now s)) × (m ≡ 1 → edgePlace n e ≤ length (now s)) × (n ≤ nodeCeiling) ⌝ }
     ensures { λ r. ⌜ (r ≡ checkRanked (now (s .entry)) at n e a v m) × NextWithin r (length (now (s .entry))) ⌝ }
 {
     if m == 0 {
-        if 256 <= n {
+        if NODE_CEILING <= n {
             return Checked::Refused(6, at);
         }
         return network_node::check_node(s, at);
     }
     if m == 1 {
-        if 512 <= e {
+        if EDGE_CEILING <= e {
             return Checked::Refused(6, at);
         }
         return network_edge::check_edge(s, n, e, at);
     }
     if m == 2 {
-        if 64 <= a {
+        if AGGREGATE_CEILING <= a {
             return Checked::Refused(6, at);
         }
         return network_aggregate::check_aggregate(s, n, at);
     }
     if m == 3 {
-        if 32 <= v {
+        if VIRTUAL_STORAGE_CEILING <= v {
             return Checked::Refused(6, at);
         }
         return network_virtual_storage::check_virtual_storage(s, n, at);
@@ -99,7 +104,7 @@ pub fn check_record(
     a: usize,
     v: usize,
 ) -> Record
-    requires { ⌜ (at < length (now s)) × (stage < 2 → 20 * n + 6 * e ≤ at) × (n ≤ 256) ⌝ }
+    requires { ⌜ (at < length (now s)) × (stage < 2 → edgePlace n e ≤ at) × (n ≤ nodeCeiling) ⌝ }
     ensures { λ r. ⌜ (r ≡ checkRecord (now (s .entry)) at n e a v stage) × RecordPassed (now (s .entry)) at n e a v stage r ⌝ }
 {
     if s.len() - at < 2 {

@@ -3,6 +3,7 @@
 use Prim.Native.Nat.{ℕ, _+_, _*_}
 use mathlib.Core.List.{List}
 use lib.Dec.{eqb}
+use Rattle.layout.specs.Layout.{partCeiling}
 use Rattle.pywr.specs.Bytes.{byte, le16, le64}
 use Rattle.pywr.specs.Numbers.{ofPattern}
 use Rattle.pywr.specs.Network.{Part, Period, VirtualStorage}
@@ -11,43 +12,77 @@ use Rattle.fields.specs.Field.{byteField, nodeField, checkFactor, fieldThen, ch
 use Rattle.fields.specs.Records.{recordsAt, checkEach}
 use Rattle.fields.specs.declared.Checked.{Checked}
 
+-- where its fields and its parts stand in it
+abbrev pub periodOffset : ℕ
+periodOffset = 2
+
+abbrev pub startMonthOffset : ℕ
+startMonthOffset = 3
+
+abbrev pub startDayOffset : ℕ
+startDayOffset = 4
+
+abbrev pub endMonthOffset : ℕ
+endMonthOffset = 5
+
+abbrev pub endDayOffset : ℕ
+endDayOffset = 6
+
+abbrev pub partCountOffset : ℕ
+partCountOffset = 7
+
+abbrev pub partsOffset : ℕ
+partsOffset = 8
+
+-- a part: a node, then its factor; part k stands at `partPlace`
+abbrev pub storagePartLength : ℕ
+storagePartLength = 10
+
+abbrev pub factorOffset : ℕ
+factorOffset = 2
+
+abbrev pub partPlace : ℕ → ℕ → ℕ
+partPlace at k = at + partsOffset + storagePartLength * k
+
 module _ (file : List ℕ) where
   abbrev pub partAt : ℕ → Part
-  partAt at = record { node = le16 file at; factor = ofPattern (le64 file (at + 2)) }
+  partAt at = record { node = le16 file at; factor = ofPattern (le64 file (at + factorOffset)) }
 
   abbrev pub periodAt : ℕ → Period
   periodAt at =
       record {
-        always = eqb (byte file (at + 2)) 0;
-        startMonth = byte file (at + 3);
-        startDay = byte file (at + 4);
-        endMonth = byte file (at + 5);
-        endDay = byte file (at + 6);
+        always = eqb (byte file (at + periodOffset)) 0;
+        startMonth = byte file (at + startMonthOffset);
+        startDay = byte file (at + startDayOffset);
+        endMonth = byte file (at + endMonthOffset);
+        endDay = byte file (at + endDayOffset);
       }
 
   abbrev pub virtualStorageAt : ℕ → VirtualStorage
-  virtualStorageAt at = record { period = periodAt at; parts = recordsAt partAt (λ at. at + 10) (byte file (at + 7)) (at + 8) }
+  virtualStorageAt at =
+      record { period = periodAt at; parts = recordsAt partAt (λ at. at + storagePartLength) (byte file (at + partCountOffset)) (at + partsOffset) }
 
   abbrev pub virtualStorageEnd : ℕ → ℕ
-  virtualStorageEnd at = at + 8 + 10 * byte file (at + 7)
+  virtualStorageEnd at = partPlace at (byte file (at + partCountOffset))
 
 -- a part: a node and its factor
 unfoldable pub checkPart : List ℕ → ℕ → ℕ → ℕ → Checked
-checkPart file place nodes at = fieldThen (nodeField file place at nodes) (λ n. checkThen (checkFactor file place (at + 2)) (λ next. Checked.Next (at + 10)))
+checkPart file place nodes at =
+    fieldThen (nodeField file place at nodes) (λ n. checkThen (checkFactor file place (at + factorOffset)) (λ next. Checked.Next (at + storagePartLength)))
 
 -- start month, start day, end month, end day of the record at `at`
 unfoldable pub checkDates : List ℕ → ℕ → ℕ → Checked
 checkDates file at period =
-    fieldThen (byteField file at (at + 3) (leastDate period) (mostDate period 12)) (λ m.
-    fieldThen (byteField file at (at + 4) (leastDate period) (mostDate period 31)) (λ d.
-    fieldThen (byteField file at (at + 5) (leastDate period) (mostDate period 12)) (λ m.
-    fieldThen (byteField file at (at + 6) (leastDate period) (mostDate period 31)) (λ d.
-    Checked.Next (at + 7)))))
+    fieldThen (byteField file at (at + startMonthOffset) (leastDate period) (mostDate period 12)) (λ m.
+    fieldThen (byteField file at (at + startDayOffset) (leastDate period) (mostDate period 31)) (λ d.
+    fieldThen (byteField file at (at + endMonthOffset) (leastDate period) (mostDate period 12)) (λ m.
+    fieldThen (byteField file at (at + endDayOffset) (leastDate period) (mostDate period 31)) (λ d.
+    Checked.Next (at + partCountOffset)))))
 
 -- the record at `at`, its mark apart
 unfoldable pub checkVirtualStorage : List ℕ → ℕ → ℕ → Checked
 checkVirtualStorage file nodes at =
-    fieldThen (byteField file at (at + 2) 0 1) (λ period.
+    fieldThen (byteField file at (at + periodOffset) 0 1) (λ period.
     checkThen (checkDates file at period) (λ next.
-    fieldThen (byteField file at (at + 7) 1 64) (λ n.
-    checkEach (checkPart file at nodes) n (at + 8))))
+    fieldThen (byteField file at (at + partCountOffset) 1 partCeiling) (λ n.
+    checkEach (checkPart file at nodes) n (at + partsOffset))))

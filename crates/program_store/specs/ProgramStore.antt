@@ -5,6 +5,7 @@ use Prim.Native.Nat.{ℕ}
 use mathlib.Core.List.{List}
 use lib.ListN.{replicate}
 use lib.Ieee.{Float}
+use Rattle.layout.specs.Layout.{wordsLength, numbersLength, stepWorkLength}
 use Rattle.pywr.specs.declared.Sentinel.{Sentinel}
 use Rattle.pywr.specs.declared.Answer.{Answer}
 use Rattle.pywr.specs.declared.Answer.the-variants.{Accepted, Refused}
@@ -31,13 +32,13 @@ storeOf r =
     }
 
 abbrev pub words : List ℕ
-words = replicate 24844 0
+words = replicate wordsLength 0
 
 abbrev pub numbers : List Float
-numbers = replicate 6784 zero64
+numbers = replicate numbersLength zero64
 
 abbrev pub work : List Float
-work = replicate 704 zero64
+work = replicate stepWorkLength zero64
 
 -- what a build answers and leaves in the store
 pub record Built (s : Sentinel) (file : List ℕ) (old : Store) (r : Answer) (new : Store) : Type 0 where

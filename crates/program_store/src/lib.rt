@@ -1,4 +1,12 @@
 // The nine runs of a store as one value, for a program that holds one store: the build, the step and the listing over it.
+use layout::COLUMN_CEILING;
+use layout::ELEMENT_CEILING;
+use layout::NUMBERS_LENGTH;
+use layout::ROW_CEILING;
+use layout::ROW_STARTS_LENGTH;
+use layout::SHAPE_LENGTH;
+use layout::STEP_WORK_LENGTH;
+use layout::WORDS_LENGTH;
 use listing::Output;
 use pywr::Answer;
 use pywr::Sentinel;
@@ -9,15 +17,15 @@ ghost use Rattle.listing.specs.Listing.{programmeText};
 ghost use Rattle.program_store.specs.ProgramStore.{storeOf, Built, Stepped, answerText};
 
 pub struct Runs {
-    pub col_lower: [f64; 640],
-    pub col_upper: [f64; 640],
-    pub col_obj_coef: [f64; 640],
-    pub row_lower: [f64; 1024],
-    pub row_upper: [f64; 1024],
-    pub elements: [f64; 4096],
-    pub columns: [u16; 4096],
-    pub row_starts: [u32; 1025],
-    pub shape: [u16; 19723],
+    pub col_lower: [f64; COLUMN_CEILING],
+    pub col_upper: [f64; COLUMN_CEILING],
+    pub col_obj_coef: [f64; COLUMN_CEILING],
+    pub row_lower: [f64; ROW_CEILING],
+    pub row_upper: [f64; ROW_CEILING],
+    pub elements: [f64; ELEMENT_CEILING],
+    pub columns: [u16; ELEMENT_CEILING],
+    pub row_starts: [u32; ROW_STARTS_LENGTH],
+    pub shape: [u16; SHAPE_LENGTH],
 }
 
 // What a call answers, and the store after it.
@@ -30,15 +38,15 @@ pub fn zeros() -> Runs
     ensures { λ r. ⌜ storeOf r ≡ blank ⌝ }
 {
     Runs {
-        col_lower: [0.0f64; 640],
-        col_upper: [0.0f64; 640],
-        col_obj_coef: [0.0f64; 640],
-        row_lower: [0.0f64; 1024],
-        row_upper: [0.0f64; 1024],
-        elements: [0.0f64; 4096],
-        columns: [0u16; 4096],
-        row_starts: [0u32; 1025],
-        shape: [0u16; 19723],
+        col_lower: [0.0f64; COLUMN_CEILING],
+        col_upper: [0.0f64; COLUMN_CEILING],
+        col_obj_coef: [0.0f64; COLUMN_CEILING],
+        row_lower: [0.0f64; ROW_CEILING],
+        row_upper: [0.0f64; ROW_CEILING],
+        elements: [0.0f64; ELEMENT_CEILING],
+        columns: [0u16; ELEMENT_CEILING],
+        row_starts: [0u32; ROW_STARTS_LENGTH],
+        shape: [0u16; SHAPE_LENGTH],
     }
 }
 
@@ -55,8 +63,8 @@ pub fn build(file: &[u8], sentinel: Sentinel, old: Runs) -> Called
     let mut columns = old.columns;
     let mut row_starts = old.row_starts;
     let mut shape = old.shape;
-    let mut words = [0u16; 24844];
-    let mut numbers = [0.0f64; 6784];
+    let mut words = [0u16; WORDS_LENGTH];
+    let mut numbers = [0.0f64; NUMBERS_LENGTH];
     let answer = builder::build(
         file,
         sentinel,
@@ -99,7 +107,7 @@ pub fn step(file: &[u8], old: Runs) -> Called
     let columns = old.columns;
     let row_starts = old.row_starts;
     let shape = old.shape;
-    let mut work = [0.0f64; 704];
+    let mut work = [0.0f64; STEP_WORK_LENGTH];
     let answer = built_solver::step(
         file,
         &col_lower,

@@ -4,6 +4,7 @@ use mathlib.Core.List.{List, [], _∷_, _++_, map}
 use mathlib.Core.Bool.{Bool, true, false, _&&_}
 use lib.ListN.{length, replicate}
 use lib.Dec.{leb}
+use Rattle.layout.specs.Layout.{setCeiling, rowCeiling, elementCeiling}
 use Rattle.pywr.specs.declared.Sentinel.{Sentinel}
 use Rattle.pywr.specs.Result.{Result, _>>=_, need}
 use Rattle.pywr.specs.Numbers.{zero64, one64, high}
@@ -79,9 +80,9 @@ elementCount (r ∷ rs) = length (r .elements) + elementCount rs
 
 unfoldable pub underCeilings : ColumnMap → Programme → Bool
 underCeilings f p =
-    leb (length (f .sets)) 128
-    && leb (length (p .varying) + length (p .fixed)) 1024
-    && leb (elementCount (p .varying) + elementCount (p .fixed)) 4096
+    leb (length (f .sets)) setCeiling
+    && leb (length (p .varying) + length (p .fixed)) rowCeiling
+    && leb (elementCount (p .varying) + elementCount (p .fixed)) elementCeiling
 
 -- a build's answer: the refusals 1 to 10 of the file, then 11 "programme over its ceilings (place 0)"
 unfoldable pub build : Sentinel → List ℕ → Result Built

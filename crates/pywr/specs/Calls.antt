@@ -6,6 +6,7 @@ use mathlib.Core.Bool.{Bool, true, false, cond, _&&_}
 use lib.ListN.{length, replicate}
 use lib.Dec.{leb, ltb}
 use lib.Ieee.{Float}
+use Rattle.layout.specs.Layout.{wordsLength, numbersLength, stepWorkLength}
 use Rattle.pywr.specs.declared.Sentinel.{Sentinel}
 use Rattle.pywr.specs.declared.Answer.{Answer}
 use Rattle.pywr.specs.declared.RowAnswer.{RowAnswer}
@@ -28,13 +29,13 @@ cleared room zero run = cond room (replicate (length run) zero) run
 
 -- ---- build
 
--- The build's work area is a run of u16 and a run of f64: the columns of 4,096 elements, 1,025 row starts and the shape run's 19,723 words;
--- the lower and upper bounds of 1,024 rows, 4,096 elements and 640 more for the row that is being gathered
+-- The build's work area is a run of u16 and a run of f64: the elements' columns, the row starts and the shape run's words;
+-- the lower and upper bounds of the rows, the elements, and as many more as a row may have for the row that is being gathered
 abbrev pub wordsNeeded : ℕ
-wordsNeeded = 24844
+wordsNeeded = wordsLength
 
 abbrev pub numbersNeeded : ℕ
-numbersNeeded = 6784
+numbersNeeded = numbersLength
 
 -- no buffer is short
 unfoldable pub buildRoom : Store → List ℕ → List Float → Bool
@@ -69,9 +70,9 @@ pub record AfterBuild (s : Sentinel) (file : List ℕ) (old : Store) (words : Li
 
 -- ---- step
 
--- the work area is lent as a run of f64, at least 704 long: the lower and the upper of each interval, 2 * (256 + 64 + 32)
+-- the work area is lent as a run of f64: the lower and the upper of each interval of a node, an aggregate or a virtual storage
 abbrev pub workNeeded : ℕ
-workNeeded = 704
+workNeeded = stepWorkLength
 
 unfoldable pub stepRoom : Store → List Float → Bool
 stepRoom store work = storeHasRoom store && leb workNeeded (length work)

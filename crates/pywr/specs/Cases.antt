@@ -8,6 +8,7 @@ use mathlib.Core.Option.{Option, some}
 use lib.ListN.{replicate}
 use lib.IntN.{pos, negsuc}
 use lib.Ieee.{Float, fin, neg}
+use Rattle.layout.specs.Layout.{columnCeiling, rowCeiling, elementCeiling, rowStartsLength, shapeLength, wordsLength, numbersLength, stepWorkLength}
 use Rattle.pywr.specs.declared.Sentinel.the-variants.{Infinity}
 use Rattle.pywr.specs.declared.Interval.{Interval}
 use Rattle.pywr.specs.Result.{value, Result, refused}
@@ -88,22 +89,22 @@ inputToOutputStep min max min′ max′ =
 unfoldable pub blank : Store
 blank =
     record {
-      colLower = replicate 640 zero64;
-      colUpper = replicate 640 zero64;
-      colObjCoef = replicate 640 zero64;
-      rowLower = replicate 1024 zero64;
-      rowUpper = replicate 1024 zero64;
-      elements = replicate 4096 zero64;
-      columns = replicate 4096 0;
-      rowStarts = replicate 1025 0;
-      shape = replicate 19723 0;
+      colLower = replicate columnCeiling zero64;
+      colUpper = replicate columnCeiling zero64;
+      colObjCoef = replicate columnCeiling zero64;
+      rowLower = replicate rowCeiling zero64;
+      rowUpper = replicate rowCeiling zero64;
+      elements = replicate elementCeiling zero64;
+      columns = replicate elementCeiling 0;
+      rowStarts = replicate rowStartsLength 0;
+      shape = replicate shapeLength 0;
     }
 
 unfoldable pub work : List Float
-work = replicate 704 zero64
+work = replicate stepWorkLength zero64
 
 unfoldable pub built : Store
-built = buildStore Infinity inputToOutput blank (replicate 24844 0) (replicate 6784 zero64)
+built = buildStore Infinity inputToOutput blank (replicate wordsLength 0) (replicate numbersLength zero64)
 
 -- the bounds of the one varying row after a step
 unfoldable pub boundsAfter : Store → List ℕ → List Interval

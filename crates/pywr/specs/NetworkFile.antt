@@ -8,6 +8,7 @@ use mathlib.Core.Option.{Option, none, some}
 use lib.ListN.{length}
 use lib.Dec.{leb, ltb, eqb}
 use lib.Ieee.{inf, lt, eq}
+use Rattle.layout.specs.Layout.{nodeCeiling, edgeCeiling, aggregateCeiling, virtualStorageCeiling, aggregateSetCeiling, partCeiling, setSizeCeiling}
 use Rattle.pywr.specs.Result.{value, Result, refused, _>>=_, need}
 use Rattle.pywr.specs.Bytes.{within, markIs, u8, u16, u32, bits64, checked}
 use Rattle.pywr.specs.Numbers.{isFlow, isSmall, ofPattern}
@@ -66,7 +67,7 @@ readMembers file place nodes (suc count) soFar at = do
 unfoldable pub readSets : List ℕ → ℕ → ℕ → ℕ → List (List ℕ) → ℕ → Result (Read (List (List ℕ)))
 readSets file place nodes zero soFar at = value (record { item = soFar; next = at })
 readSets file place nodes (suc count) soFar at = do
-  size ← checked 3 place (between 1 16) (u8 file place 1 at)
+  size ← checked 3 place (between 1 setSizeCeiling) (u8 file place 1 at)
   members ← readMembers file place nodes size [] (at + 1)
   readSets file place nodes count (soFar ++ (members .item ∷ [])) (members .next)
 
@@ -78,7 +79,7 @@ activeFits kind least n = (eqb kind 1 || eqb n 0) && leb least n
 unfoldable pub readAggregate : Network → List ℕ → ℕ → Result (Read Aggregate)
 readAggregate net file at = do
   kind ← checked 3 at (between 0 1) (u8 file at 1 (at + 2))
-  sets ← checked 3 at (between 1 16) (u8 file at 1 (at + 3))
+  sets ← checked 3 at (between 1 aggregateSetCeiling) (u8 file at 1 (at + 3))
   least ← checked 3 at (activeFits kind 0) (u32 file at 1 (at + 4))
   most ← checked 3 at (activeFits kind least) (u32 file at 1 (at + 8))
   read ← readSets file at (length (net .nodes)) sets [] (at + 12)
@@ -110,7 +111,7 @@ readVirtualStorage net file at = do
   startDay ← checked 3 at (dateFits period 31) (u8 file at 1 (at + 4))
   endMonth ← checked 3 at (dateFits period 12) (u8 file at 1 (at + 5))
   endDay ← checked 3 at (dateFits period 31) (u8 file at 1 (at + 6))
-  n ← checked 3 at (between 1 64) (u8 file at 1 (at + 7))
+  n ← checked 3 at (between 1 partCeiling) (u8 file at 1 (at + 7))
   read ← readParts file at (length (net .nodes)) n [] (at + 8)
   value
       (record {
@@ -144,10 +145,10 @@ inOrder place stage (some m) = cond (leb stage (rank m)) (value m) (refused 2 pl
 
 -- "At most 256", "512", "64", "32": 6 where the record would be one more
 unfoldable pub hasRoom : Network → Mark → Bool
-hasRoom net ND = ltb (length (net .nodes)) 256
-hasRoom net ED = ltb (length (net .edges)) 512
-hasRoom net AG = ltb (length (net .aggregates)) 64
-hasRoom net VS = ltb (length (net .virtualStorages)) 32
+hasRoom net ND = ltb (length (net .nodes)) nodeCeiling
+hasRoom net ED = ltb (length (net .edges)) edgeCeiling
+hasRoom net AG = ltb (length (net .aggregates)) aggregateCeiling
+hasRoom net VS = ltb (length (net .virtualStorages)) virtualStorageCeiling
 
 -- the network with one record more
 unfoldable pub withNode : Network → Read Node → Read Network

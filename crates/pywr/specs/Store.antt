@@ -1,12 +1,12 @@
 -- The store: nine lent runs, six of f64, two of u16 and one of u32, and how they hold a programme with what its steps need.
 -- Every table starts at a fixed offset, so that a run's length is that of the ceilings. Assumes nothing.
 --
---   col_lower, col_upper, col_obj_coef   f64, 640 each   column c at c: the edge columns, then the sets' integer columns
---   row_lower, row_upper                 f64, 1,024 each row r at r: the varying rows, then the fixed rows
---   elements                             f64, 4,096      row r's from row_starts[r] up to row_starts[r + 1]
---   columns                              u16, 4,096      the column of each element
---   row_starts                           u32, 1,025      where each row starts, and last the element count
---   shape                                u16, 19,723     the eleven counts below, then the tables
+--   col_lower, col_upper, col_obj_coef   f64   column c at c: the edge columns, then the sets' integer columns
+--   row_lower, row_upper                 f64   row r at r: the varying rows, then the fixed rows
+--   elements                             f64   row r's from row_starts[r] up to row_starts[r + 1]
+--   columns                              u16   the column of each element
+--   row_starts                           u32   where each row starts, and last the element count
+--   shape                                u16   the eleven counts below, then the tables
 use Prim.Native.Nat.{ℕ, zero, suc, _+_}
 use mathlib.Core.List.{List, [], _∷_}
 use mathlib.Core.Bool.{Bool, _&&_}
@@ -14,6 +14,8 @@ use lib.ListN.{length, getD}
 use lib.Seq.{slice}
 use lib.Dec.{leb, eqb}
 use lib.Ieee.{Float}
+use Rattle.layout.specs.Layout.{columnCeiling, rowCeiling, elementCeiling, rowStartsLength, shapeLength, nodeWidth, edgeWidth, nodeRowWidth, aggregateWidth, virtualStorageWidth, sentinelIn, nodesIn, edgesIn, edgeColumnsIn, setsIn, varyingIn, fixedIn, elementsIn, nodeRowsIn, aggregatesIn, virtualStoragesIn, nodeKind, nodeFlag, edgeFrom, edgeTo, mappedColumn, nodeRowNode, nodeRowRow, nodeRowType, nodeRowSet, entryRow, periodFlag, periodStartMonth, periodStartDay, periodEndMonth, periodEndDay}
+pub use Rattle.layout.specs.Layout.{nodesAt, edgesAt, nodeRowsAt, aggregatesAt, virtualStoragesAt}
 use Rattle.pywr.specs.declared.Sentinel.{Sentinel}
 use Rattle.pywr.specs.declared.Sentinel.the-variants.{Infinity, Largest}
 use Rattle.pywr.specs.Numbers.{zero64}
@@ -35,15 +37,15 @@ pub record Store : Type 0 where
 -- 16 "a buffer .. under the length its ceilings need (640 columns)"
 unfoldable pub storeHasRoom : Store → Bool
 storeHasRoom s =
-    leb 640 (length (s .colLower))
-    && leb 640 (length (s .colUpper))
-    && leb 640 (length (s .colObjCoef))
-    && leb 1024 (length (s .rowLower))
-    && leb 1024 (length (s .rowUpper))
-    && leb 4096 (length (s .elements))
-    && leb 4096 (length (s .columns))
-    && leb 1025 (length (s .rowStarts))
-    && leb 19723 (length (s .shape))
+    leb columnCeiling (length (s .colLower))
+    && leb columnCeiling (length (s .colUpper))
+    && leb columnCeiling (length (s .colObjCoef))
+    && leb rowCeiling (length (s .rowLower))
+    && leb rowCeiling (length (s .rowUpper))
+    && leb elementCeiling (length (s .elements))
+    && leb elementCeiling (length (s .columns))
+    && leb rowStartsLength (length (s .rowStarts))
+    && leb shapeLength (length (s .shape))
 
 -- ---- the shape run: counts, then tables
 
@@ -51,60 +53,43 @@ abbrev pub word : Store → ℕ → ℕ
 word s at = getD (s .shape) at 0
 
 abbrev pub sentinelCode : Store → ℕ
-sentinelCode s = word s 0
+sentinelCode s = sentinelIn (s .shape)
 
 abbrev pub nodeCount : Store → ℕ
-nodeCount s = word s 1
+nodeCount s = nodesIn (s .shape)
 
 abbrev pub edgeCount : Store → ℕ
-edgeCount s = word s 2
+edgeCount s = edgesIn (s .shape)
 
 abbrev pub edgeColumnCount : Store → ℕ
-edgeColumnCount s = word s 3
+edgeColumnCount s = edgeColumnsIn (s .shape)
 
 abbrev pub setCount : Store → ℕ
-setCount s = word s 4
+setCount s = setsIn (s .shape)
 
 abbrev pub varyingCount : Store → ℕ
-varyingCount s = word s 5
+varyingCount s = varyingIn (s .shape)
 
 abbrev pub fixedCount : Store → ℕ
-fixedCount s = word s 6
+fixedCount s = fixedIn (s .shape)
 
 abbrev pub elementsKept : Store → ℕ
-elementsKept s = word s 7
+elementsKept s = elementsIn (s .shape)
 
 abbrev pub nodeRowCount : Store → ℕ
-nodeRowCount s = word s 8
+nodeRowCount s = nodeRowsIn (s .shape)
 
 abbrev pub aggregateCount : Store → ℕ
-aggregateCount s = word s 9
+aggregateCount s = aggregatesIn (s .shape)
 
 abbrev pub virtualStorageCount : Store → ℕ
-virtualStorageCount s = word s 10
+virtualStorageCount s = virtualStoragesIn (s .shape)
 
 abbrev pub rowCount : Store → ℕ
 rowCount s = varyingCount s + fixedCount s
 
 abbrev pub columnCount : Store → ℕ
 columnCount s = edgeColumnCount s + setCount s
-
--- where each table starts: a node has 2 words (kind, constant), an edge 3 (from, to, column), a node row 4 (node, row, row type, set),
--- an aggregate 1 (row), a virtual storage 6 (row, period, start month, start day, end month, end day)
-abbrev pub nodesAt : ℕ
-nodesAt = 11
-
-abbrev pub edgesAt : ℕ
-edgesAt = 523
-
-abbrev pub nodeRowsAt : ℕ
-nodeRowsAt = 2059
-
-abbrev pub aggregatesAt : ℕ
-aggregatesAt = 19467
-
-abbrev pub virtualStoragesAt : ℕ
-virtualStoragesAt = 19531
 
 -- ---- reading the store
 
@@ -123,37 +108,43 @@ entries entry words at zero = []
 entries entry words at (suc count) = entry at ∷ entries entry words (at + words) count
 
 unfoldable pub nodeEntry : Store → ℕ → NodeShape
-nodeEntry s at = record { kind = word s at; constant = eqb (word s (at + 1)) 1 }
+nodeEntry s at = record { kind = nodeKind (s .shape) at; constant = eqb (nodeFlag (s .shape) at) 1 }
 
 unfoldable pub edgeEntry : Store → ℕ → MappedEdge
-edgeEntry s at = record { from = word s at; to = word s (at + 1); column = word s (at + 2) }
+edgeEntry s at = record { from = edgeFrom (s .shape) at; to = edgeTo (s .shape) at; column = mappedColumn (s .shape) at }
 
 unfoldable pub nodeRowEntry : Store → ℕ → NodeRow
-nodeRowEntry s at = record { node = word s at; row = word s (at + 1); rowType = rowTypeOf (word s (at + 2)); set = word s (at + 3) }
+nodeRowEntry s at =
+    record {
+      node = nodeRowNode (s .shape) at;
+      row = nodeRowRow (s .shape) at;
+      rowType = rowTypeOf (nodeRowType (s .shape) at);
+      set = nodeRowSet (s .shape) at;
+    }
 
 unfoldable pub virtualStorageEntry : Store → ℕ → VirtualStorageShape
 virtualStorageEntry s at =
     record {
-      row = word s at;
+      row = entryRow (s .shape) at;
       period =
           record {
-            always = eqb (word s (at + 1)) 0;
-            startMonth = word s (at + 2);
-            startDay = word s (at + 3);
-            endMonth = word s (at + 4);
-            endDay = word s (at + 5);
+            always = eqb (periodFlag (s .shape) at) 0;
+            startMonth = periodStartMonth (s .shape) at;
+            startDay = periodStartDay (s .shape) at;
+            endMonth = periodEndMonth (s .shape) at;
+            endDay = periodEndDay (s .shape) at;
           };
     }
 
 unfoldable pub shapeOf : Store → Shape
 shapeOf s =
     record {
-      nodes = entries (nodeEntry s) 2 nodesAt (nodeCount s);
-      mappedEdges = entries (edgeEntry s) 3 edgesAt (edgeCount s);
+      nodes = entries (nodeEntry s) nodeWidth nodesAt (nodeCount s);
+      mappedEdges = entries (edgeEntry s) edgeWidth edgesAt (edgeCount s);
       edgeColumns = edgeColumnCount s;
-      nodeRows = entries (nodeRowEntry s) 4 nodeRowsAt (nodeRowCount s);
-      aggregates = entries (word s) 1 aggregatesAt (aggregateCount s);
-      virtualStorages = entries (virtualStorageEntry s) 6 virtualStoragesAt (virtualStorageCount s);
+      nodeRows = entries (nodeRowEntry s) nodeRowWidth nodeRowsAt (nodeRowCount s);
+      aggregates = entries (word s) aggregateWidth aggregatesAt (aggregateCount s);
+      virtualStorages = entries (virtualStorageEntry s) virtualStorageWidth virtualStoragesAt (virtualStorageCount s);
     }
 
 unfoldable pub elementsOf : List ℕ → List Float → List Element

@@ -5,13 +5,14 @@ use mathlib.Core.Bool.{Bool, true, false, cond, not}
 use lib.ListN.{length}
 use lib.Seq.{sets}
 use lib.Ieee.{Float}
+use Rattle.layout.specs.Layout.{nodesAt, edgesAt, nodeRowsAt, aggregatesAt, virtualStoragesAt}
 use Rattle.pywr.specs.declared.Sentinel.{Sentinel}
 use Rattle.pywr.specs.declared.Sentinel.the-variants.{Infinity, Largest}
 use Rattle.pywr.specs.ColEdgeMap.{MappedEdge}
 use Rattle.pywr.specs.Rows.{Element}
 use Rattle.pywr.specs.Programme.{Column, Row, Programme, NodeShape, RowType, continuous, binaryUpper, binaryLower, NodeRow, VirtualStorageShape, Built}
 use Rattle.pywr.specs.Build.{elementCount}
-use Rattle.pywr.specs.Store.{Store, nodesAt, edgesAt, nodeRowsAt, aggregatesAt, virtualStoragesAt}
+use Rattle.pywr.specs.Store.{Store}
 
 unfoldable pub sentinelWord : Sentinel → ℕ
 sentinelWord Infinity = 0
@@ -70,8 +71,8 @@ shapeAfter old b =
     let nodes : List ℕ = sets counts nodesAt (flatMap nodeWords (b .shape .nodes)) in
     let edges : List ℕ = sets nodes edgesAt (flatMap edgeWords (b .shape .mappedEdges)) in
     let nodeRows : List ℕ = sets edges nodeRowsAt (flatMap nodeRowWords (b .shape .nodeRows)) in
-    let groups : List ℕ = sets nodeRows aggregatesAt (b .shape .aggregates) in
-    sets groups virtualStoragesAt (flatMap virtualStorageWords (b .shape .virtualStorages))
+    let aggregates : List ℕ = sets nodeRows aggregatesAt (b .shape .aggregates) in
+    sets aggregates virtualStoragesAt (flatMap virtualStorageWords (b .shape .virtualStorages))
 
 -- the starts of the rows and, last, the element count
 unfoldable pub startsFrom : ℕ → List Row → List ℕ

@@ -11,6 +11,9 @@ pub struct EdgeIndex(pub u16);
 // A column's number in its programme.
 pub struct ColumnIndex(pub u16);
 
+// The width of a column's number in the array that a row is gathered in.
+pub type ColumnNumber = u32;
+
 // A lower and an upper bound.
 pub struct Interval {
     pub lower: f64,

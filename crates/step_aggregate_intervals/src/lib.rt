@@ -1,23 +1,34 @@
 // The aggregates' intervals of a step, written into the lent work run. They are not compared.
 use fields::f64_at;
+use layout::AGGREGATE_COUNT_AT;
+use layout::AGGREGATES_HELD_AT;
+use layout::NODE_COUNT_AT;
+use layout::UPPERS_AT;
+use step_record::AGGREGATE_LOWER_OFFSET;
+use step_record::AGGREGATE_STEP_LENGTH;
+use step_record::AGGREGATE_UPPER_OFFSET;
+use step_record::DATE_LENGTH;
+use step_record::NODE_STEP_LENGTH;
 use store_shape::wide;
-ghost use Prim.Native.Nat.{_+_, _*_, _≤_};
-ghost use lib.ListN.{length, getD};
+ghost use Prim.Native.Nat.{_≤_};
+ghost use lib.ListN.{length};
+ghost use Rattle.layout.specs.Layout.{nodeCeiling, aggregateCeiling, shapeLength, nodesIn, aggregatesIn, aggregatesHeldAt, stepWorkLength};
+ghost use Rattle.step_file.specs.Decoded.{virtualStorageStepsAt};
 ghost use Rattle.step_work.specs.Written.{Written};
 ghost use Rattle.step_aggregate_intervals.specs.AggregateIntervals.{aggregateNumbered};
 
 pub fn find_aggregate_intervals(file: &[u8], shape: &[u16], work: &mut [f64])
-    requires { ⌜ (19723 ≤ length (now shape)) × (704 ≤ length (now work)) × (getD (now shape) 1 0 ≤ 256) × (getD (now shape) 9 0 ≤ 64) × (12 + 34 * getD (now shape) 1 0 + 18 * getD (now shape) 9 0 ≤ length (now file)) ⌝ }
-    ensures { λ _. ⌜ Written (aggregateNumbered (now (shape .entry)) (now (file .entry))) 256 (getD (now (shape .entry)) 9 0) (now (work .entry)) (now (work .exit)) ⌝ }
+    requires { ⌜ (shapeLength ≤ length (now shape)) × (stepWorkLength ≤ length (now work)) × (nodesIn (now shape) ≤ nodeCeiling) × (aggregatesIn (now shape) ≤ aggregateCeiling) × (virtualStorageStepsAt (nodesIn (now shape)) (aggregatesIn (now shape)) ≤ length (now file)) ⌝ }
+    ensures { λ _. ⌜ Written (aggregateNumbered (now (shape .entry)) (now (file .entry))) aggregatesHeldAt (aggregatesIn (now (shape .entry))) (now (work .entry)) (now (work .exit)) ⌝ }
 {
-    let first = 12 + 34 * wide(shape[store_shape::NODE_COUNT]);
-    let aggregates = wide(shape[store_shape::AGGREGATE_COUNT]);
+    let first = DATE_LENGTH + NODE_STEP_LENGTH * wide(shape[NODE_COUNT_AT]);
+    let aggregates = wide(shape[AGGREGATE_COUNT_AT]);
     let mut i: usize = 0;
     while i < aggregates {
-        let at = first + 18 * i;
-        let k = 256 + i;
-        work[k] = f64_at(file, at + 2);
-        work[352 + k] = f64_at(file, at + 10);
+        let at = first + AGGREGATE_STEP_LENGTH * i;
+        let k = AGGREGATES_HELD_AT + i;
+        work[k] = f64_at(file, at + AGGREGATE_LOWER_OFFSET);
+        work[UPPERS_AT + k] = f64_at(file, at + AGGREGATE_UPPER_OFFSET);
         i += 1;
     }
 }

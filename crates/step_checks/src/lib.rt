@@ -1,10 +1,12 @@
 // The checks of a step: the room of the runs lent (16), then the store's shape and the file (17, 12 and 13, 14 and 15).
+use layout::STEP_WORK_LENGTH;
 use pywr::Answer;
 ghost use mathlib.Core.Path.{_≡_};
 ghost use Prim.Native.Nat.{_≤_};
 ghost use mathlib.Core.List.{List};
 ghost use lib.ListN.{length};
 ghost use lib.Ieee.{Float};
+ghost use Rattle.layout.specs.Layout.{elementCeiling, rowStartsLength, shapeLength, stepWorkLength};
 ghost use Rattle.pywr.specs.Store.{Store};
 ghost use Rattle.pywr.specs.Calls.{stepRoom};
 ghost use Rattle.store.specs.Reading.{Lengths};
@@ -37,7 +39,7 @@ pub fn has_room(
         row_starts,
         shape,
     )
-        & (704 <= work)
+        & (STEP_WORK_LENGTH <= work)
 }
 
 // Judges a step file on a store with room: 17, 12 and 13, then 14 and 15. The intervals of an accepted file stand in the work run.
@@ -48,7 +50,7 @@ pub fn judge(
     shape: &[u16],
     work: &mut [f64],
 ) -> Answer
-    requires { ⌜ (4096 ≤ length (now columns)) × (1025 ≤ length (now «row_starts»)) × (19723 ≤ length (now shape)) × (704 ≤ length (now work)) ⌝ }
+    requires { ⌜ (elementCeiling ≤ length (now columns)) × (rowStartsLength ≤ length (now «row_starts»)) × (shapeLength ≤ length (now shape)) × (stepWorkLength ≤ length (now work)) ⌝ }
     ensures { λ r. ⌜ ((s : Store) → s .columns ≡ now (columns .entry) → s .rowStarts ≡ now («row_starts» .entry) → s .shape ≡ now (shape .entry)
         → Judged s (now (file .entry)) r (now (work .exit))) ⌝ }
 {

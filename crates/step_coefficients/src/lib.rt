@@ -6,6 +6,7 @@ ghost use mathlib.Core.Bool.{true};
 ghost use Prim.Native.Nat.{_+_, _<_, _≤_};
 ghost use lib.ListN.{length, getD};
 ghost use lib.Seq.{slice};
+ghost use Rattle.layout.specs.Layout.{elementCeiling};
 ghost use Rattle.pywr.specs.Network.{listed};
 ghost use Rattle.step_coefficients.specs.RowCoefficients.{CoefficientSet};
 
@@ -30,7 +31,7 @@ pub fn set_coefficient(
     column: ColumnIndex,
     value: f64,
 )
-    requires { ⌜ (row + 1 < length (now «row_starts»)) × (getD (now «row_starts») (row + 1) 0 ≤ 4096) × (4096 ≤ length (now columns)) × (4096 ≤ length (now elements))
+    requires { ⌜ (row + 1 < length (now «row_starts»)) × (getD (now «row_starts») (row + 1) 0 ≤ elementCeiling) × (elementCeiling ≤ length (now columns)) × (elementCeiling ≤ length (now elements))
         × (listed (column .0) (slice (getD (now «row_starts») row 0) (getD (now «row_starts») (row + 1) 0) (now columns)) ≡ true) ⌝ }
     ensures { λ _. ⌜ CoefficientSet (now (columns .entry)) (now («row_starts» .entry)) row (column .0) value (now (elements .entry)) (now (elements .exit)) ⌝ }
 {

@@ -7,12 +7,12 @@ use lib.Dec.{leb}
 use Rattle.pywr.specs.declared.Answer.{Answer}
 use Rattle.pywr.specs.declared.Answer.the-variants.{Accepted, Refused}
 use Rattle.pywr.specs.Programme.{NodeShape}
-use Rattle.step_record.specs.Check.{answerThen, checkDate, checkNode, checkAggregate, checkVirtualStorageStep}
+use Rattle.step_record.specs.Check.{answerThen, checkDate, checkNode, checkAggregate, checkVirtualStorageStep, dateLength, nodeStepLength, aggregateStepLength, virtualStorageStepLength}
 use Rattle.step_file.specs.Decoded.{aggregateStepsAt, virtualStorageStepsAt, fileLength}
 
 unfoldable pub checkNodes : List ℕ → List NodeShape → ℕ → Answer
 checkNodes file [] at = Accepted
-checkNodes file (n ∷ ns) at = answerThen (checkNode file n at) (checkNodes file ns (at + 34))
+checkNodes file (n ∷ ns) at = answerThen (checkNode file n at) (checkNodes file ns (at + nodeStepLength))
 
 -- `count` records of one size from `at`
 unfoldable pub checkRecords : (ℕ → Answer) → ℕ → ℕ → ℕ → Answer
@@ -27,6 +27,7 @@ checkEnd file end = cond (leb (length file) end) Accepted (Refused 12 end)
 unfoldable pub checkFile : List ℕ → List NodeShape → ℕ → ℕ → ℕ → Answer
 checkFile file shapes n aggregates virtualStorages =
     answerThen (checkDate file)
-    (answerThen (checkNodes file shapes 12)
-    (answerThen (checkRecords (checkAggregate file) 18 aggregates (aggregateStepsAt n))
-    (answerThen (checkRecords (checkVirtualStorageStep file) 26 virtualStorages (virtualStorageStepsAt n aggregates)) (checkEnd file (fileLength n aggregates virtualStorages)))))
+    (answerThen (checkNodes file shapes dateLength)
+    (answerThen (checkRecords (checkAggregate file) aggregateStepLength aggregates (aggregateStepsAt n))
+    (answerThen (checkRecords (checkVirtualStorageStep file) virtualStorageStepLength virtualStorages (virtualStorageStepsAt n aggregates))
+    (checkEnd file (fileLength n aggregates virtualStorages)))))

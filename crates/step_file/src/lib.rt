@@ -1,41 +1,48 @@
 // The step file: read left to right by the counts, kinds and flags of a store, or refused with 12 or 13.
 ghost use mathlib.Core.Path.{_≡_};
 ghost use Prim.Native.Nat.{_≤_};
-ghost use lib.ListN.{length, getD};
+ghost use lib.ListN.{length};
+ghost use Rattle.layout.specs.Layout.{nodeCeiling, aggregateCeiling, virtualStorageCeiling, shapeLength, nodesIn, aggregatesIn, virtualStoragesIn};
 ghost use Rattle.pywr.specs.Answers.{answerOf};
 ghost use Rattle.pywr.specs.StepFile.{readStep};
 ghost use Rattle.pywr.specs.Store.{Store, shapeOf};
-ghost use Rattle.step_record.specs.Check.{checkAggregate, checkVirtualStorageStep};
+ghost use Rattle.step_record.specs.Check.{checkAggregate, checkVirtualStorageStep, dateLength, aggregateStepLength, virtualStorageStepLength};
 ghost use Rattle.step_file.specs.CheckStep.{checkNodes, checkRecords, checkEnd};
+use layout::AGGREGATE_COUNT_AT;
+use layout::NODE_COUNT_AT;
+use layout::NODE_FLAG;
+use layout::NODE_WIDTH;
+use layout::NODES_AT;
+use layout::VIRTUAL_STORAGE_COUNT_AT;
 use pywr::Answer;
+use step_record::AGGREGATE_STEP_LENGTH;
+use step_record::DATE_LENGTH;
+use step_record::NODE_STEP_LENGTH;
+use step_record::VIRTUAL_STORAGE_STEP_LENGTH;
 use step_record::check_aggregate;
 use step_record::check_date;
 use step_record::check_node;
 use step_record::check_virtual_storage_step;
-use store_shape::AGGREGATE_COUNT;
-use store_shape::NODE_COUNT;
-use store_shape::NODES_AT;
-use store_shape::VIRTUAL_STORAGE_COUNT;
 use store_shape::wide;
 
 // The `NB` record of each node of the store.
 fn check_nodes(file: &[u8], shape: &[u16]) -> Answer
-    requires { ⌜ (19723 ≤ length (now shape)) × (getD (now shape) 1 0 ≤ 256) ⌝ }
-    ensures { λ r. ⌜ ((s : Store) → s .shape ≡ now (shape .entry) → r ≡ checkNodes (now (file .entry)) (shapeOf s .nodes) 12) ⌝ }
+    requires { ⌜ (shapeLength ≤ length (now shape)) × (nodesIn (now shape) ≤ nodeCeiling) ⌝ }
+    ensures { λ r. ⌜ ((s : Store) → s .shape ≡ now (shape .entry) → r ≡ checkNodes (now (file .entry)) (shapeOf s .nodes) dateLength) ⌝ }
 {
-    let nodes = wide(shape[NODE_COUNT]);
+    let nodes = wide(shape[NODE_COUNT_AT]);
     let mut word: usize = NODES_AT;
-    let mut at: usize = 12;
+    let mut at: usize = DATE_LENGTH;
     let mut i: usize = 0;
     while i < nodes {
-        let node = check_node(file, at, shape[word], shape[word + 1]);
+        let node = check_node(file, at, shape[word], shape[word + NODE_FLAG]);
         match node {
             Answer::Refused(number, place) => {
                 return Answer::Refused(number, place);
             }
             Answer::Accepted => {
-                word += 2;
-                at += 34;
+                word += NODE_WIDTH;
+                at += NODE_STEP_LENGTH;
                 i += 1;
             }
         }
@@ -45,8 +52,8 @@ fn check_nodes(file: &[u8], shape: &[u16]) -> Answer
 
 // `count` `GB` records from `from`.
 fn check_aggregates(file: &[u8], from: usize, count: usize) -> Answer
-    requires { ⌜ (from ≤ 16384) × (count ≤ 64) ⌝ }
-    ensures { λ r. ⌜ r ≡ checkRecords (checkAggregate (now (file .entry))) 18 count from ⌝ }
+    requires { ⌜ (from ≤ 16384) × (count ≤ aggregateCeiling) ⌝ }
+    ensures { λ r. ⌜ r ≡ checkRecords (checkAggregate (now (file .entry))) aggregateStepLength count from ⌝ }
 {
     let mut at = from;
     let mut i: usize = 0;
@@ -57,7 +64,7 @@ fn check_aggregates(file: &[u8], from: usize, count: usize) -> Answer
                 return Answer::Refused(number, place);
             }
             Answer::Accepted => {
-                at += 18;
+                at += AGGREGATE_STEP_LENGTH;
                 i += 1;
             }
         }
@@ -67,8 +74,8 @@ fn check_aggregates(file: &[u8], from: usize, count: usize) -> Answer
 
 // `count` `VB` records from `from`.
 fn check_virtual_storages(file: &[u8], from: usize, count: usize) -> Answer
-    requires { ⌜ (from ≤ 16384) × (count ≤ 32) ⌝ }
-    ensures { λ r. ⌜ r ≡ checkRecords (checkVirtualStorageStep (now (file .entry))) 26 count from ⌝ }
+    requires { ⌜ (from ≤ 16384) × (count ≤ virtualStorageCeiling) ⌝ }
+    ensures { λ r. ⌜ r ≡ checkRecords (checkVirtualStorageStep (now (file .entry))) virtualStorageStepLength count from ⌝ }
 {
     let mut at = from;
     let mut i: usize = 0;
@@ -79,7 +86,7 @@ fn check_virtual_storages(file: &[u8], from: usize, count: usize) -> Answer
                 return Answer::Refused(number, place);
             }
             Answer::Accepted => {
-                at += 26;
+                at += VIRTUAL_STORAGE_STEP_LENGTH;
                 i += 1;
             }
         }
@@ -99,14 +106,14 @@ fn check_end(file: &[u8], end: usize) -> Answer
 
 // Judged by the store with this shape run; what it does not read may hold anything.
 pub fn read_step(file: &[u8], shape: &[u16]) -> Answer
-    requires { ⌜ (19723 ≤ length (now shape)) × (getD (now shape) 1 0 ≤ 256) × (getD (now shape) 9 0 ≤ 64) × (getD (now shape) 10 0 ≤ 32) ⌝ }
+    requires { ⌜ (shapeLength ≤ length (now shape)) × (nodesIn (now shape) ≤ nodeCeiling) × (aggregatesIn (now shape) ≤ aggregateCeiling) × (virtualStoragesIn (now shape) ≤ virtualStorageCeiling) ⌝ }
     ensures { λ r. ⌜ ((s : Store) → s .shape ≡ now (shape .entry) → r ≡ answerOf (readStep (shapeOf s .nodes) (length (shapeOf s .aggregates)) (length (shapeOf s .virtualStorages)) (now (file .entry)))) ⌝ }
 {
-    let count = wide(shape[NODE_COUNT]);
-    let aggregates = wide(shape[AGGREGATE_COUNT]);
-    let virtual_storages = wide(shape[VIRTUAL_STORAGE_COUNT]);
-    let aggregates_at = 12 + 34 * count;
-    let virtual_storages_at = aggregates_at + 18 * aggregates;
+    let count = wide(shape[NODE_COUNT_AT]);
+    let aggregates = wide(shape[AGGREGATE_COUNT_AT]);
+    let virtual_storages = wide(shape[VIRTUAL_STORAGE_COUNT_AT]);
+    let aggregates_at = DATE_LENGTH + NODE_STEP_LENGTH * count;
+    let virtual_storages_at = aggregates_at + AGGREGATE_STEP_LENGTH * aggregates;
     let date = check_date(file);
     match date {
         Answer::Refused(number, place) => Answer::Refused(number, place),
@@ -128,7 +135,8 @@ pub fn read_step(file: &[u8], shape: &[u16]) -> Answer
                                 Answer::Refused(number, place) => Answer::Refused(number, place),
                                 Answer::Accepted => check_end(
                                     file,
-                                    virtual_storages_at + 26 * virtual_storages,
+                                    virtual_storages_at
+                                        + VIRTUAL_STORAGE_STEP_LENGTH * virtual_storages,
                                 ),
                             }
                         }

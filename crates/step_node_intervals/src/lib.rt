@@ -1,14 +1,27 @@
 // The nodes' intervals of a step, written into the lent work run, and refusal 14.
 use fields::f64_at;
+use layout::NODE_COUNT_AT;
+use layout::NODE_FLAG;
+use layout::NODE_WIDTH;
+use layout::NODES_AT;
+use layout::UPPERS_AT;
 use pywr::Answer;
 use pywr::Interval;
 use pywr::NodeBounds;
 use pywr::NodeIndex;
 use pywr::Sentinel;
+use step_record::DATE_LENGTH;
+use step_record::NODE_MAX_OFFSET;
+use step_record::NODE_MIN_OFFSET;
+use step_record::NODE_STEP_LENGTH;
+use step_record::NODE_VOLUME_OFFSET;
 use store_shape::wide;
 ghost use mathlib.Core.Path.{_≡_};
 ghost use Prim.Native.Nat.{_+_, _*_, _≤_};
-ghost use lib.ListN.{length, getD};
+ghost use lib.ListN.{length};
+ghost use Rattle.layout.specs.Layout.{nodeCeiling, shapeLength, nodesAt, nodeWidth, nodesIn, stepWorkLength};
+ghost use Rattle.step_record.specs.Check.{nodeStepLength};
+ghost use Rattle.step_file.specs.Decoded.{nodeStepPlace, aggregateStepsAt};
 ghost use Rattle.step_work.specs.Written.{Looked};
 ghost use Rattle.step_node_intervals.specs.NodeIntervals.{nodeNumbered};
 
@@ -20,18 +33,18 @@ fn node_interval(
     days: f64,
     sentinel: Sentinel,
 ) -> Interval
-    requires { ⌜ (12 + 34 * node .0 + 34 ≤ length (now file)) × (11 + 2 * node .0 + 2 ≤ length (now shape)) ⌝ }
+    requires { ⌜ (nodeStepPlace (node .0) + nodeStepLength ≤ length (now file)) × (nodesAt + nodeWidth * node .0 + nodeWidth ≤ length (now shape)) ⌝ }
     ensures { λ r. ⌜ r ≡ nodeNumbered sentinel days (now (shape .entry)) (now (file .entry)) (node .0) ⌝ }
 {
     let k = wide(node.0);
-    if shape[store_shape::NODES_AT + 2 * k + 1] == 1 {
+    if shape[NODES_AT + NODE_WIDTH * k + NODE_FLAG] == 1 {
         return step_bounds::sentinels(sentinel);
     }
-    let at = 12 + 34 * k;
-    let min = f64_at(file, at + 10);
-    let max = f64_at(file, at + 18);
-    if shape[store_shape::NODES_AT + 2 * k] == 3 {
-        let volume = f64_at(file, at + 26);
+    let at = DATE_LENGTH + NODE_STEP_LENGTH * k;
+    let min = f64_at(file, at + NODE_MIN_OFFSET);
+    let max = f64_at(file, at + NODE_MAX_OFFSET);
+    if shape[NODES_AT + NODE_WIDTH * k] == 3 {
+        let volume = f64_at(file, at + NODE_VOLUME_OFFSET);
         return step_bounds::interval_of(days, step_bounds::storage_bounds(min, max, volume));
     }
     step_bounds::interval_of(days, NodeBounds::Flow(min, max))
@@ -45,10 +58,10 @@ pub fn find_node_intervals(
     sentinel: Sentinel,
     work: &mut [f64],
 ) -> Answer
-    requires { ⌜ (19723 ≤ length (now shape)) × (704 ≤ length (now work)) × (getD (now shape) 1 0 ≤ 256) × (12 + 34 * getD (now shape) 1 0 ≤ length (now file)) ⌝ }
-    ensures { λ r. ⌜ Looked 14 (nodeNumbered sentinel days (now (shape .entry)) (now (file .entry))) 0 (getD (now (shape .entry)) 1 0) (now (work .entry)) r (now (work .exit)) ⌝ }
+    requires { ⌜ (shapeLength ≤ length (now shape)) × (stepWorkLength ≤ length (now work)) × (nodesIn (now shape) ≤ nodeCeiling) × (aggregateStepsAt (nodesIn (now shape)) ≤ length (now file)) ⌝ }
+    ensures { λ r. ⌜ Looked 14 (nodeNumbered sentinel days (now (shape .entry)) (now (file .entry))) 0 (nodesIn (now (shape .entry))) (now (work .entry)) r (now (work .exit)) ⌝ }
 {
-    let nodes = wide(shape[store_shape::NODE_COUNT]);
+    let nodes = wide(shape[NODE_COUNT_AT]);
     let mut i: usize = 0;
     while i < nodes {
         let x = node_interval(file, shape, NodeIndex(fields::narrow16(i)), days, sentinel);
@@ -56,7 +69,7 @@ pub fn find_node_intervals(
             return Answer::Refused(14, i);
         }
         work[i] = x.lower;
-        work[352 + i] = x.upper;
+        work[UPPERS_AT + i] = x.upper;
         i += 1;
     }
     Answer::Accepted

@@ -6,6 +6,7 @@ use mathlib.Core.List.{List, map, flatMap}
 use lib.ListN.{length, getD}
 use lib.Seq.{sets, slice}
 use lib.Ieee.{Float}
+use Rattle.layout.specs.Layout.{nodeCeiling, rowCeiling, elementCeiling, nodeRowWidth, nodesIn, edgeColumnsIn, setsIn, varyingIn, nodeRowNode, nodeRowRow, nodeRowType, nodeRowSet, stepWorkLength}
 use Rattle.pywr.specs.Network.{listed}
 use Rattle.pywr.specs.Programme.{Row}
 use Rattle.pywr.specs.Store.{Store, varyingCount, edgeColumnCount, nodeCount, sentinelCode, sentinelOf, entries, nodeRowEntry, columnsOfRow}
@@ -39,23 +40,23 @@ pub record VaryingWritten (s : Store) (rows : List Row) (lower upper elements : 
 
 -- a node row: a node, a varying row and, unless it is continuous, a set whose integer column is in the row
 pub record NodeRowFits (columns rowStarts shape : List ℕ) (at : ℕ) : Type 0 where
-  pub node : getD shape at 0 < getD shape 1 0
-  pub row : getD shape (at + 1) 0 < getD shape 5 0
-  pub set : (getD shape (at + 2) 0 ≡ 0 → ⊥) → getD shape (at + 3) 0 < getD shape 4 0
-  pub column : (getD shape (at + 2) 0 ≡ 0 → ⊥)
-      → listed (getD shape 3 0 + getD shape (at + 3) 0) (slice (getD rowStarts (getD shape (at + 1) 0) 0) (getD rowStarts (getD shape (at + 1) 0 + 1) 0) columns) ≡ true
+  pub node : nodeRowNode shape at < nodesIn shape
+  pub row : nodeRowRow shape at < varyingIn shape
+  pub set : (nodeRowType shape at ≡ 0 → ⊥) → nodeRowSet shape at < setsIn shape
+  pub column : (nodeRowType shape at ≡ 0 → ⊥)
+      → listed (edgeColumnsIn shape + nodeRowSet shape at) (slice (getD rowStarts (nodeRowRow shape at) 0) (getD rowStarts (nodeRowRow shape at + 1) 0) columns) ≡ true
 
 -- the rows of a well shaped store
 pub record VaryingFit (columns rowStarts shape : List ℕ) : Type 0 where
   pub rows : RowsWithin columns rowStarts shape
-  pub nodes : getD shape 1 0 ≤ 256
-  pub rise : (r : ℕ) → r < getD shape 5 0 → columnsRise (getD shape 3 0 + getD shape 4 0) 0 (slice (getD rowStarts r 0) (getD rowStarts (r + 1) 0) columns) ≡ true
+  pub nodes : nodesIn shape ≤ nodeCeiling
+  pub rise : (r : ℕ) → r < varyingIn shape → columnsRise (edgeColumnsIn shape + setsIn shape) 0 (slice (getD rowStarts r 0) (getD rowStarts (r + 1) 0) columns) ≡ true
 
 pub record RunsLong (lower upper elements work : List Float) : Type 0 where
-  pub lower-long : 1024 ≤ length lower
-  pub upper-long : 1024 ≤ length upper
-  pub elements-long : 4096 ≤ length elements
-  pub work-long : 704 ≤ length work
+  pub lower-long : rowCeiling ≤ length lower
+  pub upper-long : rowCeiling ≤ length upper
+  pub elements-long : elementCeiling ≤ length elements
+  pub work-long : stepWorkLength ≤ length work
 
 -- the rows after the node row at `at` was applied
 abbrev pub nodeRowApplied : Store → List Float → ℕ → List Row → List Row
@@ -65,4 +66,4 @@ nodeRowApplied s work at rows =
 -- the rows after `count` node rows from `at` on
 abbrev pub nodeRowsApplied : Store → List Float → ℕ → ℕ → List Row → List Row
 nodeRowsApplied s work at count rows =
-    applyNodeRows (sentinelOf (sentinelCode s)) (edgeColumnCount s) (heldFrom work 0 (nodeCount s)) (entries (nodeRowEntry s) 4 at count) rows
+    applyNodeRows (sentinelOf (sentinelCode s)) (edgeColumnCount s) (heldFrom work 0 (nodeCount s)) (entries (nodeRowEntry s) nodeRowWidth at count) rows

@@ -3,8 +3,14 @@ ghost use mathlib.Core.Path.{_≡_};
 ghost use Prim.Native.Nat.{_+_, _≤_};
 ghost use lib.ListN.{length};
 ghost use lib.Dec.{eqb};
+ghost use Rattle.layout.specs.Layout.{virtualStorageWidth};
 ghost use Rattle.pywr.specs.Period.{upTo, isActive};
 ghost use Rattle.step_period.specs.PeriodAt.{periodAt};
+use layout::PERIOD_END_DAY;
+use layout::PERIOD_END_MONTH;
+use layout::PERIOD_FLAG;
+use layout::PERIOD_START_DAY;
+use layout::PERIOD_START_MONTH;
 
 // Whether a month's day is not after another's.
 fn up_to(month: u16, day: u16, last_month: u16, last_day: u16) -> bool
@@ -38,15 +44,15 @@ pub fn is_active(
 
 // The same of the virtual storage whose words stand at `place`.
 pub fn is_active_at(shape: &[u16], place: usize, month: u16, day: u16) -> bool
-    requires { ⌜ place + 6 ≤ length (now shape) ⌝ }
+    requires { ⌜ place + virtualStorageWidth ≤ length (now shape) ⌝ }
     ensures { λ r. ⌜ r ≡ isActive (periodAt (now (shape .entry)) place) month day ⌝ }
 {
     is_active(
-        shape[place + 1],
-        shape[place + 2],
-        shape[place + 3],
-        shape[place + 4],
-        shape[place + 5],
+        shape[place + PERIOD_FLAG],
+        shape[place + PERIOD_START_MONTH],
+        shape[place + PERIOD_START_DAY],
+        shape[place + PERIOD_END_MONTH],
+        shape[place + PERIOD_END_DAY],
         month,
         day,
     )

@@ -12,6 +12,58 @@ use Rattle.pywr.specs.StepFile.{daysIn, isStorage}
 use Rattle.step_record.specs.declared.Range.{Range}
 use Rattle.step_record.specs.declared.Range.the-variants.{Unread, Flow, Small, Days}
 
+-- an `ST` record: its length, and where its fields stand in it
+abbrev pub dateLength : ℕ
+dateLength = 12
+
+abbrev pub monthOffset : ℕ
+monthOffset = 2
+
+abbrev pub dayOffset : ℕ
+dayOffset = 3
+
+abbrev pub daysOffset : ℕ
+daysOffset = 4
+
+-- an `NB` record
+abbrev pub nodeStepLength : ℕ
+nodeStepLength = 34
+
+abbrev pub nodeCostOffset : ℕ
+nodeCostOffset = 2
+
+abbrev pub nodeMinOffset : ℕ
+nodeMinOffset = 10
+
+abbrev pub nodeMaxOffset : ℕ
+nodeMaxOffset = 18
+
+abbrev pub nodeVolumeOffset : ℕ
+nodeVolumeOffset = 26
+
+-- a `GB` record
+abbrev pub aggregateStepLength : ℕ
+aggregateStepLength = 18
+
+abbrev pub aggregateLowerOffset : ℕ
+aggregateLowerOffset = 2
+
+abbrev pub aggregateUpperOffset : ℕ
+aggregateUpperOffset = 10
+
+-- a `VB` record
+abbrev pub virtualStorageStepLength : ℕ
+virtualStorageStepLength = 26
+
+abbrev pub virtualMinOffset : ℕ
+virtualMinOffset = 2
+
+abbrev pub virtualMaxOffset : ℕ
+virtualMaxOffset = 10
+
+abbrev pub virtualVolumeOffset : ℕ
+virtualVolumeOffset = 18
+
 -- a bit pattern within its range
 unfoldable pub inRange : Range → ℕ → Bool
 inRange Unread bits = true
@@ -43,23 +95,23 @@ answerThen (Refused number place) next = Refused number place
 unfoldable pub checkDate : List ℕ → Answer
 checkDate file =
     answerThen (checkMark file 0 83 84)
-    (answerThen (checkByte file 2 12) (answerThen (checkByte file 3 (daysIn (byte file 2))) (checkField file 0 4 Days)))
+    (answerThen (checkByte file monthOffset 12) (answerThen (checkByte file dayOffset (daysIn (byte file monthOffset))) (checkField file 0 daysOffset Days)))
 
 -- the fields of a record behind what was answered so far
 unfoldable pub checkNode : List ℕ → NodeShape → ℕ → Answer
 checkNode file n at =
-    let cost = answerThen (checkMark file at 78 66) (checkField file at (at + 2) Small) in
-    let min = answerThen cost (checkField file at (at + 10) (boundRange (n .constant) (isStorage n))) in
-    let max = answerThen min (checkField file at (at + 18) (boundRange (n .constant) (isStorage n))) in
-    answerThen max (checkField file at (at + 26) (volumeRange (isStorage n)))
+    let cost = answerThen (checkMark file at 78 66) (checkField file at (at + nodeCostOffset) Small) in
+    let min = answerThen cost (checkField file at (at + nodeMinOffset) (boundRange (n .constant) (isStorage n))) in
+    let max = answerThen min (checkField file at (at + nodeMaxOffset) (boundRange (n .constant) (isStorage n))) in
+    answerThen max (checkField file at (at + nodeVolumeOffset) (volumeRange (isStorage n)))
 
 unfoldable pub checkAggregate : List ℕ → ℕ → Answer
 checkAggregate file at =
-    let lower = answerThen (checkMark file at 71 66) (checkField file at (at + 2) Flow) in
-    answerThen lower (checkField file at (at + 10) Flow)
+    let lower = answerThen (checkMark file at 71 66) (checkField file at (at + aggregateLowerOffset) Flow) in
+    answerThen lower (checkField file at (at + aggregateUpperOffset) Flow)
 
 unfoldable pub checkVirtualStorageStep : List ℕ → ℕ → Answer
 checkVirtualStorageStep file at =
-    let min = answerThen (checkMark file at 86 66) (checkField file at (at + 2) Small) in
-    let max = answerThen min (checkField file at (at + 10) Small) in
-    answerThen max (checkField file at (at + 18) Small)
+    let min = answerThen (checkMark file at 86 66) (checkField file at (at + virtualMinOffset) Small) in
+    let max = answerThen min (checkField file at (at + virtualMaxOffset) Small) in
+    answerThen max (checkField file at (at + virtualVolumeOffset) Small)

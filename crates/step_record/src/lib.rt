@@ -7,6 +7,42 @@ ghost use Rattle.pywr.specs.StepFile.{daysIn};
 ghost use Rattle.step_record.specs.Check.{inRange, boundRange, volumeRange, checkMark, checkField, checkByte, answerThen, checkDate, checkNode, checkAggregate, checkVirtualStorageStep};
 use pywr::Answer;
 
+// An `ST` record: its length, and where its fields stand in it.
+pub const DATE_LENGTH: usize = 12;
+
+pub const MONTH_OFFSET: usize = 2;
+
+pub const DAY_OFFSET: usize = 3;
+
+pub const DAYS_OFFSET: usize = 4;
+
+// An `NB` record.
+pub const NODE_STEP_LENGTH: usize = 34;
+
+pub const NODE_COST_OFFSET: usize = 2;
+
+pub const NODE_MIN_OFFSET: usize = 10;
+
+pub const NODE_MAX_OFFSET: usize = 18;
+
+pub const NODE_VOLUME_OFFSET: usize = 26;
+
+// A `GB` record.
+pub const AGGREGATE_STEP_LENGTH: usize = 18;
+
+pub const AGGREGATE_LOWER_OFFSET: usize = 2;
+
+pub const AGGREGATE_UPPER_OFFSET: usize = 10;
+
+// A `VB` record.
+pub const VIRTUAL_STORAGE_STEP_LENGTH: usize = 26;
+
+pub const VIRTUAL_MIN_OFFSET: usize = 2;
+
+pub const VIRTUAL_MAX_OFFSET: usize = 10;
+
+pub const VIRTUAL_VOLUME_OFFSET: usize = 18;
+
 // What a double of the file may be. One that is not read may be anything.
 pub enum Range {
     Unread,
@@ -132,12 +168,12 @@ pub fn check_date(file: &[u8]) -> Answer
     match mark {
         Answer::Refused(number, record) => Answer::Refused(number, record),
         Answer::Accepted => {
-            let month = check_byte(file, 2, 12);
+            let month = check_byte(file, MONTH_OFFSET, 12);
             match month {
                 Answer::Refused(number, record) => Answer::Refused(number, record),
                 Answer::Accepted => {
-                    let day = check_byte(file, 3, days_in(file[2]));
-                    field_after(day, file, 0, 4, Range::Days)
+                    let day = check_byte(file, DAY_OFFSET, days_in(file[MONTH_OFFSET]));
+                    field_after(day, file, 0, DAYS_OFFSET, Range::Days)
                 }
             }
         }
@@ -151,10 +187,10 @@ pub fn check_node(file: &[u8], at: usize, kind: u16, constant: u16) -> Answer
 {
     let bounds = bound_range(kind, constant);
     let mark = check_mark(file, at, 78, 66);
-    let cost = field_after(mark, file, at, at + 2, Range::Small);
-    let min = field_after(cost, file, at, at + 10, bounds);
-    let max = field_after(min, file, at, at + 18, bounds);
-    field_after(max, file, at, at + 26, volume_range(kind))
+    let cost = field_after(mark, file, at, at + NODE_COST_OFFSET, Range::Small);
+    let min = field_after(cost, file, at, at + NODE_MIN_OFFSET, bounds);
+    let max = field_after(min, file, at, at + NODE_MAX_OFFSET, bounds);
+    field_after(max, file, at, at + NODE_VOLUME_OFFSET, volume_range(kind))
 }
 
 // `GB` lower, upper.
@@ -163,8 +199,8 @@ pub fn check_aggregate(file: &[u8], at: usize) -> Answer
     ensures { λ r. ⌜ r ≡ checkAggregate (now (file .entry)) at ⌝ }
 {
     let mark = check_mark(file, at, 71, 66);
-    let lower = field_after(mark, file, at, at + 2, Range::Flow);
-    field_after(lower, file, at, at + 10, Range::Flow)
+    let lower = field_after(mark, file, at, at + AGGREGATE_LOWER_OFFSET, Range::Flow);
+    field_after(lower, file, at, at + AGGREGATE_UPPER_OFFSET, Range::Flow)
 }
 
 // `VB` min, max, volume.
@@ -173,7 +209,7 @@ pub fn check_virtual_storage_step(file: &[u8], at: usize) -> Answer
     ensures { λ r. ⌜ r ≡ checkVirtualStorageStep (now (file .entry)) at ⌝ }
 {
     let mark = check_mark(file, at, 86, 66);
-    let min = field_after(mark, file, at, at + 2, Range::Small);
-    let max = field_after(min, file, at, at + 10, Range::Small);
-    field_after(max, file, at, at + 18, Range::Small)
+    let min = field_after(mark, file, at, at + VIRTUAL_MIN_OFFSET, Range::Small);
+    let max = field_after(min, file, at, at + VIRTUAL_MAX_OFFSET, Range::Small);
+    field_after(max, file, at, at + VIRTUAL_VOLUME_OFFSET, Range::Small)
 }

@@ -5,6 +5,7 @@ use mathlib.Core.List.{List, map}
 use lib.ListN.{length, getD, set}
 use lib.Seq.{sets}
 use lib.Ieee.{Float}
+use Rattle.layout.specs.Layout.{rowCeiling, shapeLength, varyingIn, entryRow}
 use Rattle.pywr.specs.declared.Interval.{Interval}
 use Rattle.pywr.specs.Numbers.{zero64, lesser, greater}
 use Rattle.pywr.specs.Programme.{Row}
@@ -22,8 +23,8 @@ pub record RowTightened (row : ℕ) (by : Interval) (lower upper lower′ upper�
 
 -- a table of the shape run whose entries, of so many words, start with the number of a varying row
 pub record RowTable (shape : List ℕ) (table words count : ℕ) : Type 0 where
-  pub shape-long : 19723 ≤ length shape
-  pub varying : getD shape 5 0 ≤ 1024
+  pub shape-long : shapeLength ≤ length shape
+  pub varying : varyingIn shape ≤ rowCeiling
   pub some-words : 1 ≤ words
-  pub within : table + words * count ≤ 19723
-  pub rows : (k : ℕ) → k < count → getD shape (table + words * k) 0 < getD shape 5 0
+  pub within : table + words * count ≤ shapeLength
+  pub rows : (k : ℕ) → k < count → entryRow shape (table + words * k) < varyingIn shape

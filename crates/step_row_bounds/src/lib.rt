@@ -1,15 +1,17 @@
 // Row bounds of a step: varying rows reset to the sentinels, and tightened by intervals (reset_row_bounds and apply_row_bounds of builder.rs).
 use extremes::greater;
 use extremes::lesser;
+use layout::UPPERS_AT;
+use layout::VARYING_COUNT_AT;
 use pywr::Interval;
-use store_shape::VARYING_COUNT;
 use store_shape::kept_sentinel;
 use store_shape::wide;
 ghost use mathlib.Core.Path.{_≡_};
 ghost use Prim.Native.Nat.{_+_, _<_, _≤_};
 ghost use mathlib.Core.List.{List, map};
-ghost use lib.ListN.{length, getD};
+ghost use lib.ListN.{length};
 ghost use lib.Ieee.{Float};
+ghost use Rattle.layout.specs.Layout.{rowCeiling, shapeLength, sentinelIn, varyingIn, entryRow, uppersAt, stepWorkLength};
 ghost use Rattle.pywr.specs.Interval.{tighten, sentinels};
 ghost use Rattle.pywr.specs.Programme.{Row};
 ghost use Rattle.pywr.specs.Store.{sentinelOf, entries};
@@ -17,12 +19,9 @@ ghost use Rattle.pywr.specs.Step.{withBounds, applyIntervals};
 ghost use Rattle.step_work.specs.WorkRun.{heldAt, heldFrom};
 ghost use Rattle.step_row_bounds.specs.RowBounds.{BoundsWritten, RowTightened, RowTable};
 
-// Where the upper bounds of the work run's intervals start.
-const UPPERS_AT: usize = 352;
-
 // Interval k of a step's work run.
 pub fn held_interval(work: &[f64], k: usize) -> Interval
-    requires { ⌜ (704 ≤ length (now work)) × (k < 352) ⌝ }
+    requires { ⌜ (stepWorkLength ≤ length (now work)) × (k < uppersAt) ⌝ }
     ensures { λ r. ⌜ r ≡ heldAt (now (work .entry)) k ⌝ }
 {
     Interval {
@@ -33,13 +32,13 @@ pub fn held_interval(work: &[f64], k: usize) -> Interval
 
 // Every varying row's bounds become the store's sentinels.
 pub fn reset_row_bounds(row_lower: &mut [f64], row_upper: &mut [f64], shape: &[u16])
-    requires { ⌜ (19723 ≤ length (now shape)) × (getD (now shape) 5 0 ≤ 1024) × (1024 ≤ length (now «row_lower»)) × (1024 ≤ length (now «row_upper»)) ⌝ }
-    ensures { λ _. ⌜ ((rows : List Row) → length rows ≡ getD (now (shape .entry)) 5 0
-        → BoundsWritten (map (withBounds (sentinels (sentinelOf (getD (now (shape .entry)) 0 0)))) rows)
+    requires { ⌜ (shapeLength ≤ length (now shape)) × (varyingIn (now shape) ≤ rowCeiling) × (rowCeiling ≤ length (now «row_lower»)) × (rowCeiling ≤ length (now «row_upper»)) ⌝ }
+    ensures { λ _. ⌜ ((rows : List Row) → length rows ≡ varyingIn (now (shape .entry))
+        → BoundsWritten (map (withBounds (sentinels (sentinelOf (sentinelIn (now (shape .entry)))))) rows)
         (now («row_lower» .entry)) (now («row_upper» .entry)) (now («row_lower» .exit)) (now («row_upper» .exit))) ⌝ }
 {
     let sentinel = kept_sentinel(shape);
-    let rows = wide(shape[VARYING_COUNT]);
+    let rows = wide(shape[VARYING_COUNT_AT]);
     runs::fill_f64(row_lower, 0, rows, sentinel.low());
     runs::fill_f64(row_upper, 0, rows, sentinel.high());
 }
@@ -78,10 +77,10 @@ pub fn apply_intervals(
     work: &[f64],
     first: usize,
 )
-    requires { ⌜ RowTable (now shape) table words count × (1024 ≤ length (now «row_lower»)) × (1024 ≤ length (now «row_upper»)) × (704 ≤ length (now work)) × (first + count ≤ 352) ⌝ }
-    ensures { λ _. ⌜ ((rows : List Row) (lower upper : List Float) → length rows ≡ getD (now (shape .entry)) 5 0
+    requires { ⌜ RowTable (now shape) table words count × (rowCeiling ≤ length (now «row_lower»)) × (rowCeiling ≤ length (now «row_upper»)) × (stepWorkLength ≤ length (now work)) × (first + count ≤ uppersAt) ⌝ }
+    ensures { λ _. ⌜ ((rows : List Row) (lower upper : List Float) → length rows ≡ varyingIn (now (shape .entry))
         → BoundsWritten rows lower upper (now («row_lower» .entry)) (now («row_upper» .entry))
-        → BoundsWritten (applyIntervals (entries (λ at. getD (now (shape .entry)) at 0) words table count) (heldFrom (now (work .entry)) first count) rows)
+        → BoundsWritten (applyIntervals (entries (λ at. entryRow (now (shape .entry)) at) words table count) (heldFrom (now (work .entry)) first count) rows)
         lower upper (now («row_lower» .exit)) (now («row_upper» .exit))) ⌝ }
 {
     let mut at = table;

@@ -6,6 +6,7 @@ use mathlib.Core.List.{List, [], map, flatMap}
 use lib.ListN.{length}
 use lib.Seq.{sets}
 use lib.Ieee.{Float}
+use Rattle.layout.specs.Layout.{rowCeiling, elementCeiling, rowStartsLength, shapeLength, stepWorkLength}
 use Rattle.pywr.specs.Programme.{Row}
 use Rattle.pywr.specs.StepIntervals.{Intervals}
 use Rattle.pywr.specs.Step.{stepRows}
@@ -31,13 +32,13 @@ storeOf rowLower rowUpper elements columns rowStarts shape =
 
 -- the runs have room, and are those of a well shaped store
 pub record StepRuns (s : Store) (work : List Float) : Type 0 where
-  pub row-lower-long : 1024 ≤ length (s .rowLower)
-  pub row-upper-long : 1024 ≤ length (s .rowUpper)
-  pub elements-long : 4096 ≤ length (s .elements)
-  pub columns-long : 4096 ≤ length (s .columns)
-  pub row-starts-long : 1025 ≤ length (s .rowStarts)
-  pub shape-long : 19723 ≤ length (s .shape)
-  pub work-long : 704 ≤ length work
+  pub row-lower-long : rowCeiling ≤ length (s .rowLower)
+  pub row-upper-long : rowCeiling ≤ length (s .rowUpper)
+  pub elements-long : elementCeiling ≤ length (s .elements)
+  pub columns-long : elementCeiling ≤ length (s .columns)
+  pub row-starts-long : rowStartsLength ≤ length (s .rowStarts)
+  pub shape-long : shapeLength ≤ length (s .shape)
+  pub work-long : stepWorkLength ≤ length work
   pub well-shaped : wellShaped s ≡ true
 
 -- the varying rows of a store after the intervals were applied

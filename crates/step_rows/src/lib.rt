@@ -1,21 +1,20 @@
 // The varying rows of a step: reset to the sentinels, then tightened by the intervals of the nodes, the aggregates and the virtual
 // storages (BuiltSolver::update of builder.rs).
+use layout::AGGREGATE_COUNT_AT;
+use layout::AGGREGATE_WIDTH;
+use layout::AGGREGATES_AT;
+use layout::AGGREGATES_HELD_AT;
+use layout::VIRTUAL_STORAGE_COUNT_AT;
+use layout::VIRTUAL_STORAGE_WIDTH;
+use layout::VIRTUAL_STORAGES_AT;
+use layout::VIRTUAL_STORAGES_HELD_AT;
 use step_node_rows::update_node_constraint_bounds;
 use step_row_bounds::apply_intervals;
 use step_row_bounds::reset_row_bounds;
-use store_shape::AGGREGATE_COUNT;
-use store_shape::AGGREGATES_AT;
-use store_shape::VIRTUAL_STORAGE_COUNT;
-use store_shape::VIRTUAL_STORAGES_AT;
 use store_shape::wide;
 ghost use Rattle.pywr.specs.StepIntervals.{Intervals};
 ghost use Rattle.pywr.specs.Store.{Store};
 ghost use Rattle.step_rows.specs.ConstraintBounds.{storeOf, StepRuns, StepWritten, HasRuns, HeldIn};
-
-// Where the intervals of the aggregates and of the virtual storages start in the work run.
-const GROUPS_HELD_AT: usize = 256;
-
-const STORES_HELD_AT: usize = 320;
 
 pub fn update_constraint_bounds(
     row_lower: &mut [f64],
@@ -42,26 +41,26 @@ pub fn update_constraint_bounds(
         shape,
         work,
     );
-    let aggregates = wide(shape[AGGREGATE_COUNT]);
+    let aggregates = wide(shape[AGGREGATE_COUNT_AT]);
     apply_intervals(
         row_lower,
         row_upper,
         shape,
         AGGREGATES_AT,
-        1,
+        AGGREGATE_WIDTH,
         aggregates,
         work,
-        GROUPS_HELD_AT,
+        AGGREGATES_HELD_AT,
     );
-    let virtual_storages = wide(shape[VIRTUAL_STORAGE_COUNT]);
+    let virtual_storages = wide(shape[VIRTUAL_STORAGE_COUNT_AT]);
     apply_intervals(
         row_lower,
         row_upper,
         shape,
         VIRTUAL_STORAGES_AT,
-        6,
+        VIRTUAL_STORAGE_WIDTH,
         virtual_storages,
         work,
-        STORES_HELD_AT,
+        VIRTUAL_STORAGES_HELD_AT,
     );
 }

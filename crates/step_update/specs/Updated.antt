@@ -2,22 +2,23 @@
 use mathlib.Core.Path.{_≡_}
 use mathlib.Core.Bool.{true}
 use mathlib.Core.List.{List}
-use Prim.Native.Nat.{ℕ, _+_, _*_, _≤_}
-use lib.ListN.{length, getD}
+use Prim.Native.Nat.{ℕ, _≤_}
+use lib.ListN.{length}
 use lib.Seq.{sets}
 use lib.Ieee.{Float}
-use Rattle.pywr.specs.Store.{Store, edgeCount, columnCount, edgesAt, shapeOf}
+use Rattle.layout.specs.Layout.{nodeCeiling, edgeCeiling, setCeiling, columnCeiling, shapeLength, edgesAt, edgeWidth, nodesIn, edgesIn, edgeColumnsIn, setsIn}
+use Rattle.pywr.specs.Store.{Store, edgeCount, columnCount, shapeOf}
 use Rattle.pywr.specs.Misshapen.{edgeFits, allEntries}
 use Rattle.pywr.specs.Costs.{stepCosts}
 use Rattle.pywr.specs.StepIntervals.{Intervals}
-use Rattle.step_file.specs.Decoded.{decoded}
+use Rattle.step_file.specs.Decoded.{decoded, aggregateStepsAt}
 use Rattle.step_rows.specs.ConstraintBounds.{storeOf, StepRuns, StepWritten, HasRuns, HeldIn}
 
 -- as `update_edge_objectives` asks
 abbrev pub CostsReady : List ℕ → List Float → List ℕ → Type 0
 CostsReady file costs shape =
-    (19723 ≤ length shape) × (640 ≤ length costs) × (getD shape 1 0 ≤ 256) × (getD shape 2 0 ≤ 512) × (getD shape 3 0 ≤ 512) × (getD shape 4 0 ≤ 128)
-    × ((s : Store) → s .shape ≡ shape → allEntries (edgeFits s) 3 edgesAt (edgeCount s) ≡ true) × (12 + 34 * getD shape 1 0 ≤ length file)
+    (shapeLength ≤ length shape) × (columnCeiling ≤ length costs) × (nodesIn shape ≤ nodeCeiling) × (edgesIn shape ≤ edgeCeiling) × (edgeColumnsIn shape ≤ edgeCeiling) × (setsIn shape ≤ setCeiling)
+    × ((s : Store) → s .shape ≡ shape → allEntries (edgeFits s) edgeWidth edgesAt (edgeCount s) ≡ true) × (aggregateStepsAt (nodesIn shape) ≤ length file)
 
 abbrev pub CostsUpdated : List ℕ → List ℕ → List Float → List Float → Type 0
 CostsUpdated file shape costs costs′ =

@@ -1,20 +1,34 @@
 // The virtual storages' intervals of a step, written into the lent work run, and refusal 15.
+use layout::AGGREGATE_COUNT_AT;
+use layout::NODE_COUNT_AT;
+use layout::UPPERS_AT;
+use layout::VIRTUAL_STORAGE_COUNT_AT;
+use layout::VIRTUAL_STORAGE_WIDTH;
+use layout::VIRTUAL_STORAGES_AT;
+use layout::VIRTUAL_STORAGES_HELD_AT;
 use pywr::Answer;
 use pywr::Sentinel;
+use step_record::AGGREGATE_STEP_LENGTH;
+use step_record::DATE_LENGTH;
+use step_record::NODE_STEP_LENGTH;
+use step_record::VIRTUAL_STORAGE_STEP_LENGTH;
 use store_shape::wide;
 ghost use mathlib.Core.Path.{_≡_};
-ghost use Prim.Native.Nat.{_+_, _*_, _≤_};
-ghost use lib.ListN.{length, getD};
-ghost use Rattle.step_file.specs.Decoded.{virtualStorageStepsAt};
+ghost use Prim.Native.Nat.{_≤_};
+ghost use lib.ListN.{length};
+ghost use Rattle.layout.specs.Layout.{nodeCeiling, aggregateCeiling, virtualStorageCeiling, shapeLength, nodesIn, aggregatesIn, virtualStoragesIn, virtualStoragesHeldAt, stepWorkLength};
+ghost use Rattle.step_file.specs.Decoded.{virtualStorageStepsAt, fileLength};
 ghost use Rattle.step_work.specs.Written.{Looked};
 ghost use Rattle.step_virtual_storage_intervals.specs.VirtualStorageIntervals.{virtualStorageNumbered};
 
 // Where the virtual storages' records start: behind the date, the nodes' and the aggregates'.
 fn virtual_storages_at(shape: &[u16]) -> usize
-    requires { ⌜ (19723 ≤ length (now shape)) × (getD (now shape) 1 0 ≤ 256) × (getD (now shape) 9 0 ≤ 64) ⌝ }
-    ensures { λ r. ⌜ r ≡ virtualStorageStepsAt (getD (now (shape .entry)) 1 0) (getD (now (shape .entry)) 9 0) ⌝ }
+    requires { ⌜ (shapeLength ≤ length (now shape)) × (nodesIn (now shape) ≤ nodeCeiling) × (aggregatesIn (now shape) ≤ aggregateCeiling) ⌝ }
+    ensures { λ r. ⌜ r ≡ virtualStorageStepsAt (nodesIn (now (shape .entry))) (aggregatesIn (now (shape .entry))) ⌝ }
 {
-    12 + 34 * wide(shape[store_shape::NODE_COUNT]) + 18 * wide(shape[store_shape::AGGREGATE_COUNT])
+    DATE_LENGTH
+        + NODE_STEP_LENGTH * wide(shape[NODE_COUNT_AT])
+        + AGGREGATE_STEP_LENGTH * wide(shape[AGGREGATE_COUNT_AT])
 }
 
 // The virtual storages' intervals, up to the first whose lower bound is over its upper: 15.
@@ -25,28 +39,28 @@ pub fn find_virtual_storage_intervals(
     sentinel: Sentinel,
     work: &mut [f64],
 ) -> Answer
-    requires { ⌜ (19723 ≤ length (now shape)) × (704 ≤ length (now work)) × (getD (now shape) 1 0 ≤ 256) × (getD (now shape) 9 0 ≤ 64) × (getD (now shape) 10 0 ≤ 32)
-        × (12 + 34 * getD (now shape) 1 0 + 18 * getD (now shape) 9 0 + 26 * getD (now shape) 10 0 ≤ length (now file)) ⌝ }
-    ensures { λ r. ⌜ Looked 15 (virtualStorageNumbered sentinel days (now (shape .entry)) (now (file .entry))) 320 (getD (now (shape .entry)) 10 0) (now (work .entry)) r (now (work .exit)) ⌝ }
+    requires { ⌜ (shapeLength ≤ length (now shape)) × (stepWorkLength ≤ length (now work)) × (nodesIn (now shape) ≤ nodeCeiling) × (aggregatesIn (now shape) ≤ aggregateCeiling) × (virtualStoragesIn (now shape) ≤ virtualStorageCeiling)
+        × (fileLength (nodesIn (now shape)) (aggregatesIn (now shape)) (virtualStoragesIn (now shape)) ≤ length (now file)) ⌝ }
+    ensures { λ r. ⌜ Looked 15 (virtualStorageNumbered sentinel days (now (shape .entry)) (now (file .entry))) virtualStoragesHeldAt (virtualStoragesIn (now (shape .entry))) (now (work .entry)) r (now (work .exit)) ⌝ }
 {
     let first = virtual_storages_at(shape);
-    let virtual_storages = wide(shape[store_shape::VIRTUAL_STORAGE_COUNT]);
+    let virtual_storages = wide(shape[VIRTUAL_STORAGE_COUNT_AT]);
     let mut i: usize = 0;
     while i < virtual_storages {
         let x = step_virtual_interval::virtual_storage_interval(
             file,
             shape,
-            store_shape::VIRTUAL_STORAGES_AT + 6 * i,
-            first + 26 * i,
+            VIRTUAL_STORAGES_AT + VIRTUAL_STORAGE_WIDTH * i,
+            first + VIRTUAL_STORAGE_STEP_LENGTH * i,
             days,
             sentinel,
         );
         if step_bounds::is_crossed(x) {
             return Answer::Refused(15, i);
         }
-        let k = 320 + i;
+        let k = VIRTUAL_STORAGES_HELD_AT + i;
         work[k] = x.lower;
-        work[352 + k] = x.upper;
+        work[UPPERS_AT + k] = x.upper;
         i += 1;
     }
     Answer::Accepted

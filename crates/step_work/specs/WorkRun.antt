@@ -1,23 +1,15 @@
--- The intervals of a step as its work run holds them: the lower of an interval at k, its upper at 352 + k;
--- the nodes' from 0, the aggregates' from 256, the virtual storages' from 320. Assumes nothing.
+-- The intervals of a step as its work run holds them: the lower of an interval at k, its upper at uppersAt + k.
+-- Assumes nothing.
 use mathlib.Core.Path.{_≡_}
 use Prim.Native.Nat.{ℕ, _+_}
 use mathlib.Core.List.{List}
 use lib.ListN.{getD}
 use lib.Ieee.{Float}
+use Rattle.layout.specs.Layout.{aggregatesHeldAt, virtualStoragesHeldAt, uppersAt}
 use Rattle.pywr.specs.declared.Interval.{Interval}
 use Rattle.pywr.specs.Numbers.{zero64}
 use Rattle.pywr.specs.StepIntervals.{Intervals}
 use Rattle.pywr.specs.Store.{entries}
-
-abbrev pub uppersAt : ℕ
-uppersAt = 352
-
-abbrev pub aggregatesHeldAt : ℕ
-aggregatesHeldAt = 256
-
-abbrev pub virtualStoragesHeldAt : ℕ
-virtualStoragesHeldAt = 320
 
 unfoldable pub heldAt : List Float → ℕ → Interval
 heldAt work k = record { lower = getD work k zero64; upper = getD work (uppersAt + k) zero64 }

@@ -1,10 +1,15 @@
 // A lent store: whether it has room (16), whether it is well shaped (17), and the columns of one of its rows (18).
+use layout::COLUMN_CEILING;
+use layout::ELEMENT_CEILING;
+use layout::ROW_CEILING;
+use layout::ROW_STARTS_LENGTH;
+use layout::SENTINEL_AT;
+use layout::SHAPE_LENGTH;
 use pywr::RowAnswer;
 use store_node_rows::node_rows_fit;
 use store_rows::columns_rise;
 use store_rows::starts_rise;
 use store_rows::wide_start;
-use store_shape::SENTINEL_CODE;
 use store_shape::aggregates_fit;
 use store_shape::counts_fit;
 use store_shape::edges_fit;
@@ -14,6 +19,7 @@ use store_shape::virtual_storages_fit;
 ghost use mathlib.Core.Path.{_≡_};
 ghost use Prim.Native.Nat.{_≤_};
 ghost use lib.ListN.{length};
+ghost use Rattle.layout.specs.Layout.{elementCeiling, rowStartsLength, shapeLength};
 ghost use Rattle.pywr.specs.Store.{Store, storeHasRoom};
 ghost use Rattle.pywr.specs.Misshapen.{wellShaped};
 ghost use Rattle.store.specs.Reading.{Lengths, RowAnswered, RowRead};
@@ -32,23 +38,23 @@ pub fn has_room(
 ) -> bool
     ensures { λ r. ⌜ ((s : Store) → Lengths s «col_lower» «col_upper» «col_obj_coef» «row_lower» «row_upper» elements columns «row_starts» shape → r ≡ storeHasRoom s) ⌝ }
 {
-    (640 <= col_lower)
-        & (640 <= col_upper)
-        & (640 <= col_obj_coef)
-        & (1024 <= row_lower)
-        & (1024 <= row_upper)
-        & (4096 <= elements)
-        & (4096 <= columns)
-        & (1025 <= row_starts)
-        & (19723 <= shape)
+    (COLUMN_CEILING <= col_lower)
+        & (COLUMN_CEILING <= col_upper)
+        & (COLUMN_CEILING <= col_obj_coef)
+        & (ROW_CEILING <= row_lower)
+        & (ROW_CEILING <= row_upper)
+        & (ELEMENT_CEILING <= elements)
+        & (ELEMENT_CEILING <= columns)
+        & (ROW_STARTS_LENGTH <= row_starts)
+        & (SHAPE_LENGTH <= shape)
 }
 
 // Whether a store with these runs is well shaped; the runs of doubles are not read.
 pub fn well_shaped(columns: &[u16], row_starts: &[u32], shape: &[u16]) -> bool
-    requires { ⌜ (4096 ≤ length (now columns)) × (1025 ≤ length (now «row_starts»)) × (19723 ≤ length (now shape)) ⌝ }
+    requires { ⌜ (elementCeiling ≤ length (now columns)) × (rowStartsLength ≤ length (now «row_starts»)) × (shapeLength ≤ length (now shape)) ⌝ }
     ensures { λ r. ⌜ ((s : Store) → s .columns ≡ now (columns .entry) → s .rowStarts ≡ now («row_starts» .entry) → s .shape ≡ now (shape .entry) → r ≡ wellShaped s) ⌝ }
 {
-    if !(counts_fit(shape) & (shape[SENTINEL_CODE] <= 1)) {
+    if !(counts_fit(shape) & (shape[SENTINEL_AT] <= 1)) {
         return false;
     }
     if !starts_rise(row_starts, shape) {

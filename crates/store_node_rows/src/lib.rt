@@ -1,19 +1,24 @@
 // The node rows of a store: the part of refusal 17 on the node-row table, with "an integer column absent from its row".
+use layout::EDGE_COLUMN_COUNT_AT;
+use layout::NODE_COUNT_AT;
+use layout::NODE_ROW_COUNT_AT;
+use layout::NODE_ROW_ROW;
+use layout::NODE_ROW_SET;
+use layout::NODE_ROW_TYPE;
+use layout::NODE_ROW_WIDTH;
+use layout::NODE_ROWS_AT;
+use layout::SET_COUNT_AT;
+use layout::VARYING_COUNT_AT;
 use pywr::ColumnIndex;
 use store_rows::wide_start;
-use store_shape::EDGE_COLUMN_COUNT;
-use store_shape::NODE_COUNT;
-use store_shape::NODE_ROW_COUNT;
-use store_shape::NODE_ROWS_AT;
-use store_shape::SET_COUNT;
-use store_shape::VARYING_COUNT;
 use store_shape::wide;
 ghost use mathlib.Core.Path.{_≡_};
 ghost use Prim.Native.Nat.{_+_, _≤_};
-ghost use lib.ListN.{length, getD};
+ghost use lib.ListN.{length};
 ghost use lib.Seq.{slice};
+ghost use Rattle.layout.specs.Layout.{nodeRowCeiling, shapeLength, nodeRowsAt, nodeRowWidth, nodeRowsIn};
 ghost use Rattle.pywr.specs.Network.{listed};
-ghost use Rattle.pywr.specs.Store.{Store, nodeRowCount, nodeRowsAt};
+ghost use Rattle.pywr.specs.Store.{Store, nodeRowCount};
 ghost use Rattle.pywr.specs.Misshapen.{nodeRowFits, allEntries};
 ghost use Rattle.store_rows.specs.Starts.{RowsWithin};
 
@@ -34,17 +39,17 @@ fn row_holds(columns: &[u16], start: usize, end: usize, column: ColumnIndex) -> 
 
 // A node row: a node, a varying row, a row type, and, unless continuous, a set whose integer column is in the row.
 fn node_row_fits(columns: &[u16], row_starts: &[u32], shape: &[u16], at: usize) -> bool
-    requires { ⌜ RowsWithin (now columns) (now «row_starts») (now shape) × (at + 4 ≤ 19723) ⌝ }
+    requires { ⌜ RowsWithin (now columns) (now «row_starts») (now shape) × (at + nodeRowWidth ≤ shapeLength) ⌝ }
     ensures { λ r. ⌜ ((s : Store) → s .columns ≡ now (columns .entry) → s .rowStarts ≡ now («row_starts» .entry) → s .shape ≡ now (shape .entry)
         → r ≡ nodeRowFits s at) ⌝ }
 {
-    let row = shape[at + 1];
-    let row_type = shape[at + 2];
-    let set = shape[at + 3];
-    if shape[NODE_COUNT] <= shape[at] {
+    let row = shape[at + NODE_ROW_ROW];
+    let row_type = shape[at + NODE_ROW_TYPE];
+    let set = shape[at + NODE_ROW_SET];
+    if shape[NODE_COUNT_AT] <= shape[at] {
         return false;
     }
-    if shape[VARYING_COUNT] <= row {
+    if shape[VARYING_COUNT_AT] <= row {
         return false;
     }
     if 2 < row_type {
@@ -53,7 +58,7 @@ fn node_row_fits(columns: &[u16], row_starts: &[u32], shape: &[u16], at: usize) 
     if row_type == 0 {
         return true;
     }
-    if shape[SET_COUNT] <= set {
+    if shape[SET_COUNT_AT] <= set {
         return false;
     }
     let r = wide(row);
@@ -61,21 +66,21 @@ fn node_row_fits(columns: &[u16], row_starts: &[u32], shape: &[u16], at: usize) 
         columns,
         wide_start(row_starts[r]),
         wide_start(row_starts[r + 1]),
-        ColumnIndex(shape[EDGE_COLUMN_COUNT] + set),
+        ColumnIndex(shape[EDGE_COLUMN_COUNT_AT] + set),
     )
 }
 
 pub fn node_rows_fit(columns: &[u16], row_starts: &[u32], shape: &[u16]) -> bool
-    requires { ⌜ RowsWithin (now columns) (now «row_starts») (now shape) × (getD (now shape) 8 0 ≤ 4352) ⌝ }
+    requires { ⌜ RowsWithin (now columns) (now «row_starts») (now shape) × (nodeRowsIn (now shape) ≤ nodeRowCeiling) ⌝ }
     ensures { λ r. ⌜ ((s : Store) → s .columns ≡ now (columns .entry) → s .rowStarts ≡ now («row_starts» .entry) → s .shape ≡ now (shape .entry)
-        → r ≡ allEntries (nodeRowFits s) 4 nodeRowsAt (nodeRowCount s)) ⌝ }
+        → r ≡ allEntries (nodeRowFits s) nodeRowWidth nodeRowsAt (nodeRowCount s)) ⌝ }
 {
-    let node_rows = wide(shape[NODE_ROW_COUNT]);
+    let node_rows = wide(shape[NODE_ROW_COUNT_AT]);
     let mut at: usize = NODE_ROWS_AT;
     let mut i: usize = 0;
     while i < node_rows {
         if node_row_fits(columns, row_starts, shape, at) {
-            at += 4;
+            at += NODE_ROW_WIDTH;
             i += 1;
         } else {
             return false;

@@ -3,6 +3,7 @@ use mathlib.Core.Path.{_≡_}
 use Prim.Native.Nat.{ℕ, _+_, _<_, _≤_}
 use mathlib.Core.List.{List}
 use lib.ListN.{length, getD}
+use Rattle.layout.specs.Layout.{edgeCeiling, setCeiling, rowCeiling, elementCeiling, rowStartsLength, shapeLength, edgeColumnsIn, setsIn, varyingIn, fixedIn, elementsIn}
 
 pub record StartsRise (rowStarts : List ℕ) (rows kept : ℕ) : Type 0 where
   pub first : getD rowStarts 0 0 ≡ 0
@@ -10,11 +11,11 @@ pub record StartsRise (rowStarts : List ℕ) (rows kept : ℕ) : Type 0 where
   pub last : getD rowStarts rows 0 ≡ kept
 
 pub record RowsWithin (columns rowStarts shape : List ℕ) : Type 0 where
-  pub columns-long : 4096 ≤ length columns
-  pub starts-long : 1025 ≤ length rowStarts
-  pub shape-long : 19723 ≤ length shape
-  pub edge-columns : getD shape 3 0 ≤ 512
-  pub sets : getD shape 4 0 ≤ 128
-  pub rows : getD shape 5 0 + getD shape 6 0 ≤ 1024
-  pub kept : getD shape 7 0 ≤ 4096
-  pub starts : StartsRise rowStarts (getD shape 5 0 + getD shape 6 0) (getD shape 7 0)
+  pub columns-long : elementCeiling ≤ length columns
+  pub starts-long : rowStartsLength ≤ length rowStarts
+  pub shape-long : shapeLength ≤ length shape
+  pub edge-columns : edgeColumnsIn shape ≤ edgeCeiling
+  pub sets : setsIn shape ≤ setCeiling
+  pub rows : varyingIn shape + fixedIn shape ≤ rowCeiling
+  pub kept : elementsIn shape ≤ elementCeiling
+  pub starts : StartsRise rowStarts (varyingIn shape + fixedIn shape) (elementsIn shape)

@@ -1,8 +1,8 @@
 // The rows of a store: the parts of refusal 17 on row starts and columns.
+use layout::EDGE_COLUMN_COUNT_AT;
+use layout::ELEMENT_COUNT_AT;
+use layout::SET_COUNT_AT;
 use pywr::ColumnIndex;
-use store_shape::EDGE_COLUMN_COUNT;
-use store_shape::ELEMENTS_KEPT;
-use store_shape::SET_COUNT;
 use store_shape::row_count;
 use store_shape::wide;
 ghost use mathlib.Core.Path.{_≡_};
@@ -10,6 +10,7 @@ ghost use mathlib.Core.Bool.{_&&_};
 ghost use Prim.Native.Nat.{ℕ, _+_, _≤_, _<_};
 ghost use lib.ListN.{length, getD};
 ghost use lib.Dec.{ltb, eqb};
+ghost use Rattle.layout.specs.Layout.{rowCeiling, elementCeiling, rowStartsLength, shapeLength, varyingIn, fixedIn};
 ghost use Rattle.pywr.specs.Store.{Store, rowCount, startOf};
 ghost use Rattle.pywr.specs.Misshapen.{startsRise, rowColumnsRise, allEntries};
 ghost use Rattle.store_rows.specs.Falls.{fall, fallAt, sumFrom, startFall, rowFall};
@@ -23,7 +24,7 @@ pub fn wide_start(x: u32) -> usize
 
 // "row starts not from 0, falling, or not ending at the element count"
 pub fn starts_rise(row_starts: &[u32], shape: &[u16]) -> bool
-    requires { ⌜ (1025 ≤ length (now «row_starts»)) × (19723 ≤ length (now shape)) × (getD (now shape) 5 0 + getD (now shape) 6 0 ≤ 1024) ⌝ }
+    requires { ⌜ (rowStartsLength ≤ length (now «row_starts»)) × (shapeLength ≤ length (now shape)) × (varyingIn (now shape) + fixedIn (now shape) ≤ rowCeiling) ⌝ }
     ensures { λ r. ⌜ ((s : Store) → s .rowStarts ≡ now («row_starts» .entry) → s .shape ≡ now (shape .entry)
         → r ≡ (eqb (startOf s 0) 0 && startsRise s 0 (rowCount s))) ⌝ }
 {
@@ -34,7 +35,7 @@ pub fn starts_rise(row_starts: &[u32], shape: &[u16]) -> bool
         good = good & (row_starts[r] <= row_starts[r + 1]);
         r += 1;
     }
-    good & (wide_start(row_starts[rows]) == wide(shape[ELEMENTS_KEPT]))
+    good & (wide_start(row_starts[rows]) == wide(shape[ELEMENT_COUNT_AT]))
 }
 
 // Whether each of the first n columns is under the count.
@@ -60,7 +61,7 @@ fn fall_of(before: ColumnIndex, column: ColumnIndex) -> u16
 
 // How often the first n columns fall.
 fn falls(columns: &[u16], n: usize) -> u16
-    requires { ⌜ (n ≤ length (now columns)) × (n ≤ 4096) ⌝ }
+    requires { ⌜ (n ≤ length (now columns)) × (n ≤ elementCeiling) ⌝ }
     ensures { λ r. ⌜ r ≡ sumFrom (fallAt (now (columns .entry))) 0 n ⌝ }
 {
     let mut sum: u16 = 0;
@@ -88,7 +89,7 @@ fn start_fall(columns: &[u16], start: usize, end: usize) -> u16
 
 // How many rows start with a fall.
 fn start_falls(columns: &[u16], row_starts: &[u32], rows: usize) -> u16
-    requires { ⌜ (rows ≤ 1024) × (rows < length (now «row_starts»)) × ((r : ℕ) → r < rows → getD (now «row_starts») (r + 1) 0 ≤ length (now columns)) ⌝ }
+    requires { ⌜ (rows ≤ rowCeiling) × (rows < length (now «row_starts»)) × ((r : ℕ) → r < rows → getD (now «row_starts») (r + 1) 0 ≤ length (now columns)) ⌝ }
     ensures { λ r. ⌜ r ≡ sumFrom (rowFall (now (columns .entry)) (now («row_starts» .entry))) 0 rows ⌝ }
 {
     let mut sum: u16 = 0;
@@ -110,7 +111,11 @@ pub fn columns_rise(columns: &[u16], row_starts: &[u32], shape: &[u16]) -> bool
     ensures { λ r. ⌜ ((s : Store) → s .columns ≡ now (columns .entry) → s .rowStarts ≡ now («row_starts» .entry) → s .shape ≡ now (shape .entry)
         → r ≡ allEntries (rowColumnsRise s) 1 0 (rowCount s)) ⌝ }
 {
-    let kept = wide(shape[ELEMENTS_KEPT]);
-    let under = columns_under(columns, kept, shape[EDGE_COLUMN_COUNT] + shape[SET_COUNT]);
+    let kept = wide(shape[ELEMENT_COUNT_AT]);
+    let under = columns_under(
+        columns,
+        kept,
+        shape[EDGE_COLUMN_COUNT_AT] + shape[SET_COUNT_AT],
+    );
     under & (falls(columns, kept) == start_falls(columns, row_starts, row_count(shape)))
 }

@@ -1,43 +1,57 @@
 // The shape run of a store: its words, and the parts of refusal 17 that read no other run.
+use layout::AGGREGATE_CEILING;
+use layout::AGGREGATE_COUNT_AT;
+use layout::AGGREGATE_WIDTH;
+use layout::AGGREGATES_AT;
+use layout::EDGE_CEILING;
+use layout::EDGE_COLUMN_COUNT_AT;
+use layout::EDGE_COUNT_AT;
+use layout::EDGE_TO;
+use layout::EDGE_WIDTH;
+use layout::EDGES_AT;
+use layout::ELEMENT_CEILING;
+use layout::ELEMENT_COUNT_AT;
+use layout::FIXED_COUNT_AT;
+use layout::MAPPED_COLUMN;
+use layout::NODE_CEILING;
+use layout::NODE_COUNT_AT;
+use layout::NODE_FLAG;
+use layout::NODE_ROW_CEILING;
+use layout::NODE_ROW_COUNT_AT;
+use layout::NODE_WIDTH;
+use layout::NODES_AT;
+use layout::PERIOD_FLAG;
+use layout::ROW_CEILING;
+use layout::SENTINEL_AT;
+use layout::SET_CEILING;
+use layout::SET_COUNT_AT;
+use layout::VARYING_COUNT_AT;
+use layout::VIRTUAL_STORAGE_CEILING;
+use layout::VIRTUAL_STORAGE_COUNT_AT;
+use layout::VIRTUAL_STORAGE_WIDTH;
+use layout::VIRTUAL_STORAGES_AT;
 use pywr::Sentinel;
 ghost use mathlib.Core.Path.{_≡_};
 ghost use Prim.Native.Nat.{_+_, _≤_, _<_};
-ghost use lib.ListN.{length, getD};
-ghost use Rattle.pywr.specs.Store.{Store, sentinelOf, nodeCount, edgeCount, aggregateCount, virtualStorageCount, nodesAt, edgesAt, aggregatesAt, virtualStoragesAt};
+ghost use lib.ListN.{length};
+ghost use Rattle.layout.specs.Layout.{nodeCeiling, edgeCeiling, aggregateCeiling, virtualStorageCeiling, shapeLength, nodesAt, edgesAt, aggregatesAt, virtualStoragesAt, nodeWidth, edgeWidth, aggregateWidth, virtualStorageWidth, sentinelIn, nodesIn, edgesIn, varyingIn, fixedIn, aggregatesIn, virtualStoragesIn};
+ghost use Rattle.pywr.specs.Store.{Store, sentinelOf, nodeCount, edgeCount, aggregateCount, virtualStorageCount};
 ghost use Rattle.pywr.specs.Misshapen.{countsFit, nodeFits, edgeFits, aggregateFits, virtualStorageFits, allEntries};
 
-// The words of the shape run: the sentinel's code, the counts, and where each table starts.
-pub const SENTINEL_CODE: usize = 0;
+// The ceilings in the width of the words.
+const NODE_CEILING_WORD: u16 = NODE_CEILING as u16;
 
-pub const NODE_COUNT: usize = 1;
+const EDGE_CEILING_WORD: u16 = EDGE_CEILING as u16;
 
-pub const EDGE_COUNT: usize = 2;
+const SET_CEILING_WORD: u16 = SET_CEILING as u16;
 
-pub const EDGE_COLUMN_COUNT: usize = 3;
+const ELEMENT_CEILING_WORD: u16 = ELEMENT_CEILING as u16;
 
-pub const SET_COUNT: usize = 4;
+const NODE_ROW_CEILING_WORD: u16 = NODE_ROW_CEILING as u16;
 
-pub const VARYING_COUNT: usize = 5;
+const AGGREGATE_CEILING_WORD: u16 = AGGREGATE_CEILING as u16;
 
-pub const FIXED_COUNT: usize = 6;
-
-pub const ELEMENTS_KEPT: usize = 7;
-
-pub const NODE_ROW_COUNT: usize = 8;
-
-pub const AGGREGATE_COUNT: usize = 9;
-
-pub const VIRTUAL_STORAGE_COUNT: usize = 10;
-
-pub const NODES_AT: usize = 11;
-
-pub const EDGES_AT: usize = 523;
-
-pub const NODE_ROWS_AT: usize = 2059;
-
-pub const AGGREGATES_AT: usize = 19467;
-
-pub const VIRTUAL_STORAGES_AT: usize = 19531;
+const VIRTUAL_STORAGE_CEILING_WORD: u16 = VIRTUAL_STORAGE_CEILING as u16;
 
 pub fn wide(x: u16) -> usize
     ensures { λ r. ⌜ (r ≡ x) × (r < 65536) ⌝ }
@@ -47,10 +61,10 @@ pub fn wide(x: u16) -> usize
 
 // The sentinel that the store keeps.
 pub fn kept_sentinel(shape: &[u16]) -> Sentinel
-    requires { ⌜ 19723 ≤ length (now shape) ⌝ }
-    ensures { λ r. ⌜ r ≡ sentinelOf (getD (now (shape .entry)) 0 0) ⌝ }
+    requires { ⌜ shapeLength ≤ length (now shape) ⌝ }
+    ensures { λ r. ⌜ r ≡ sentinelOf (sentinelIn (now (shape .entry))) ⌝ }
 {
-    if shape[SENTINEL_CODE] == 0 {
+    if shape[SENTINEL_AT] == 0 {
         Sentinel::Infinity
     } else {
         Sentinel::Largest
@@ -59,40 +73,40 @@ pub fn kept_sentinel(shape: &[u16]) -> Sentinel
 
 // The varying rows and the fixed ones.
 pub fn row_count(shape: &[u16]) -> usize
-    requires { ⌜ 19723 ≤ length (now shape) ⌝ }
-    ensures { λ r. ⌜ r ≡ getD (now (shape .entry)) 5 0 + getD (now (shape .entry)) 6 0 ⌝ }
+    requires { ⌜ shapeLength ≤ length (now shape) ⌝ }
+    ensures { λ r. ⌜ r ≡ varyingIn (now (shape .entry)) + fixedIn (now (shape .entry)) ⌝ }
 {
-    wide(shape[VARYING_COUNT]) + wide(shape[FIXED_COUNT])
+    wide(shape[VARYING_COUNT_AT]) + wide(shape[FIXED_COUNT_AT])
 }
 
 // "a count over its ceiling"
 pub fn counts_fit(shape: &[u16]) -> bool
-    requires { ⌜ 19723 ≤ length (now shape) ⌝ }
+    requires { ⌜ shapeLength ≤ length (now shape) ⌝ }
     ensures { λ r. ⌜ ((s : Store) → s .shape ≡ now (shape .entry) → r ≡ countsFit s) ⌝ }
 {
-    (shape[NODE_COUNT] <= 256)
-        & (shape[EDGE_COUNT] <= 512)
-        & (shape[EDGE_COLUMN_COUNT] <= 512)
-        & (shape[SET_COUNT] <= 128)
-        & (row_count(shape) <= 1024)
-        & (shape[ELEMENTS_KEPT] <= 4096)
-        & (shape[NODE_ROW_COUNT] <= 4352)
-        & (shape[AGGREGATE_COUNT] <= 64)
-        & (shape[VIRTUAL_STORAGE_COUNT] <= 32)
+    (shape[NODE_COUNT_AT] <= NODE_CEILING_WORD)
+        & (shape[EDGE_COUNT_AT] <= EDGE_CEILING_WORD)
+        & (shape[EDGE_COLUMN_COUNT_AT] <= EDGE_CEILING_WORD)
+        & (shape[SET_COUNT_AT] <= SET_CEILING_WORD)
+        & (row_count(shape) <= ROW_CEILING)
+        & (shape[ELEMENT_COUNT_AT] <= ELEMENT_CEILING_WORD)
+        & (shape[NODE_ROW_COUNT_AT] <= NODE_ROW_CEILING_WORD)
+        & (shape[AGGREGATE_COUNT_AT] <= AGGREGATE_CEILING_WORD)
+        & (shape[VIRTUAL_STORAGE_COUNT_AT] <= VIRTUAL_STORAGE_CEILING_WORD)
 }
 
 // "a kind, flag .. out of range". Each table is looked at whole, with no way out of the loop, so that the compiler can vectorise it.
 pub fn nodes_fit(shape: &[u16]) -> bool
-    requires { ⌜ (19723 ≤ length (now shape)) × (getD (now shape) 1 0 ≤ 256) ⌝ }
-    ensures { λ r. ⌜ ((s : Store) → s .shape ≡ now (shape .entry) → r ≡ allEntries (nodeFits s) 2 nodesAt (nodeCount s)) ⌝ }
+    requires { ⌜ (shapeLength ≤ length (now shape)) × (nodesIn (now shape) ≤ nodeCeiling) ⌝ }
+    ensures { λ r. ⌜ ((s : Store) → s .shape ≡ now (shape .entry) → r ≡ allEntries (nodeFits s) nodeWidth nodesAt (nodeCount s)) ⌝ }
 {
-    let nodes = wide(shape[NODE_COUNT]);
+    let nodes = wide(shape[NODE_COUNT_AT]);
     let mut good = true;
     let mut at: usize = NODES_AT;
     let mut i: usize = 0;
     while i < nodes {
-        good = good & ((shape[at] <= 3) & (shape[at + 1] <= 1));
-        at += 2;
+        good = good & ((shape[at] <= 3) & (shape[at + NODE_FLAG] <= 1));
+        at += NODE_WIDTH;
         i += 1;
     }
     good
@@ -100,18 +114,21 @@ pub fn nodes_fit(shape: &[u16]) -> bool
 
 // An edge: two nodes and a column.
 pub fn edges_fit(shape: &[u16]) -> bool
-    requires { ⌜ (19723 ≤ length (now shape)) × (getD (now shape) 2 0 ≤ 512) ⌝ }
-    ensures { λ r. ⌜ ((s : Store) → s .shape ≡ now (shape .entry) → r ≡ allEntries (edgeFits s) 3 edgesAt (edgeCount s)) ⌝ }
+    requires { ⌜ (shapeLength ≤ length (now shape)) × (edgesIn (now shape) ≤ edgeCeiling) ⌝ }
+    ensures { λ r. ⌜ ((s : Store) → s .shape ≡ now (shape .entry) → r ≡ allEntries (edgeFits s) edgeWidth edgesAt (edgeCount s)) ⌝ }
 {
-    let nodes = shape[NODE_COUNT];
-    let columns = shape[EDGE_COLUMN_COUNT];
-    let edges = wide(shape[EDGE_COUNT]);
+    let nodes = shape[NODE_COUNT_AT];
+    let columns = shape[EDGE_COLUMN_COUNT_AT];
+    let edges = wide(shape[EDGE_COUNT_AT]);
     let mut good = true;
     let mut at: usize = EDGES_AT;
     let mut i: usize = 0;
     while i < edges {
-        good = good & ((shape[at] < nodes) & (shape[at + 1] < nodes) & (shape[at + 2] < columns));
-        at += 3;
+        good = good
+            & ((shape[at] < nodes)
+                & (shape[at + EDGE_TO] < nodes)
+                & (shape[at + MAPPED_COLUMN] < columns));
+        at += EDGE_WIDTH;
         i += 1;
     }
     good
@@ -119,17 +136,17 @@ pub fn edges_fit(shape: &[u16]) -> bool
 
 // An aggregate: a varying row.
 pub fn aggregates_fit(shape: &[u16]) -> bool
-    requires { ⌜ (19723 ≤ length (now shape)) × (getD (now shape) 9 0 ≤ 64) ⌝ }
-    ensures { λ r. ⌜ ((s : Store) → s .shape ≡ now (shape .entry) → r ≡ allEntries (aggregateFits s) 1 aggregatesAt (aggregateCount s)) ⌝ }
+    requires { ⌜ (shapeLength ≤ length (now shape)) × (aggregatesIn (now shape) ≤ aggregateCeiling) ⌝ }
+    ensures { λ r. ⌜ ((s : Store) → s .shape ≡ now (shape .entry) → r ≡ allEntries (aggregateFits s) aggregateWidth aggregatesAt (aggregateCount s)) ⌝ }
 {
-    let varying = shape[VARYING_COUNT];
-    let aggregates = wide(shape[AGGREGATE_COUNT]);
+    let varying = shape[VARYING_COUNT_AT];
+    let aggregates = wide(shape[AGGREGATE_COUNT_AT]);
     let mut good = true;
     let mut at: usize = AGGREGATES_AT;
     let mut i: usize = 0;
     while i < aggregates {
         good = good & (shape[at] < varying);
-        at += 1;
+        at += AGGREGATE_WIDTH;
         i += 1;
     }
     good
@@ -137,17 +154,17 @@ pub fn aggregates_fit(shape: &[u16]) -> bool
 
 // A virtual storage: a varying row, and whether it has a period.
 pub fn virtual_storages_fit(shape: &[u16]) -> bool
-    requires { ⌜ (19723 ≤ length (now shape)) × (getD (now shape) 10 0 ≤ 32) ⌝ }
-    ensures { λ r. ⌜ ((s : Store) → s .shape ≡ now (shape .entry) → r ≡ allEntries (virtualStorageFits s) 6 virtualStoragesAt (virtualStorageCount s)) ⌝ }
+    requires { ⌜ (shapeLength ≤ length (now shape)) × (virtualStoragesIn (now shape) ≤ virtualStorageCeiling) ⌝ }
+    ensures { λ r. ⌜ ((s : Store) → s .shape ≡ now (shape .entry) → r ≡ allEntries (virtualStorageFits s) virtualStorageWidth virtualStoragesAt (virtualStorageCount s)) ⌝ }
 {
-    let varying = shape[VARYING_COUNT];
-    let virtual_storages = wide(shape[VIRTUAL_STORAGE_COUNT]);
+    let varying = shape[VARYING_COUNT_AT];
+    let virtual_storages = wide(shape[VIRTUAL_STORAGE_COUNT_AT]);
     let mut good = true;
     let mut at: usize = VIRTUAL_STORAGES_AT;
     let mut i: usize = 0;
     while i < virtual_storages {
-        good = good & ((shape[at] < varying) & (shape[at + 1] <= 1));
-        at += 6;
+        good = good & ((shape[at] < varying) & (shape[at + PERIOD_FLAG] <= 1));
+        at += VIRTUAL_STORAGE_WIDTH;
         i += 1;
     }
     good

@@ -8,6 +8,15 @@
 //   Z 0 0   sets the whole store to zero, as it is at the start
 // A build and a step answer by the line A, or N with the refusal's number and place. The work run is lent as ones: where it is not all zero
 // after a step, the line `work` says how many of its elements are not.
+use layout::EDGE_COLUMN_COUNT_AT;
+use layout::ELEMENT_CEILING;
+use layout::ELEMENT_COUNT_AT;
+use layout::FIXED_COUNT_AT;
+use layout::ROW_STARTS_LENGTH;
+use layout::SET_COUNT_AT;
+use layout::SHAPE_LENGTH;
+use layout::STEP_WORK_LENGTH;
+use layout::VARYING_COUNT_AT;
 use program_store::Runs;
 use pywr::Answer;
 use pywr::Sentinel;
@@ -124,7 +133,7 @@ fn step(file: &[u8], short: u16, store: Runs) -> Runs {
     let columns = store.columns;
     let row_starts = store.row_starts;
     let shape = store.shape;
-    let mut work = [1.0f64; 704];
+    let mut work = [1.0f64; STEP_WORK_LENGTH];
     let answer = built_solver::step(
         file,
         front_f64(&col_lower, short == 0),
@@ -162,7 +171,7 @@ fn print_change(run: &[u8], at: usize, old: u32, new: u16) {
 }
 
 fn change_shape(mut store: Runs, at: usize, word: u16) -> Runs {
-    if at < 19723 {
+    if at < SHAPE_LENGTH {
         print_change(b"shape", at, store.shape[at] as u32, word);
         store.shape[at] = word;
     }
@@ -170,7 +179,7 @@ fn change_shape(mut store: Runs, at: usize, word: u16) -> Runs {
 }
 
 fn change_column(mut store: Runs, at: usize, column: u16) -> Runs {
-    if at < 4096 {
+    if at < ELEMENT_CEILING {
         print_change(b"column", at, store.columns[at] as u32, column);
         store.columns[at] = column;
     }
@@ -178,7 +187,7 @@ fn change_column(mut store: Runs, at: usize, column: u16) -> Runs {
 }
 
 fn change_start(mut store: Runs, at: usize, start: u16) -> Runs {
-    if at < 1025 {
+    if at < ROW_STARTS_LENGTH {
         print_change(b"start", at, store.row_starts[at], start);
         store.row_starts[at] = start as u32;
     }
@@ -192,10 +201,10 @@ fn print_sum(a: u16, b: u16) {
 // The counts that the shape run starts with: columns of edges and of sets, varying and fixed rows, elements.
 fn print_counts(store: Runs) {
     io::write_all(1, b"P");
-    print_sum(store.shape[3], store.shape[4]);
-    print_sum(store.shape[5], store.shape[6]);
-    print_sum(store.shape[5], 0);
-    print_sum(store.shape[7], 0);
+    print_sum(store.shape[EDGE_COLUMN_COUNT_AT], store.shape[SET_COUNT_AT]);
+    print_sum(store.shape[VARYING_COUNT_AT], store.shape[FIXED_COUNT_AT]);
+    print_sum(store.shape[VARYING_COUNT_AT], 0);
+    print_sum(store.shape[ELEMENT_COUNT_AT], 0);
     io::write_all(1, b"\n");
 }
 

@@ -2,21 +2,67 @@
 // A line is what was changed, then the number and the place of the answer and the length of the part.
 ghost use mathlib.Core.Path.{_≡_};
 ghost use lib.ListN.{length};
+ghost use Rattle.layout.specs.Layout.{elementCeiling, rowStartsLength, shapeLength};
+use layout::AGGREGATE_CEILING;
+use layout::AGGREGATE_COUNT_AT;
+use layout::AGGREGATES_AT;
+use layout::COLUMN_CEILING;
+use layout::EDGE_CEILING;
+use layout::EDGE_COLUMN_COUNT_AT;
+use layout::EDGE_COUNT_AT;
+use layout::EDGE_TO;
+use layout::EDGES_AT;
+use layout::ELEMENT_CEILING;
+use layout::ELEMENT_COUNT_AT;
+use layout::FIXED_COUNT_AT;
+use layout::MAPPED_COLUMN;
+use layout::NODE_CEILING;
+use layout::NODE_COUNT_AT;
+use layout::NODE_FLAG;
+use layout::NODE_ROW_CEILING;
+use layout::NODE_ROW_COUNT_AT;
+use layout::NODE_ROW_ROW;
+use layout::NODE_ROW_SET;
+use layout::NODE_ROW_TYPE;
+use layout::NODE_ROW_WIDTH;
+use layout::NODE_ROWS_AT;
+use layout::NODE_WIDTH;
+use layout::NODES_AT;
+use layout::PERIOD_END_DAY;
+use layout::PERIOD_END_MONTH;
+use layout::PERIOD_FLAG;
+use layout::PERIOD_START_DAY;
+use layout::PERIOD_START_MONTH;
+use layout::ROW_CEILING;
+use layout::ROW_STARTS_LENGTH;
+use layout::SENTINEL_AT;
+use layout::SET_CEILING;
+use layout::SET_COUNT_AT;
+use layout::SHAPE_LENGTH;
+use layout::VARYING_COUNT_AT;
+use layout::VIRTUAL_STORAGE_CEILING;
+use layout::VIRTUAL_STORAGE_COUNT_AT;
+use layout::VIRTUAL_STORAGES_AT;
+
+// The second entries of the tables of nodes and of node rows.
+const SECOND_NODE: usize = NODES_AT + NODE_WIDTH;
+
+const SECOND_NODE_ROW: usize = NODE_ROWS_AT + NODE_ROW_WIDTH;
 
 // Two nodes with an edge, one edge column and one set. Varying rows: 0 with column 0, and 1 with columns 0 and 1, the set's.
 // Fixed rows: 2 with column 0, and 3 with none.
-fn small_columns() -> [u16; 4096]
-    ensures { λ r. ⌜ 4096 ≡ length r ⌝ }
+fn small_columns() -> [u16; ELEMENT_CEILING]
+    ensures { λ r. ⌜ elementCeiling ≡ length r ⌝ }
 {
-    let mut columns = [0u16; 4096];
+    let mut columns = [0u16; ELEMENT_CEILING];
     columns[2] = 1;
     columns
 }
 
-fn small_starts() -> [u32; 1025]
-    ensures { λ r. ⌜ 1025 ≡ length r ⌝ }
+fn small_starts() -> [u32; ROW_STARTS_LENGTH]
+    ensures { λ r. ⌜ rowStartsLength ≡ length r ⌝ }
 {
-    let mut starts = [0u32; 1025];
+    let mut starts = [0u32; ROW_STARTS_LENGTH];
     starts[1] = 1;
     starts[2] = 3;
     starts[3] = 4;
@@ -25,30 +71,30 @@ fn small_starts() -> [u32; 1025]
 }
 
 // Node 0 has row 0 and, as a binary upper row, row 1. The aggregate and the virtual storage, which has a period, have row 0.
-fn small_shape() -> [u16; 19723]
-    ensures { λ r. ⌜ 19723 ≡ length r ⌝ }
+fn small_shape() -> [u16; SHAPE_LENGTH]
+    ensures { λ r. ⌜ shapeLength ≡ length r ⌝ }
 {
-    let mut shape = [0u16; 19723];
-    shape[1] = 2;
-    shape[2] = 1;
-    shape[3] = 1;
-    shape[4] = 1;
-    shape[5] = 2;
-    shape[6] = 2;
-    shape[7] = 4;
-    shape[8] = 2;
-    shape[9] = 1;
-    shape[10] = 1;
-    shape[13] = 1;
-    shape[14] = 1;
-    shape[524] = 1;
-    shape[2064] = 1;
-    shape[2065] = 1;
-    shape[19532] = 1;
-    shape[19533] = 4;
-    shape[19534] = 1;
-    shape[19535] = 9;
-    shape[19536] = 30;
+    let mut shape = [0u16; SHAPE_LENGTH];
+    shape[NODE_COUNT_AT] = 2;
+    shape[EDGE_COUNT_AT] = 1;
+    shape[EDGE_COLUMN_COUNT_AT] = 1;
+    shape[SET_COUNT_AT] = 1;
+    shape[VARYING_COUNT_AT] = 2;
+    shape[FIXED_COUNT_AT] = 2;
+    shape[ELEMENT_COUNT_AT] = 4;
+    shape[NODE_ROW_COUNT_AT] = 2;
+    shape[AGGREGATE_COUNT_AT] = 1;
+    shape[VIRTUAL_STORAGE_COUNT_AT] = 1;
+    shape[SECOND_NODE] = 1;
+    shape[SECOND_NODE + NODE_FLAG] = 1;
+    shape[EDGES_AT + EDGE_TO] = 1;
+    shape[SECOND_NODE_ROW + NODE_ROW_ROW] = 1;
+    shape[SECOND_NODE_ROW + NODE_ROW_TYPE] = 1;
+    shape[VIRTUAL_STORAGES_AT + PERIOD_FLAG] = 1;
+    shape[VIRTUAL_STORAGES_AT + PERIOD_START_MONTH] = 4;
+    shape[VIRTUAL_STORAGES_AT + PERIOD_START_DAY] = 1;
+    shape[VIRTUAL_STORAGES_AT + PERIOD_END_MONTH] = 9;
+    shape[VIRTUAL_STORAGES_AT + PERIOD_END_DAY] = 30;
     shape
 }
 
@@ -87,12 +133,12 @@ fn print_number(n: usize) {
 
 // Reads a row of the store with these runs and runs of zeros; run `short`, if under 9, is one short.
 fn read(columns: &[u16], row_starts: &[u32], shape: &[u16], row: usize, short: usize) {
-    let col_lower = [0.0f64; 640];
-    let col_upper = [0.0f64; 640];
-    let col_obj_coef = [0.0f64; 640];
-    let row_lower = [0.0f64; 1024];
-    let row_upper = [0.0f64; 1024];
-    let elements = [0.0f64; 4096];
+    let col_lower = [0.0f64; COLUMN_CEILING];
+    let col_upper = [0.0f64; COLUMN_CEILING];
+    let col_obj_coef = [0.0f64; COLUMN_CEILING];
+    let row_lower = [0.0f64; ROW_CEILING];
+    let row_upper = [0.0f64; ROW_CEILING];
+    let elements = [0.0f64; ELEMENT_CEILING];
     let mut number: u8 = 0;
     let mut place: usize = 0;
     let part = store::row_columns(
@@ -139,7 +185,7 @@ fn shape_word(at: usize, word: u16) {
     let columns = small_columns();
     let starts = small_starts();
     let mut shape = small_shape();
-    if at < 19723 {
+    if at < SHAPE_LENGTH {
         shape[at] = word;
         io::write_all(1, b"shape");
         print_number(at);
@@ -152,7 +198,7 @@ fn row_start(r: usize, start: u32) {
     let columns = small_columns();
     let mut starts = small_starts();
     let shape = small_shape();
-    if r < 1025 {
+    if r < ROW_STARTS_LENGTH {
         starts[r] = start;
         io::write_all(1, b"start");
         print_number(r);
@@ -165,7 +211,7 @@ fn column(at: usize, column: u16) {
     let mut columns = small_columns();
     let starts = small_starts();
     let shape = small_shape();
-    if at < 4096 {
+    if at < ELEMENT_CEILING {
         columns[at] = column;
         io::write_all(1, b"column");
         print_number(at);
@@ -180,7 +226,7 @@ fn rows() {
     row(2);
     row(3);
     row(4);
-    row(1024);
+    row(ROW_CEILING);
     row(18446744073709551615);
 }
 
@@ -198,45 +244,45 @@ fn short_runs() {
 
 // The other sentinel, neither, each count over its ceiling, and an element count that the starts do not end at.
 fn counts() {
-    shape_word(0, 1);
-    shape_word(0, 2);
-    shape_word(1, 257);
-    shape_word(2, 513);
-    shape_word(3, 513);
-    shape_word(4, 129);
-    shape_word(5, 1023);
-    shape_word(6, 1023);
-    shape_word(7, 4097);
-    shape_word(8, 4353);
-    shape_word(9, 65);
-    shape_word(10, 33);
-    shape_word(7, 3);
+    shape_word(SENTINEL_AT, 1);
+    shape_word(SENTINEL_AT, 2);
+    shape_word(NODE_COUNT_AT, NODE_CEILING as u16 + 1);
+    shape_word(EDGE_COUNT_AT, EDGE_CEILING as u16 + 1);
+    shape_word(EDGE_COLUMN_COUNT_AT, EDGE_CEILING as u16 + 1);
+    shape_word(SET_COUNT_AT, SET_CEILING as u16 + 1);
+    shape_word(VARYING_COUNT_AT, ROW_CEILING as u16 - 1);
+    shape_word(FIXED_COUNT_AT, ROW_CEILING as u16 - 1);
+    shape_word(ELEMENT_COUNT_AT, ELEMENT_CEILING as u16 + 1);
+    shape_word(NODE_ROW_COUNT_AT, NODE_ROW_CEILING as u16 + 1);
+    shape_word(AGGREGATE_COUNT_AT, AGGREGATE_CEILING as u16 + 1);
+    shape_word(VIRTUAL_STORAGE_COUNT_AT, VIRTUAL_STORAGE_CEILING as u16 + 1);
+    shape_word(ELEMENT_COUNT_AT, 3);
 }
 
 // A node's kind and flag; an edge's nodes and column; an aggregate's row; a virtual storage's row and flag.
 fn tables() {
-    shape_word(11, 3);
-    shape_word(11, 4);
-    shape_word(12, 2);
-    shape_word(523, 2);
-    shape_word(524, 2);
-    shape_word(525, 1);
-    shape_word(19467, 1);
-    shape_word(19467, 2);
-    shape_word(19531, 2);
-    shape_word(19532, 0);
-    shape_word(19532, 2);
+    shape_word(NODES_AT, 3);
+    shape_word(NODES_AT, 4);
+    shape_word(NODES_AT + NODE_FLAG, 2);
+    shape_word(EDGES_AT, 2);
+    shape_word(EDGES_AT + EDGE_TO, 2);
+    shape_word(EDGES_AT + MAPPED_COLUMN, 1);
+    shape_word(AGGREGATES_AT, 1);
+    shape_word(AGGREGATES_AT, 2);
+    shape_word(VIRTUAL_STORAGES_AT, 2);
+    shape_word(VIRTUAL_STORAGES_AT + PERIOD_FLAG, 0);
+    shape_word(VIRTUAL_STORAGES_AT + PERIOD_FLAG, 2);
 }
 
 // The second node row: its node, its row (row 0 has no integer column), its type (without a type its set is not read) and its set.
 fn node_rows() {
-    shape_word(2063, 2);
-    shape_word(2064, 2);
-    shape_word(2064, 0);
-    shape_word(2065, 2);
-    shape_word(2065, 3);
-    shape_word(2066, 1);
-    shape_word(2062, 1);
+    shape_word(SECOND_NODE_ROW, 2);
+    shape_word(SECOND_NODE_ROW + NODE_ROW_ROW, 2);
+    shape_word(SECOND_NODE_ROW + NODE_ROW_ROW, 0);
+    shape_word(SECOND_NODE_ROW + NODE_ROW_TYPE, 2);
+    shape_word(SECOND_NODE_ROW + NODE_ROW_TYPE, 3);
+    shape_word(SECOND_NODE_ROW + NODE_ROW_SET, 1);
+    shape_word(NODE_ROWS_AT + NODE_ROW_SET, 1);
 }
 
 // Not from 0; falling; not ending at the element count; row 2 empty and row 3 not; row 2 with columns 1, 0; row 1 with columns 0, 0, 1.

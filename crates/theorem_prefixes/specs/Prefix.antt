@@ -5,23 +5,29 @@ use mathlib.Core.List.{List}
 use mathlib.Core.Bool.{true}
 use lib.ListN.{length, take}
 use lib.Ieee.{Float}
+use Rattle.layout.specs.Layout.{nodeCeiling, edgeCeiling, aggregateCeiling, virtualStorageCeiling, aggregateSetCeiling, partCeiling, setSizeCeiling}
 use Rattle.pywr.specs.declared.Sentinel.{Sentinel}
 use Rattle.pywr.specs.declared.Answer.{Answer}
 use Rattle.pywr.specs.Build.{build}
 use Rattle.pywr.specs.Store.{Store}
 use Rattle.pywr.specs.Calls.{buildAnswer, buildStore, AfterBuild, stepAnswer, stepStore, AfterStep, isAccepted}
+use Rattle.network_node.specs.Node.{nodeLength}
+use Rattle.network_edge.specs.Edge.{edgeLength}
+use Rattle.network_aggregate.specs.AggregatedNode.{setsOffset, membersOffset, memberLength}
+use Rattle.network_virtual_storage.specs.VirtualStorage.{partsOffset, storagePartLength}
 use Rattle.step_file.specs.Decoded.{fileLength}
 
 -- an aggregate with 16 sets of 16 nodes, and a virtual storage with 64 parts
 abbrev pub longestAggregate : ℕ
-longestAggregate = 12 + 16 * (1 + 16 * 2)
+longestAggregate = setsOffset + aggregateSetCeiling * (membersOffset + setSizeCeiling * memberLength)
 
 abbrev pub longestVirtualStorage : ℕ
-longestVirtualStorage = 8 + 64 * 10
+longestVirtualStorage = partsOffset + partCeiling * storagePartLength
 
 -- 63,488 bytes: every record that fits, each at its longest
 abbrev pub longestNetwork : ℕ
-longestNetwork = 256 * 20 + 512 * 6 + 64 * longestAggregate + 32 * longestVirtualStorage
+longestNetwork =
+    nodeCeiling * nodeLength + edgeCeiling * edgeLength + aggregateCeiling * longestAggregate + virtualStorageCeiling * longestVirtualStorage
 
 -- 63,490: a record more is told by its mark
 abbrev pub networkPrefix : ℕ
@@ -29,7 +35,7 @@ networkPrefix = longestNetwork + 2
 
 -- 10,700 bytes
 abbrev pub longestStep : ℕ
-longestStep = fileLength 256 64 32
+longestStep = fileLength nodeCeiling aggregateCeiling virtualStorageCeiling
 
 -- 10,701: a byte more is left over
 abbrev pub stepPrefix : ℕ
