@@ -16,6 +16,7 @@ ghost use Rattle.build_node_row.specs.Tables.{networkOf, EdgeTables};
 ghost use Rattle.build_row.specs.Gathered.{Gathered};
 ghost use Rattle.build_join.specs.JoinedRows.{HoldingVarying, AfterVariableRows};
 ghost use Rattle.build_aggregates.specs.AggregateRows.{aggregateRows, aggregateTable};
+ghost use Rattle.layout.specs.WorkRoom.{WorkRoom};
 use build_append::Filled;
 use build_append::RowsAdded;
 use build_join::VariableRow;
@@ -134,7 +135,7 @@ fn add_aggregate_row(
 ) -> VariableRow
     requires { ⌜ EdgeTables (now s) c (now «first_in») (now «next_in») (now «first_out») (now «next_out») (now «edge_to_col»)
         × (checkAggregate (now s) (c .nodes) at ≡ Next (aggregateEnd (now s) at))
-        × (wordsLength ≤ length (now words)) × (numbersLength ≤ length (now numbers)) × Holding (now words) (now numbers) f ⌝ }
+        × WorkRoom (now words) (now numbers) × Holding (now words) (now numbers) f ⌝ }
     ensures { λ r. ⌜ ((rows : List (List Element)) → RowsHeld (map (freshRow sentinel) rows) (now (words .entry)) (now (numbers .entry)) f
         → AfterVariableRow sentinel rows (aggregateRow (columnMap (networkOf (now (s .entry)) c)) (aggregateAt (now (s .entry)) at))
         (now (words .entry)) r (now (words .exit)) (now (numbers .exit))) ⌝ }
@@ -171,7 +172,7 @@ pub fn create_aggregated_node_constraints(
     f: Filled,
 ) -> RowsAdded
     requires { ⌜ EdgeTables (now s) c (now «first_in») (now «next_in») (now «first_out») (now «next_out») (now «edge_to_col»)
-        × (wordsLength ≤ length (now words)) × (numbersLength ≤ length (now numbers)) × HoldingVarying sentinel (now words) (now numbers) f ⌝ }
+        × WorkRoom (now words) (now numbers) × HoldingVarying sentinel (now words) (now numbers) f ⌝ }
     ensures { λ r. ⌜ ((rows : List (List Element)) → RowsHeld (map (freshRow sentinel) rows) (now (words .entry)) (now (numbers .entry)) f
         → AfterVariableRows sentinel rows (aggregateRows (networkOf (now (s .entry)) c)) aggregatesMadeAt (c .aggregates) aggregateTable
         (now (words .entry)) r (now (words .exit)) (now (numbers .exit))) ⌝ }

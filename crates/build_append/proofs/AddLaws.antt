@@ -7,6 +7,7 @@ use mathlib.Core.List.{List, [], _∷_, _++_, map, flatMap}
 use lib.ListN.{length, getD, take, drop, set, length-append, length-drop, length-set}
 use lib.Seq.{sets, length-sets, length-take-le, getD-take, drop-set-lt}
 use lib.Ieee.{Float}
+use Rattle.layout.specs.Layout.{numbersLength, shapeMadeAt, wordsLength}
 use Rattle.laws.specs.Part.{part}
 use Rattle.laws.proofs.Sets.{sets-next, take-whole, part-same, part-before, part-after}
 use Rattle.laws.proofs.Runs.{map-snoc}
@@ -38,7 +39,7 @@ module _ (columns words₀ words : List ℕ) (at n i : ℕ) (long : n ≤ length
 rows-full : (rows : List Row) (words : List ℕ) (numbers : List Float) → withinCeilings rows ≡ false → AfterRows rows words Full words numbers
 rows-full rows words numbers over = record { held = λ f e. absurd (let z : _≡_ {A = ℕ} 0 1 = cc in omega arith); full = λ e. over; kept = refl }
 
-rows-done : (rows : List Row) (words words′ : List ℕ) (numbers : List Float) (f : Filled) → RowsHeld rows words′ numbers f → drop 5121 words′ ≡ drop 5121 words
+rows-done : (rows : List Row) (words words′ : List ℕ) (numbers : List Float) (f : Filled) → RowsHeld rows words′ numbers f → drop shapeMadeAt words′ ≡ drop shapeMadeAt words
     → AfterRows rows words (Done f) words′ numbers
 rows-done rows words words′ numbers f held kept =
     record { held = λ g e. subst (RowsHeld rows words′ numbers) (same f g e) held; full = λ e. absurd (let z : _≡_ {A = ℕ} 0 1 = cc in omega arith); kept = kept }
@@ -64,7 +65,7 @@ module _ (rows : List Row) (lower upper : Float) (columns words : List ℕ) (num
   pub rows-over : 1024 ≤ r → AfterRows more words Full words numbers
   rows-over h = rows-full more words numbers (over-rows more (omega (arith, length-append rows (row ∷ []), held .rowCount)))
 
-  module _ (longNumbers : 6784 ≤ length numbers) (longColumns : 640 ≤ length columns) (few : n ≤ 640) where
+  module _ (longNumbers : numbersLength ≤ length numbers) (longColumns : 640 ≤ length columns) (few : n ≤ 640) where
     behind : n ≤ length (drop (2048 + e) numbers)
     behind = omega (arith, length-drop (2048 + e) numbers, held-few rows words numbers f held)
 
@@ -75,7 +76,7 @@ module _ (rows : List Row) (lower upper : Float) (columns words : List ℕ) (num
     unfolding elementCount
     elements-over h = rows-full more words numbers (over-elements more (omega (arith, elements-append rows (row ∷ []), held .elementsCount, count)))
 
-    module _ (longWords : 24844 ≤ length words) (fewRows : r < 1024) (fits : e + n ≤ 4096) where
+    module _ (longWords : wordsLength ≤ length words) (fewRows : r < 1024) (fits : e + n ≤ 4096) where
       abbrev cs : List ℕ
       cs = take n columns
 
@@ -150,4 +151,4 @@ module _ (rows : List Row) (lower upper : Float) (columns words : List ℕ) (num
       row-added words′ next ew en =
           rw (ew, en)
           (rows-done more words withRow withBounds (record { rows = r + 1; elements = e + n }) row-held
-          (drop-set-lt 5121 withColumns (4096 + r + 1) (e + n) (omega arith) ∙ drop-sets words cs e 5121 (omega (arith, cs-length))))
+          (drop-set-lt shapeMadeAt withColumns (4096 + r + 1) (e + n) (omega arith) ∙ drop-sets words cs e shapeMadeAt (omega (arith, cs-length))))

@@ -6,6 +6,7 @@ use mathlib.Core.Bool.{false}
 use mathlib.Core.List.{List, [], _∷_, _++_, append-assoc, append-nil}
 use lib.ListN.{drop}
 use lib.Ieee.{Float}
+use Rattle.layout.specs.Layout.{shapeMadeAt}
 use Rattle.pywr.specs.Programme.{Row}
 use Rattle.build_append.specs.LpBuilder.{RowsHeld, Holding, withinCeilings, AfterRows}
 use Rattle.build_append.specs.declared.Filled.{Filled}
@@ -18,7 +19,7 @@ pub record Adding (whole rest : List Row) (words₀ words : List ℕ) (numbers :
   pub rows : List Row
   pub whole-is : whole ≡ rows ++ rest
   pub held : RowsHeld rows words numbers f
-  pub kept : drop 5121 words ≡ drop 5121 words₀
+  pub kept : drop shapeMadeAt words ≡ drop shapeMadeAt words₀
 
 -- what adding these rows promises, whatever rows are held
 abbrev pub Adds : List Row → List ℕ → List Float → Filled → RowsAdded → List ℕ → List Float → Type 0

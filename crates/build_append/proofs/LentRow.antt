@@ -6,6 +6,7 @@ use mathlib.Core.List.{List, [], _∷_}
 use lib.ListN.{length, drop}
 use lib.Ieee.{Float}
 use borrow.Rule.Slice.PartMut.{midOf, putMid, mid-len, same-len-mid}
+use Rattle.layout.specs.Layout.{numbersLength}
 use Rattle.pywr.specs.Rows.{Element}
 use Rattle.build_row.specs.RowBuilder.{gathered}
 use Rattle.build_append.specs.LpBuilder.{Holding}
@@ -16,13 +17,13 @@ use Rattle.build_append.proofs.RowsHeldLaws.{held-few, held-lent, lent-
 use Rattle.build_append.proofs.AddingRows.{Adds, adds-none}
 
 -- there is room for a row of 640 elements
-pub lent-room : (words : List ℕ) (numbers : List Float) (f : Filled) → Holding words numbers f → 6784 ≤ length numbers
+pub lent-room : (words : List ℕ) (numbers : List Float) (f : Filled) → Holding words numbers f → numbersLength ≤ length numbers
     → (2048 + f .elements ≤ length numbers) × (640 ≤ length (midOf (2048 + f .elements) (length numbers - (2048 + f .elements)) numbers))
 lent-room words numbers f h long =
     let few = held-few (h .rows) words numbers f (h .held) in
     (omega arith, omega (arith, mid-len (2048 + f .elements) (length numbers) numbers (omega arith)))
 
-pub lent-long : (numbers ys : List Float) (a : ℕ) → length ys ≡ length (midOf a (length numbers - a) numbers) → 6784 ≤ length numbers → 6784 ≤ length (putMid a (length numbers - a) numbers ys)
+pub lent-long : (numbers ys : List Float) (a : ℕ) → length ys ≡ length (midOf a (length numbers - a) numbers) → numbersLength ≤ length numbers → numbersLength ≤ length (putMid a (length numbers - a) numbers ys)
 lent-long numbers ys a e h = omega (arith, same-len-mid a (length numbers - a) numbers ys e)
 
 module _ (words : List ℕ) (numbers ys : List Float) (f : Filled) (a : ℕ) (e : a ≡ 2048 + f .elements) (ha : a ≤ length numbers) where

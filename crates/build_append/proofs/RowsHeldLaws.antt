@@ -10,6 +10,7 @@ use lib.Dec.{leb}
 use lib.Ieee.{Float}
 use borrow.Author.Tests.{leb-true, le-leb}
 use borrow.Rule.Slice.PartMut.{putMid, take-put}
+use Rattle.layout.specs.Layout.{shapeMadeAt}
 use Rattle.laws.proofs.Sets.{part-same}
 use Rattle.pywr.specs.Programme.{Row}
 use Rattle.pywr.specs.Build.{elementCount}
@@ -42,7 +43,7 @@ held-few rows words numbers f h = (omega (arith, h .rowCount, h .fewRows), omega
 
 -- the rows stand in the words before 5,121 and in the numbers before the next row's elements
 pub held-agrees : (rows : List Row) (words words′ : List ℕ) (numbers numbers′ : List Float) (f : Filled) → RowsHeld rows words numbers f
-    → take 5121 words′ ≡ take 5121 words → take (2048 + f .elements) numbers′ ≡ take (2048 + f .elements) numbers → RowsHeld rows words′ numbers′ f
+    → take shapeMadeAt words′ ≡ take shapeMadeAt words → take (2048 + f .elements) numbers′ ≡ take (2048 + f .elements) numbers → RowsHeld rows words′ numbers′ f
 held-agrees rows words words′ numbers numbers′ f h ew en =
     let end : ℕ = 2048 + f .elements in
     record {
@@ -50,15 +51,15 @@ held-agrees rows words words′ numbers numbers′ f h ew en =
       elementsCount = h .elementsCount;
       fewRows = h .fewRows;
       fewElements = h .fewElements;
-      columns = part-agrees 0 (elementCount rows) 5121 words words′ (omega arith) ew ∙ h .columns;
-      starts = part-agrees 4096 (length rows + 1) 5121 words words′ (omega arith) ew ∙ h .starts;
+      columns = part-agrees 0 (elementCount rows) shapeMadeAt words words′ (omega arith) ew ∙ h .columns;
+      starts = part-agrees 4096 (length rows + 1) shapeMadeAt words words′ (omega arith) ew ∙ h .starts;
       lowers = part-agrees 0 (length rows) end numbers numbers′ (omega arith) en ∙ h .lowers;
       uppers = part-agrees 1024 (length rows) end numbers numbers′ (omega arith) en ∙ h .uppers;
       elements = part-agrees 2048 (elementCount rows) end numbers numbers′ (omega arith) en ∙ h .elements;
     }
 
-pub held-words : (rows : List Row) (words : List ℕ) (numbers : List Float) (f : Filled) (i v : ℕ) → 5121 ≤ i → RowsHeld rows words numbers f → RowsHeld rows (set words i v) numbers f
-held-words rows words numbers f i v hi h = held-agrees rows words (set words i v) numbers numbers f h (take-set-le 5121 words i v hi) refl
+pub held-words : (rows : List Row) (words : List ℕ) (numbers : List Float) (f : Filled) (i v : ℕ) → shapeMadeAt ≤ i → RowsHeld rows words numbers f → RowsHeld rows (set words i v) numbers f
+held-words rows words numbers f i v hi h = held-agrees rows words (set words i v) numbers numbers f h (take-set-le shapeMadeAt words i v hi) refl
 
 -- the part of numbers from the next row's elements on was lent and written
 module _ (numbers ys : List Float) (a : ℕ) (ha : a ≤ length numbers) where

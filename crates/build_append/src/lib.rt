@@ -10,6 +10,7 @@ ghost use Rattle.layout.specs.Layout.{columnCeiling, rowCeiling, elementCeiling
 ghost use Rattle.pywr.specs.Programme.{Row};
 ghost use Rattle.build_row.specs.RowBuilder.{gathered, Rising};
 ghost use Rattle.build_append.specs.LpBuilder.{RowsHeld, AfterRows};
+ghost use Rattle.layout.specs.WorkRoom.{WorkRoom};
 use layout::COLUMN_CEILING;
 use layout::ELEMENT_CEILING;
 use layout::ROW_CEILING;
@@ -73,7 +74,7 @@ pub fn add_fixed_row(
     f: Filled,
     bounds: pywr::Interval,
 ) -> RowsAdded
-    requires { ⌜ (wordsLength ≤ length (now words)) × (numbersLength ≤ length (now numbers)) × (n ≤ columnCeiling) × (f .rows ≤ rowCeiling) × (f .elements ≤ elementCeiling) × Rising (now columns) n ⌝ }
+    requires { ⌜ WorkRoom (now words) (now numbers) × (n ≤ columnCeiling) × (f .rows ≤ rowCeiling) × (f .elements ≤ elementCeiling) × Rising (now columns) n ⌝ }
     ensures { λ r. ⌜ ((rows : List Row) → RowsHeld rows (now (words .entry)) (now (numbers .entry)) f
         → AfterRows (rows ++ (record { lower = bounds .lower; upper = bounds .upper; elements = gathered (now (columns .entry)) (drop (elementsMadeAt + f .elements) (now (numbers .entry))) n } ∷ []))
         (now (words .entry)) r (now (words .exit)) (now (numbers .exit))) ⌝ }

@@ -9,6 +9,7 @@ use lib.ListN.{length, getD, length-append}
 use lib.Dec.{eqb}
 use lib.Ieee.{Float}
 use borrow.Author.Tests.{eq-eqb, ne-eqb}
+use Rattle.layout.specs.Layout.{nodeRowCeiling}
 use Rattle.laws.specs.Linked.{Later, Linked}
 use Rattle.laws.proofs.LinkedLaws.{Walk, walk, walk-end, first-most}
 use Rattle.pywr.specs.declared.Sentinel.{Sentinel}
@@ -85,7 +86,7 @@ module _ (f : ColumnMap) (n : ℕ) (next : List ℕ) (s : Sentinel) where
           ∙ sym (append-assoc (w .asks) two (exclusiveRequests f n (map setOf (step .rest))))
 
       -- there is room for two node rows
-      pub room : length whole ≤ 4352 → r .count + 2 ≤ 4352
+      pub room : length whole ≤ nodeRowCeiling → r .count + 2 ≤ nodeRowCeiling
       room h =
           omega (arith, ap (λ (l : List RowRequest). length l) rest-is, length-append (w .asks ++ two) (exclusiveRequests f n (map setOf (step .rest))), length-append (w .asks) two, exclusive-two f n (setOf (link - 1)), w .rows .counted)
 

@@ -9,6 +9,7 @@ ghost use Rattle.pywr.specs.VaryingRows.{RowRequest, exclusiveRequests};
 ghost use Rattle.build_node_row.specs.Tables.{networkOf, EdgeTables, MembershipTables};
 ghost use Rattle.build_node_row.specs.EdgeColumns.{edgeColumns};
 ghost use Rattle.build_node_table.specs.NodeTable.{NodeRowsHeld, NodeRowsHolding, AfterRequests, requestsBefore, listedRequests};
+ghost use Rattle.layout.specs.WorkRoom.{WorkRoom};
 use build_node_table::NodeRows;
 use build_node_table::NodeRowsAdded;
 use layout::COLUMN_CEILING;
@@ -50,7 +51,7 @@ fn request_bounded_rows(
 ) -> NodeRowsAdded
     requires { ⌜ EdgeTables (now s) c (now «first_in») (now «next_in») (now «first_out») (now «next_out») (now «edge_to_col») × (node .0 < c .nodes)
         × («edge_columns» ≡ edgeColumns (now s) c) × (set < setCeiling)
-        × (wordsLength ≤ length (now words)) × (numbersLength ≤ length (now numbers)) × NodeRowsHolding sentinel (now words) (now numbers) rows × (rows .count + 2 ≤ nodeRowCeiling) ⌝ }
+        × WorkRoom (now words) (now numbers) × NodeRowsHolding sentinel (now words) (now numbers) rows × (rows .count + 2 ≤ nodeRowCeiling) ⌝ }
     ensures { λ r. ⌜ ((asks : List RowRequest) → NodeRowsHeld sentinel asks (now (words .entry)) (now (numbers .entry)) rows
         → AfterRequests sentinel (asks ++ exclusiveRequests (columnMap (networkOf (now (s .entry)) c)) (node .0) (set ∷ [])) r (now (words .exit)) (now (numbers .exit))) ⌝ }
 {
@@ -121,7 +122,7 @@ pub fn request_exclusive_rows(
 ) -> NodeRowsAdded
     requires { ⌜ EdgeTables (now s) c (now «first_in») (now «next_in») (now «first_out») (now «next_out») (now «edge_to_col») × (node .0 < c .nodes)
         × («edge_columns» ≡ edgeColumns (now s) c) × MembershipTables (now s) c (now «first_membership») (now «next_membership»)
-        × (wordsLength ≤ length (now words)) × (numbersLength ≤ length (now numbers))
+        × WorkRoom (now words) (now numbers)
         × NodeRowsHeld sentinel (requestsBefore (columnMap (networkOf (now s) c)) (node .0)) (now words) (now numbers) rows
         × (length (requestsBefore (columnMap (networkOf (now s) c)) (node .0) ++ listedRequests (columnMap (networkOf (now s) c)) (node .0)) ≤ nodeRowCeiling) ⌝ }
     ensures { λ r. ⌜ AfterRequests sentinel (requestsBefore (columnMap (networkOf (now (s .entry)) c)) (node .0) ++ listedRequests (columnMap (networkOf (now (s .entry)) c)) (node .0))

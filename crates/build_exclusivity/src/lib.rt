@@ -17,6 +17,7 @@ ghost use Rattle.build_exclusive_sets.specs.Sets.{setsAt, SetsFit};
 ghost use Rattle.build_append.specs.LpBuilder.{RowsHeld, Holding, AfterRows};
 ghost use Rattle.build_node_row.specs.Tables.{networkOf};
 ghost use Rattle.build_exclusivity.specs.ExclusivityRow.{KnownSets, MapOf, ExclusivityRow};
+ghost use Rattle.layout.specs.WorkRoom.{WorkRoom};
 use build_append::Filled;
 use build_append::RowsAdded;
 use layout::COLUMN_CEILING;
@@ -78,7 +79,7 @@ fn add_exclusivity_row(
 ) -> RowsAdded
     requires { ⌜ SetsFit (now s) (now «set_at») sets × («edge_columns» ≤ edgeCeiling) × (at + setsOffset ≤ length (now s))
         × (aggregateAt (now s) at .exclusive ≡ true → KnownSets (now s) (now «set_at») sets at)
-        × (wordsLength ≤ length (now words)) × (numbersLength ≤ length (now numbers)) × Holding (now words) (now numbers) f ⌝ }
+        × WorkRoom (now words) (now numbers) × Holding (now words) (now numbers) f ⌝ }
     ensures { λ r. ⌜ ((map : ColumnMap) → MapOf (now (s .entry)) (now («set_at» .entry)) sets «edge_columns» map
         → (rows : List Row) → RowsHeld rows (now (words .entry)) (now (numbers .entry)) f
         → AfterRows (rows ++ exclusivityRows map (aggregateAt (now (s .entry)) at ∷ [])) (now (words .entry)) r (now (words .exit)) (now (numbers .exit))) ⌝ }
@@ -123,7 +124,7 @@ pub fn create_mutual_exclusivity_constraints(
     requires { ⌜ Sections (now s) (c .nodes) (c .edges) (c .aggregates) (c .«virtual_storages») (c .«virtual_storages_at»)
         × SetsFit (now s) (now «set_at») sets × (setsAt (now s) (now «set_at») sets ≡ exclusiveSets (networkOf (now s) c))
         × («edge_columns» ≡ ColEdgeMap.columns (networkOf (now s) c) .count) × («edge_columns» ≤ edgeCeiling)
-        × (wordsLength ≤ length (now words)) × (numbersLength ≤ length (now numbers)) × Holding (now words) (now numbers) f ⌝ }
+        × WorkRoom (now words) (now numbers) × Holding (now words) (now numbers) f ⌝ }
     ensures { λ r. ⌜ ((rows : List Row) → RowsHeld rows (now (words .entry)) (now (numbers .entry)) f
         → AfterRows (rows ++ exclusivityRows (columnMap (networkOf (now (s .entry)) c)) (networkOf (now (s .entry)) c .aggregates))
         (now (words .entry)) r (now (words .exit)) (now (numbers .exit))) ⌝ }

@@ -9,6 +9,7 @@ ghost use Rattle.pywr.specs.Build.{programmeOf};
 ghost use Rattle.build_node_row.specs.EdgeColumns.{edgeColumns};
 ghost use Rattle.build_node_row.specs.Tables.{networkOf, EdgeTables, SetTables};
 ghost use Rattle.build_append.specs.LpBuilder.{RowsHeld, Holding, AfterRows};
+ghost use Rattle.layout.specs.WorkRoom.{WorkRoom};
 use build_append::Filled;
 use build_append::RowsAdded;
 use layout::COLUMN_CEILING;
@@ -42,7 +43,7 @@ pub fn add_fixed_rows(
 ) -> RowsAdded
     requires { ⌜ EdgeTables (now s) c (now «first_in») (now «next_in») (now «first_out») (now «next_out») (now «edge_to_col»)
         × SetTables (now s) c (now «set_at») sets (now «first_membership») (now «next_membership») × («edge_columns» ≡ edgeColumns (now s) c)
-        × (wordsLength ≤ length (now words)) × (numbersLength ≤ length (now numbers)) × Holding (now words) (now numbers) f ⌝ }
+        × WorkRoom (now words) (now numbers) × Holding (now words) (now numbers) f ⌝ }
     ensures { λ r. ⌜ ((rows : List Row) → RowsHeld rows (now (words .entry)) (now (numbers .entry)) f
         → AfterRows (rows ++ programmeOf sentinel (networkOf (now (s .entry)) c) .programme .fixed)
         (now (words .entry)) r (now (words .exit)) (now (numbers .exit))) ⌝ }

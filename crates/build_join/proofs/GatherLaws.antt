@@ -7,6 +7,7 @@ use mathlib.Core.List.{List, [], _∷_, map}
 use lib.ListN.{length, drop}
 use lib.Ieee.{Float}
 use borrow.Rule.Slice.PartMut.{putMid}
+use Rattle.layout.specs.Layout.{numbersLength}
 use Rattle.pywr.specs.declared.Sentinel.{Sentinel}
 use Rattle.pywr.specs.Rows.{Element}
 use Rattle.pywr.specs.VaryingRows.{freshRow}
@@ -59,7 +60,7 @@ module _ {A : Type 0} (addAll : List A → List Element → List Element) (read 
 
 -- ---- in the lent part
 
-module _ (words : List ℕ) (numbers : List Float) (f : Filled) (long : 6784 ≤ length numbers) (holding : Holding words numbers f)
+module _ (words : List ℕ) (numbers : List Float) (f : Filled) (long : numbersLength ≤ length numbers) (holding : Holding words numbers f)
     (row : List Element) (columns : List ℕ) (ys : List Float) (n : ℕ) (g : Gathered row columns ys n) where
   abbrev from : ℕ
   from = 2048 + f .elements

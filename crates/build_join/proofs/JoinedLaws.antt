@@ -10,6 +10,7 @@ use lib.ListN.{length, getD, take, drop, length-append, length-map, take-append-
 use lib.Seq.{sets, take-all, drop-drop, length-take-le}
 use lib.Dec.{ltb}
 use lib.Ieee.{Float}
+use Rattle.layout.specs.Layout.{shapeMadeAt}
 use Rattle.laws.specs.Part.{part}
 use Rattle.laws.proofs.Runs.{take-more}
 use Rattle.laws.proofs.Sets.{part-same, part-before}
@@ -88,14 +89,14 @@ module _ (s : Sentinel) (asked rows : List (List Element)) where
 -- ---- parts of the words
 
 -- what stays from 5,121 on stays in each part there
-part-kept : (words words′ : List ℕ) (a n : ℕ) → 5121 ≤ a → drop 5121 words′ ≡ drop 5121 words → part a n words′ ≡ part a n words
+part-kept : (words words′ : List ℕ) (a n : ℕ) → shapeMadeAt ≤ a → drop shapeMadeAt words′ ≡ drop shapeMadeAt words → part a n words′ ≡ part a n words
 part-kept words words′ a n h e =
-    let q : 5121 + (a - 5121) ≡ a = omega arith in
-    let at : (l : List ℕ) → part a n l ≡ take n (drop (a - 5121) (drop 5121 l)) = λ l. ap (take n) (ap (λ (k : ℕ). drop k l) (sym q) ∙ sym (drop-drop (a - 5121) 5121 l)) in
-    at words′ ∙ ap (λ (l : List ℕ). take n (drop (a - 5121) l)) e ∙ sym (at words)
+    let q : shapeMadeAt + (a - shapeMadeAt) ≡ a = omega arith in
+    let at : (l : List ℕ) → part a n l ≡ take n (drop (a - shapeMadeAt) (drop shapeMadeAt l)) = λ l. ap (take n) (ap (λ (k : ℕ). drop k l) (sym q) ∙ sym (drop-drop (a - shapeMadeAt) shapeMadeAt l)) in
+    at words′ ∙ ap (λ (l : List ℕ). take n (drop (a - shapeMadeAt) l)) e ∙ sym (at words)
 
-held-sets : (rows : List Row) (words : List ℕ) (numbers : List Float) (f : Filled) (b : ℕ) (vs : List ℕ) → 5121 ≤ b → RowsHeld rows words numbers f → RowsHeld rows (sets words b vs) numbers f
-held-sets rows words numbers f b vs hb h = held-agrees rows words (sets words b vs) numbers numbers f h (part-before words vs b 0 5121 (omega arith)) refl
+held-sets : (rows : List Row) (words : List ℕ) (numbers : List Float) (f : Filled) (b : ℕ) (vs : List ℕ) → shapeMadeAt ≤ b → RowsHeld rows words numbers f → RowsHeld rows (sets words b vs) numbers f
+held-sets rows words numbers f b vs hb h = held-agrees rows words (sets words b vs) numbers numbers f h (part-before words vs b 0 shapeMadeAt (omega arith)) refl
 
 -- ---- the loop that asks for the rows
 
@@ -107,7 +108,7 @@ module _ (s : Sentinel) (asked : List (List Element)) (at width : ℕ) (table : 
   pub record Asked (i : ℕ) (words : List ℕ) (numbers : List Float) (f : Filled) : Type 0 where
     pub held : RowsHeld (map (freshRow s) (joined (take i asked) rows .rows)) words numbers f
     pub placed : part at (width * i) words ≡ table (joined (take i asked) rows .places)
-    pub kept : part 5121 (at - 5121) words ≡ part 5121 (at - 5121) words₀
+    pub kept : part shapeMadeAt (at - shapeMadeAt) words ≡ part shapeMadeAt (at - shapeMadeAt) words₀
 
   pub asked-none : (numbers : List Float) (f : Filled) → table [] ≡ [] → RowsHeld (map (freshRow s) rows) words₀ numbers f → Asked 0 words₀ numbers f
   unfolding addVariableRows
@@ -125,7 +126,7 @@ module _ (s : Sentinel) (asked : List (List Element)) (at width : ℕ) (table : 
       }
 
   -- row i is asked for
-  module _ (behind : 5121 ≤ at) (i : ℕ) (row : List Element) (words : List ℕ) (numbers : List Float) (f : Filled) (r : VariableRow) (words′ : List ℕ) (numbers′ : List Float)
+  module _ (behind : shapeMadeAt ≤ at) (i : ℕ) (row : List Element) (words : List ℕ) (numbers : List Float) (f : Filled) (r : VariableRow) (words′ : List ℕ) (numbers′ : List Float)
       (lt : i < length asked) (is : getD asked i [] ≡ row) (a : Asked i words numbers f)
       (after : AfterVariableRow s (joined (take i asked) rows .rows) row words r words′ numbers′) where
     rows-are : addVariableRow row (record { rows = joined (take i asked) rows .rows; places = [] }) .rows ≡ joined (take (i + 1) asked) rows .rows
@@ -138,7 +139,7 @@ module _ (s : Sentinel) (asked : List (List Element)) (at width : ℕ) (table : 
           held = λ g q. absurd (let z : _≡_ {A = ℕ} 0 1 = cc in omega arith);
           placed = λ g q. absurd (let z : _≡_ {A = ℕ} 0 1 = cc in omega arith);
           full = λ q. over-later s asked rows (i + 1) (rw rows-are at (after .full e));
-          kept = part-kept words words′ 5121 (at - 5121) (omega arith) (after .kept) ∙ a .kept;
+          kept = part-kept words words′ shapeMadeAt (at - shapeMadeAt) (omega arith) (after .kept) ∙ a .kept;
         }
 
     module _ (k : ℕ) (g : Filled) (e : r ≡ At k g) where
@@ -166,5 +167,5 @@ module _ (s : Sentinel) (asked : List (List Element)) (at width : ℕ) (table : 
                 (part-same words′ entry b width wide room)
                 ∙ sym (more (joined (take i asked) rows .places) (so-far-places s asked rows i (omega arith)))
                 ∙ ap table (sym places-are);
-            kept = part-before words′ entry b 5121 (at - 5121) (omega arith) ∙ part-kept words words′ 5121 (at - 5121) (omega arith) (after .kept) ∙ a .kept;
+            kept = part-before words′ entry b shapeMadeAt (at - shapeMadeAt) (omega arith) ∙ part-kept words words′ shapeMadeAt (at - shapeMadeAt) (omega arith) (after .kept) ∙ a .kept;
           })

@@ -10,6 +10,7 @@ use lib.Seq.{split-at, getD-take, getD-drop, take-at, drop-at, drop-drop, length
 use lib.Dec.{eqb}
 use lib.Ieee.{Float, nan, eq}
 use borrow.Author.Tests.{eq-eqb, ne-eqb}
+use Rattle.layout.specs.Layout.{numbersLength}
 use Rattle.laws.proofs.Runs.{drop-next}
 use Rattle.pywr.specs.Rows.{Element, element}
 use Rattle.pywr.specs.Programme.{Row}
@@ -130,7 +131,7 @@ module _ (words : List ℕ) (numbers : List Float) (f : Filled) (k at next : ℕ
     abbrev row : List Element
     row = gathered columns (drop (2048 + f .elements) numbers) n
 
-    pub length-differs : 6784 ≤ length numbers → n ≤ 640 → n ≤ length columns → (next - at ≡ n → ⊥) → RowEquals words numbers f row k false
+    pub length-differs : numbersLength ≤ length numbers → n ≤ 640 → n ≤ length columns → (next - at ≡ n → ⊥) → RowEquals words numbers f row k false
     length-differs longNumbers few longColumns d rows held =
         let s = row-at rows words numbers f k held lt in
         let behind : n ≤ length (drop (2048 + f .elements) numbers) = omega (arith, length-drop (2048 + f .elements) numbers, held-few rows words numbers f held) in

@@ -13,6 +13,7 @@ ghost use Rattle.build_append.specs.LpBuilder.{elementLists, RowsHeld, Holding}
 ghost use Rattle.pywr.specs.Rows.{Element};
 ghost use Rattle.pywr.specs.VaryingRows.{freshRow};
 ghost use Rattle.build_join.specs.VariableRow.{AfterVariableRow};
+ghost use Rattle.layout.specs.WorkRoom.{WorkRoom};
 use build_append::Filled;
 use build_append::RowsAdded;
 use layout::COLUMN_CEILING;
@@ -68,7 +69,7 @@ fn same_row(
     f: Filled,
     k: usize,
 ) -> bool
-    requires { ⌜ (wordsLength ≤ length (now words)) × (numbersLength ≤ length (now numbers)) × (n ≤ columnCeiling) × (n ≤ length (now columns)) × (k < f .rows) × Holding (now words) (now numbers) f ⌝ }
+    requires { ⌜ WorkRoom (now words) (now numbers) × (n ≤ columnCeiling) × (n ≤ length (now columns)) × (k < f .rows) × Holding (now words) (now numbers) f ⌝ }
     ensures { λ r. ⌜ ((rows : List Row) → RowsHeld rows (now (words .entry)) (now (numbers .entry)) f
         → r ≡ sameRow (getD (elementLists rows) k []) (gathered (now (columns .entry)) (drop (elementsMadeAt + f .elements) (now (numbers .entry))) n)) ⌝ }
 {
@@ -89,7 +90,7 @@ pub fn position(
     n: usize,
     f: Filled,
 ) -> usize
-    requires { ⌜ (wordsLength ≤ length (now words)) × (numbersLength ≤ length (now numbers)) × (n ≤ columnCeiling) × Holding (now words) (now numbers) f ⌝ }
+    requires { ⌜ WorkRoom (now words) (now numbers) × (n ≤ columnCeiling) × Holding (now words) (now numbers) f ⌝ }
     ensures { λ r. ⌜ ((rows : List Row) → RowsHeld rows (now (words .entry)) (now (numbers .entry)) f
         → r ≡ position (gathered (now (columns .entry)) (drop (elementsMadeAt + f .elements) (now (numbers .entry))) n) (elementLists rows)) ⌝ }
 {
@@ -120,7 +121,7 @@ pub fn add_variable_row(
     f: Filled,
     sentinel: pywr::Sentinel,
 ) -> VariableRow
-    requires { ⌜ (wordsLength ≤ length (now words)) × (numbersLength ≤ length (now numbers)) × (n ≤ columnCeiling) × Rising (now columns) n × Holding (now words) (now numbers) f ⌝ }
+    requires { ⌜ WorkRoom (now words) (now numbers) × (n ≤ columnCeiling) × Rising (now columns) n × Holding (now words) (now numbers) f ⌝ }
     ensures { λ r. ⌜ ((rows : List (List Element)) → RowsHeld (map (freshRow sentinel) rows) (now (words .entry)) (now (numbers .entry)) f
         → AfterVariableRow sentinel rows (gathered (now (columns .entry)) (drop (elementsMadeAt + f .elements) (now (numbers .entry))) n)
         (now (words .entry)) r (now (words .exit)) (now (numbers .exit))) ⌝ }

@@ -15,6 +15,7 @@ ghost use Rattle.build_row.specs.EdgeList.{columnsOf, ListedEdges};
 ghost use Rattle.build_append.specs.LpBuilder.{RowsHeld, Holding, AfterRows};
 ghost use Rattle.build_row.specs.Gathered.{Gathered};
 ghost use Rattle.build_node_row.specs.Tables.{networkOf, EdgeTables};
+ghost use Rattle.layout.specs.WorkRoom.{WorkRoom};
 use build_append::Filled;
 use build_append::RowsAdded;
 use layout::COLUMN_CEILING;
@@ -61,7 +62,7 @@ fn add_mass_row(
     f: Filled,
 ) -> RowsAdded
     requires { ⌜ EdgeTables (now s) c (now «first_in») (now «next_in») (now «first_out») (now «next_out») (now «edge_to_col») × (node .0 < c .nodes)
-        × (wordsLength ≤ length (now words)) × (numbersLength ≤ length (now numbers)) × Holding (now words) (now numbers) f ⌝ }
+        × WorkRoom (now words) (now numbers) × Holding (now words) (now numbers) f ⌝ }
     ensures { λ r. ⌜ ((rows : List Row) → RowsHeld rows (now (words .entry)) (now (numbers .entry)) f
         → AfterRows (rows ++ massRowsFrom (columnMap (networkOf (now (s .entry)) c)) (node .0) (nodeAt (now (s .entry)) (nodePlace (node .0)) ∷ []))
         (now (words .entry)) r (now (words .exit)) (now (numbers .exit))) ⌝ }
@@ -113,7 +114,7 @@ pub fn create_mass_balance_constraints(
     f: Filled,
 ) -> RowsAdded
     requires { ⌜ EdgeTables (now s) c (now «first_in») (now «next_in») (now «first_out») (now «next_out») (now «edge_to_col»)
-        × (wordsLength ≤ length (now words)) × (numbersLength ≤ length (now numbers)) × Holding (now words) (now numbers) f ⌝ }
+        × WorkRoom (now words) (now numbers) × Holding (now words) (now numbers) f ⌝ }
     ensures { λ r. ⌜ ((rows : List Row) → RowsHeld rows (now (words .entry)) (now (numbers .entry)) f
         → AfterRows (rows ++ massRowsFrom (columnMap (networkOf (now (s .entry)) c)) 0 (networkOf (now (s .entry)) c .nodes))
         (now (words .entry)) r (now (words .exit)) (now (numbers .exit))) ⌝ }

@@ -10,6 +10,7 @@ ghost use Rattle.pywr.specs.VaryingRows.{RowRequest};
 ghost use Rattle.pywr.specs.Written.{rowTypeWord};
 ghost use Rattle.build_node_row.specs.Tables.{networkOf, EdgeTables};
 ghost use Rattle.build_node_table.specs.NodeTable.{NodeRowsHeld, NodeRowsHolding, AfterRequests};
+ghost use Rattle.layout.specs.WorkRoom.{WorkRoom};
 use build_node_table::NodeRows;
 use build_node_table::NodeRowsAdded;
 use layout::COLUMN_CEILING;
@@ -42,7 +43,7 @@ pub fn request_node_row(
     rows: NodeRows,
 ) -> NodeRowsAdded
     requires { ⌜ EdgeTables (now s) c (now «first_in») (now «next_in») (now «first_out») (now «next_out») (now «edge_to_col») × (node .0 < c .nodes)
-        × (wordsLength ≤ length (now words)) × (numbersLength ≤ length (now numbers)) × NodeRowsHolding sentinel (now words) (now numbers) rows × (rows .count < nodeRowCeiling) ⌝ }
+        × WorkRoom (now words) (now numbers) × NodeRowsHolding sentinel (now words) (now numbers) rows × (rows .count < nodeRowCeiling) ⌝ }
     ensures { λ r. ⌜ ((asks : List RowRequest) → NodeRowsHeld sentinel asks (now (words .entry)) (now (numbers .entry)) rows
         → AfterRequests sentinel (asks ++ (record { node = node .0; rowType = continuous; set = 0; row = nodeRow (columnMap (networkOf (now (s .entry)) c)) (node .0) } ∷ []))
         r (now (words .exit)) (now (numbers .exit))) ⌝ }
@@ -98,7 +99,7 @@ pub fn request_bounded_row(
     rows: NodeRows,
 ) -> NodeRowsAdded
     requires { ⌜ EdgeTables (now s) c (now «first_in») (now «next_in») (now «first_out») (now «next_out») (now «edge_to_col») × (node .0 < c .nodes) × (column .0 < columnCeiling)
-        × (wordsLength ≤ length (now words)) × (numbersLength ≤ length (now numbers)) × NodeRowsHolding sentinel (now words) (now numbers) rows × (rows .count < nodeRowCeiling) ⌝ }
+        × WorkRoom (now words) (now numbers) × NodeRowsHolding sentinel (now words) (now numbers) rows × (rows .count < nodeRowCeiling) ⌝ }
     ensures { λ r. ⌜ ((t : RowType) → rowTypeWord t ≡ «row_type» → (asks : List RowRequest) → NodeRowsHeld sentinel asks (now (words .entry)) (now (numbers .entry)) rows
         → AfterRequests sentinel
         (asks ++ (record { node = node .0; rowType = t; set = set; row = addElement (column .0) coefficient (addNode (columnMap (networkOf (now (s .entry)) c)) (node .0) factor []) } ∷ []))

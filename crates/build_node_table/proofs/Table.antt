@@ -8,6 +8,7 @@ use lib.ListN.{length, take, drop, set, length-append, length-map}
 use lib.Seq.{sets, drop-drop}
 use lib.Ieee.{Float}
 use borrow.Rule.Slice.PartMut.{putMid}
+use Rattle.layout.specs.Layout.{nodeRowsAt, nodeRowsMadeAt, numbersLength, shapeMadeAt}
 use Rattle.laws.specs.Part.{part}
 use Rattle.laws.proofs.Sets.{part-same, part-before}
 use Rattle.pywr.specs.declared.Sentinel.{Sentinel}
@@ -41,11 +42,11 @@ four-words l at a b c d =
     rw (one, two, three)
 
 -- what stays from 5,121 on stays in the table
-table-kept : (words words′ : List ℕ) (n : ℕ) → drop 5121 words′ ≡ drop 5121 words → part 7180 n words′ ≡ part 7180 n words
-table-kept words words′ n e = ap (take n) (sym (drop-drop 2059 5121 words′) ∙ ap (drop 2059) e ∙ drop-drop 2059 5121 words)
+table-kept : (words words′ : List ℕ) (n : ℕ) → drop shapeMadeAt words′ ≡ drop shapeMadeAt words → part nodeRowsMadeAt n words′ ≡ part nodeRowsMadeAt n words
+table-kept words words′ n e = ap (take n) (sym (drop-drop nodeRowsAt shapeMadeAt words′) ∙ ap (drop nodeRowsAt) e ∙ drop-drop nodeRowsAt shapeMadeAt words)
 
-held-sets : (rows : List Row) (words : List ℕ) (numbers : List Float) (f : Filled) (b : ℕ) (vs : List ℕ) → 5121 ≤ b → RowsHeld rows words numbers f → RowsHeld rows (sets words b vs) numbers f
-held-sets rows words numbers f b vs hb h = held-agrees rows words (sets words b vs) numbers numbers f h (part-before words vs b 0 5121 (omega arith)) refl
+held-sets : (rows : List Row) (words : List ℕ) (numbers : List Float) (f : Filled) (b : ℕ) (vs : List ℕ) → shapeMadeAt ≤ b → RowsHeld rows words numbers f → RowsHeld rows (sets words b vs) numbers f
+held-sets rows words numbers f b vs hb h = held-agrees rows words (sets words b vs) numbers numbers f h (part-before words vs b 0 shapeMadeAt (omega arith)) refl
 
 -- ---- the answer's two cases
 
@@ -85,13 +86,13 @@ module _ (s : Sentinel) (asks : List RowRequest) (a : RowRequest) (words : List 
         ∙ ap (λ (p : ℕ). placedNodeRows (asks ++ (a ∷ [])) (joined asks .places ++ (p ∷ []))) (sym (after .place k f e))
         ∙ placed-snoc asks (joined asks .places) a k (joined-places asks)
 
-    pub row-placed : (w t : ℕ) (words₂ : List ℕ) → w ≡ k → rowTypeWord (a .rowType) ≡ t → 7180 + 4 * r .count + 4 ≤ length words₁
-        → words₂ ≡ sets words₁ (7180 + 4 * r .count) (a .node ∷ w ∷ t ∷ a .set ∷ [])
+    pub row-placed : (w t : ℕ) (words₂ : List ℕ) → w ≡ k → rowTypeWord (a .rowType) ≡ t → nodeRowsMadeAt + 4 * r .count + 4 ≤ length words₁
+        → words₂ ≡ sets words₁ (nodeRowsMadeAt + 4 * r .count) (a .node ∷ w ∷ t ∷ a .set ∷ [])
         → AfterRequests s (asks ++ (a ∷ [])) (Done (record { filled = f; count = r .count + 1 })) words₂ numbers₁
     unfolding nodeRowWords
     row-placed w t words₂ ew et room written =
         let entry : List ℕ = nodeRowWords (placedAt a k) in
-        let b : ℕ = 7180 + 4 * r .count in
+        let b : ℕ = nodeRowsMadeAt + 4 * r .count in
         let is : words₂ ≡ sets words₁ b entry = written ∙ rw (ew, ← et) in
         let four : 4 * r .count + 4 ≡ 4 * (r .count + 1) = omega arith in
         requests-done s (asks ++ (a ∷ [])) words₂ numbers₁ (record { filled = f; count = r .count + 1 })
@@ -100,8 +101,8 @@ module _ (s : Sentinel) (asks : List RowRequest) (a : RowRequest) (words : List 
           held = held-sets (map (freshRow s) (joined (asks ++ (a ∷ [])) .rows)) words₁ numbers₁ f b entry (omega arith) (rw rows-are at (after .held k f e));
           counted = sym (length-append asks (a ∷ []) ∙ ap (λ (n : ℕ). n + 1) (sym (h .counted)));
           table =
-              part-more (sets words₁ b entry) (flatMap nodeRowWords (placedNodeRows asks (joined asks .places))) entry 7180 (4 * r .count) b 4 (4 * (r .count + 1)) refl four
-              (part-before words₁ entry b 7180 (4 * r .count) (omega arith) ∙ table-kept words words₁ (4 * r .count) (after .kept) ∙ h .table)
+              part-more (sets words₁ b entry) (flatMap nodeRowWords (placedNodeRows asks (joined asks .places))) entry nodeRowsMadeAt (4 * r .count) b 4 (4 * (r .count + 1)) refl four
+              (part-before words₁ entry b nodeRowsMadeAt (4 * r .count) (omega arith) ∙ table-kept words words₁ (4 * r .count) (after .kept) ∙ h .table)
               (part-same words₁ entry b 4 refl room)
               ∙ sym (ap (flatMap nodeRowWords) placed ∙ flat-snoc nodeRowWords (placedNodeRows asks (joined asks .places)) (placedAt a k));
         }))
@@ -112,7 +113,7 @@ module _ (s : Sentinel) (asks : List RowRequest) (a : RowRequest) (words : List 
 abbrev pub elementsEnd : NodeRows → ℕ
 elementsEnd r = 2048 + r .filled .elements
 
-module _ (s : Sentinel) (asks : List RowRequest) (words : List ℕ) (numbers ys : List Float) (r : NodeRows) (long : 6784 ≤ length numbers) (h : NodeRowsHeld s asks words numbers r) where
+module _ (s : Sentinel) (asks : List RowRequest) (words : List ℕ) (numbers ys : List Float) (r : NodeRows) (long : numbersLength ≤ length numbers) (h : NodeRowsHeld s asks words numbers r) where
   abbrev lent : List Float
   lent = putMid (elementsEnd r) (length numbers - elementsEnd r) numbers ys
 

@@ -10,6 +10,7 @@ ghost use Rattle.pywr.specs.VaryingRows.{RowRequest};
 ghost use Rattle.pywr.specs.Written.{rowTypeWord};
 ghost use Rattle.build_row.specs.RowBuilder.{gathered, Rising};
 ghost use Rattle.build_node_table.specs.NodeTable.{NodeRowsHeld, NodeRowsHolding, AfterRequests};
+ghost use Rattle.layout.specs.WorkRoom.{WorkRoom};
 use build_append::Filled;
 use build_join::VariableRow;
 use layout::COLUMN_CEILING;
@@ -58,7 +59,7 @@ pub fn add_node_row(
     set: u16,
     rows: NodeRows,
 ) -> NodeRowsAdded
-    requires { ⌜ (wordsLength ≤ length (now words)) × (numbersLength ≤ length (now numbers)) × (n ≤ columnCeiling) × Rising (now columns) n
+    requires { ⌜ WorkRoom (now words) (now numbers) × (n ≤ columnCeiling) × Rising (now columns) n
         × NodeRowsHolding sentinel (now words) (now numbers) rows × (rows .count < nodeRowCeiling) ⌝ }
     ensures { λ r. ⌜ ((t : RowType) → rowTypeWord t ≡ «row_type» → (asks : List RowRequest) → NodeRowsHeld sentinel asks (now (words .entry)) (now (numbers .entry)) rows
         → AfterRequests sentinel (asks ++ (record { node = node .0; rowType = t; set = set; row = gathered (now (columns .entry)) (drop (elementsMadeAt + rows .filled .elements) (now (numbers .entry))) n } ∷ []))

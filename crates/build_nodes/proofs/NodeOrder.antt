@@ -9,6 +9,7 @@ use mathlib.Core.List.{List, [], _∷_, _++_, flatMap, append-nil, append-assoc}
 use lib.ListN.{length, getD, take, drop, length-append, length-map, take-append-drop}
 use lib.Seq.{take-all, length-take-le}
 use lib.Ieee.{Float}
+use Rattle.layout.specs.Layout.{nodeRowCeiling}
 use Rattle.laws.proofs.Runs.{take-more}
 use Rattle.pywr.specs.declared.Sentinel.{Sentinel}
 use Rattle.pywr.specs.Network.{Node, noNode}
@@ -118,7 +119,7 @@ module _ (file : List ℕ) (c : Counts) (firstIn nextIn firstOut nextOut edgeToC
         let long : length (setsAt file (l .setAt) (l .sets)) ≡ length (take (l .sets) (l .setAt)) = simp length-map in
         omega (arith, long, ap (λ (x : List (List ℕ)). length x) (l .tables .held), length-take-le (l .sets) (l .setAt) (omega (arith, l .tables .fit .long, l .tables .fit .few)), l .tables .fit .few)
 
-    before-few : (n : ℕ) → length (requestsBefore f n) ≤ 4352
+    before-few : (n : ℕ) → length (requestsBefore f n) ≤ nodeRowCeiling
     unfolding columnMap
     before-few n =
         omega (arith, requests-few (networkOf file c) (read-sound file (networkOf file c) (t .parsed) .good) sets-few, ap (λ (x : List RowRequest). length x) (before-after f n), length-append (requestsBefore f n) (after f n))
@@ -143,7 +144,7 @@ module _ (file : List ℕ) (c : Counts) (firstIn nextIn firstOut nextOut edgeToC
         unfolding requestsBySets
         own-is = varying ∙ ap (λ (ks : List ℕ). requestsBefore f n ++ requestsBySets f n ks) none
 
-        pub own-room : (s : Sentinel) (words : List ℕ) (numbers : List Float) (r : NodeRows) → NodeRowsHeld s (requestsBefore f n) words numbers r → r .count < 4352
+        pub own-room : (s : Sentinel) (words : List ℕ) (numbers : List Float) (r : NodeRows) → NodeRowsHeld s (requestsBefore f n) words numbers r → r .count < nodeRowCeiling
         own-room s words numbers r held =
             omega (arith, held .counted, ap (λ (x : List RowRequest). length x) own-is, length-append (requestsBefore f n) own, before-few (n + 1))
 
@@ -161,7 +162,7 @@ module _ (file : List ℕ) (c : Counts) (firstIn nextIn firstOut nextOut edgeToC
             (by-sets f n (setsWithNode n 0 (f .sets))
             (λ q. ne (no-sets file (l .setAt) (l .sets) (l .tables .fit) (networkOf file c) (l .tables .held) n nextMembership (getD firstMembership k 0) (rw e (l .tables .listed n (node-under n h))) .0 q)))
 
-        pub listed-room : length (requestsBefore f n ++ listedRequests f n) ≤ 4352
+        pub listed-room : length (requestsBefore f n ++ listedRequests f n) ≤ nodeRowCeiling
         listed-room = rw listed-is at (before-few (n + 1))
 
         pub listed-after : (s : Sentinel) (v : NodeRowsAdded) (words : List ℕ) (numbers : List Float) → AfterRequests s (requestsBefore f n ++ listedRequests f n) v words numbers

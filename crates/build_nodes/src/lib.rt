@@ -10,6 +10,7 @@ ghost use Rattle.build_append.specs.LpBuilder.{RowsHeld};
 ghost use Rattle.build_node_row.specs.Tables.{networkOf, EdgeTables, MembershipTables};
 ghost use Rattle.build_node_row.specs.EdgeColumns.{edgeColumns};
 ghost use Rattle.build_node_table.specs.NodeTable.{NodeRowsHeld, AfterRequests, requestsBefore};
+ghost use Rattle.layout.specs.WorkRoom.{WorkRoom};
 use build_append::Filled;
 use build_node_table::NodeRows;
 use build_node_table::NodeRowsAdded;
@@ -43,7 +44,7 @@ fn request_rows(
 ) -> NodeRowsAdded
     requires { ⌜ EdgeTables (now s) c (now «first_in») (now «next_in») (now «first_out») (now «next_out») (now «edge_to_col») × (node .0 < c .nodes)
         × («edge_columns» ≡ edgeColumns (now s) c) × MembershipTables (now s) c (now «first_membership») (now «next_membership»)
-        × (wordsLength ≤ length (now words)) × (numbersLength ≤ length (now numbers))
+        × WorkRoom (now words) (now numbers)
         × NodeRowsHeld sentinel (requestsBefore (columnMap (networkOf (now s) c)) (node .0)) (now words) (now numbers) rows ⌝ }
     ensures { λ r. ⌜ AfterRequests sentinel (requestsBefore (columnMap (networkOf (now (s .entry)) c)) (node .0 + 1)) r (now (words .exit)) (now (numbers .exit)) ⌝ }
 {
@@ -108,7 +109,7 @@ pub fn create_node_constraints(
 ) -> NodeRowsAdded
     requires { ⌜ EdgeTables (now s) c (now «first_in») (now «next_in») (now «first_out») (now «next_out») (now «edge_to_col»)
         × («edge_columns» ≡ edgeColumns (now s) c) × MembershipTables (now s) c (now «first_membership») (now «next_membership»)
-        × (wordsLength ≤ length (now words)) × (numbersLength ≤ length (now numbers)) × RowsHeld [] (now words) (now numbers) f ⌝ }
+        × WorkRoom (now words) (now numbers) × RowsHeld [] (now words) (now numbers) f ⌝ }
     ensures { λ r. ⌜ AfterRequests sentinel (requestsFrom (columnMap (networkOf (now (s .entry)) c)) 0 (networkOf (now (s .entry)) c .nodes)) r (now (words .exit)) (now (numbers .exit)) ⌝ }
 {
     let nodes = c.nodes;

@@ -9,6 +9,7 @@ ghost use Rattle.network_record.specs.Counts.{SectionsOf};
 ghost use Rattle.build_node_row.specs.EdgeColumns.{edgeColumns};
 ghost use Rattle.build_node_row.specs.Tables.{networkOf, EdgeTables};
 ghost use Rattle.build_rows.specs.Assembled.{AfterAssemble};
+ghost use Rattle.layout.specs.WorkRoom.{WorkRoom};
 use build_exclusive_sets::Sets;
 use build_rows::Assembled;
 use layout::EDGE_CEILING;
@@ -36,7 +37,7 @@ fn assemble_rows(
     numbers: &mut [f64],
 ) -> Assembled
     requires { ⌜ EdgeTables (now s) c (now «first_in») (now «next_in») (now «first_out») (now «next_out») (now «edge_to_col»)
-        × («edge_columns» ≡ edgeColumns (now s) c) × (wordsLength ≤ length (now words)) × (numbersLength ≤ length (now numbers)) ⌝ }
+        × («edge_columns» ≡ edgeColumns (now s) c) × WorkRoom (now words) (now numbers) ⌝ }
     ensures { λ r. ⌜ AfterAssemble sentinel (now (s .entry)) r (now (words .exit)) (now (numbers .exit)) ⌝ }
 {
     let mut set_at = [0u16; SET_CEILING];
@@ -82,7 +83,7 @@ fn assemble_columns(
     words: &mut [u16],
     numbers: &mut [f64],
 ) -> Assembled
-    requires { ⌜ (parseNetwork (now s) ≡ value (networkOf (now s) c)) × SectionsOf (now s) c × (wordsLength ≤ length (now words)) × (numbersLength ≤ length (now numbers)) ⌝ }
+    requires { ⌜ (parseNetwork (now s) ≡ value (networkOf (now s) c)) × SectionsOf (now s) c × WorkRoom (now words) (now numbers) ⌝ }
     ensures { λ r. ⌜ AfterAssemble sentinel (now (s .entry)) r (now (words .exit)) (now (numbers .exit)) ⌝ }
 {
     let mut first_in = [0u16; NODE_CEILING];
@@ -126,7 +127,7 @@ fn assemble_columns(
 
 // The programme of a network file in the work runs, or refusal 1 to 11.
 pub fn assemble(s: &[u8], sentinel: Sentinel, words: &mut [u16], numbers: &mut [f64]) -> Assembled
-    requires { ⌜ (wordsLength ≤ length (now words)) × (numbersLength ≤ length (now numbers)) ⌝ }
+    requires { ⌜ WorkRoom (now words) (now numbers) ⌝ }
     ensures { λ r. ⌜ AfterAssemble sentinel (now (s .entry)) r (now (words .exit)) (now (numbers .exit)) ⌝ }
 {
     let r = network::load(s);

@@ -7,6 +7,7 @@ use native.Mathlib.Omega.{arith}
 use lib.ListN.{length, take, drop, length-append, length-map}
 use lib.Seq.{sets, drop-drop, length-take-le}
 use lib.Ieee.{Float}
+use Rattle.layout.specs.Layout.{aggregatesMadeAt, edgesMadeAt, nodeRowsMadeAt, nodesMadeAt, shapeMadeAt, virtualStoragesMadeAt, wordsLength}
 use Rattle.laws.specs.Part.{part}
 use Rattle.pywr.specs.declared.Sentinel.{Sentinel}
 use Rattle.pywr.specs.Result.{value, refused}
@@ -44,11 +45,11 @@ use Rattle.build_rows.proofs.Counts.{SizesAre, columns-are, counts-are}
 use Rattle.build_varying.proofs.Varying.{asks-few}
 
 -- what stays from 5,121 on stays in each part there
-kept-part : {A : Type 0} (l l′ : List A) (a n : ℕ) → 5121 ≤ a → drop 5121 l′ ≡ drop 5121 l → part a n l′ ≡ part a n l
+kept-part : {A : Type 0} (l l′ : List A) (a n : ℕ) → shapeMadeAt ≤ a → drop shapeMadeAt l′ ≡ drop shapeMadeAt l → part a n l′ ≡ part a n l
 kept-part {A} l l′ a n h e =
-    let q : 5121 + (a - 5121) ≡ a = omega arith in
-    let of : (x : List A) → part a n x ≡ take n (drop (a - 5121) (drop 5121 x)) = (λ x. sym (ap (take n) (drop-drop (a - 5121) 5121 x ∙ ap (λ (j : ℕ). drop j x) q))) in
-    of l′ ∙ ap (λ (x : List A). take n (drop (a - 5121) x)) e ∙ sym (of l)
+    let q : shapeMadeAt + (a - shapeMadeAt) ≡ a = omega arith in
+    let of : (x : List A) → part a n x ≡ take n (drop (a - shapeMadeAt) (drop shapeMadeAt x)) = (λ x. sym (ap (take n) (drop-drop (a - shapeMadeAt) shapeMadeAt x ∙ ap (λ (j : ℕ). drop j x) q))) in
+    of l′ ∙ ap (λ (x : List A). take n (drop (a - shapeMadeAt) x)) e ∙ sym (of l)
 
 counts-long : (s : Sentinel) (z : Sizes) (varying : ℕ) → length (counts s z varying) ≡ 11
 unfolding counts
@@ -155,17 +156,17 @@ module _ (s : Sentinel) (file : List ℕ) (c : Counts) (firstIn nextIn firstOut 
       unfolding rowsOf
       varying-most = omega (arith, v .held .rowCount, held .rowCount, length-append (b .programme .varying) (b .programme .fixed))
 
-      pub all-made : (words₃ : List ℕ) → 24844 ≤ length words₂
-          → words₃ ≡ sets (sets (sets words₂ 5132 (flatMap nodeWords (map nodeShape (nodesAt file (c .nodes))))) 5644 (flatMap edgeWords (edgeEntries file table (c .nodes) (c .edges)))) 5121 (counts s sizes (n .filled .rows))
+      pub all-made : (words₃ : List ℕ) → wordsLength ≤ length words₂
+          → words₃ ≡ sets (sets (sets words₂ nodesMadeAt (flatMap nodeWords (map nodeShape (nodesAt file (c .nodes))))) edgesMadeAt (flatMap edgeWords (edgeEntries file table (c .nodes) (c .edges)))) shapeMadeAt (counts s sizes (n .filled .rows))
           → AfterAssemble s file (Assembled.Done sizes) words₃ numbers₂
       all-made words₃ room e =
           let cs : counts s sizes (n .filled .rows) ≡ countWords b = counts-are s net sizes are (n .filled .rows) (v .held .rowCount) in
           let rows-laid : RowsLaid b sizes words₂ numbers₂ =
           record {
             rows = held;
-            nodeRows = kept-part words₁ words₂ 7180 (4 * n .count) (omega arith) (a .kept) ∙ v .nodeRows;
-            aggregates = ap (λ (k : ℕ). part 24588 k words₂) (are .aggregates) ∙ kept-part words₁ words₂ 24588 (length (net .aggregates)) (omega arith) (a .kept) ∙ v .aggregates;
-            virtualStorages = ap (λ (k : ℕ). part 24652 (6 * k) words₂) (are .virtualStorages) ∙ kept-part words₁ words₂ 24652 (6 * length (net .virtualStorages)) (omega arith) (a .kept) ∙ v .virtualStorages;
+            nodeRows = kept-part words₁ words₂ nodeRowsMadeAt (4 * n .count) (omega arith) (a .kept) ∙ v .nodeRows;
+            aggregates = ap (λ (k : ℕ). part aggregatesMadeAt k words₂) (are .aggregates) ∙ kept-part words₁ words₂ aggregatesMadeAt (length (net .aggregates)) (omega arith) (a .kept) ∙ v .aggregates;
+            virtualStorages = ap (λ (k : ℕ). part virtualStoragesMadeAt (6 * k) words₂) (are .virtualStorages) ∙ kept-part words₁ words₂ virtualStoragesMadeAt (6 * length (net .virtualStorages)) (omega arith) (a .kept) ∙ v .virtualStorages;
           } in
           let laid = laid-out s b sizes words₂ numbers₂ _ _ _ few (columns-are s net sizes are) room (nodes-length file (c .nodes)) (edges-length file table (c .nodes) (c .edges)) (counts-long s sizes (n .filled .rows)) nodes-are edges-are cs rows-laid in
           let is : build s file ≡ value b = accepted s file net (t .parsed) (none-over net (b .programme) (omega (arith, sets-are, l .fit .few)) (held-within (rowsOf (b .programme)) words₂ numbers₂ g held)) in

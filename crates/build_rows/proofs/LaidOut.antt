@@ -6,6 +6,7 @@ use native.Mathlib.Omega.{arith}
 use lib.ListN.{length, take}
 use lib.Seq.{sets, length-sets}
 use lib.Ieee.{Float}
+use Rattle.layout.specs.Layout.{aggregatesMadeAt, edgesMadeAt, nodeRowsMadeAt, nodesMadeAt, shapeMadeAt, virtualStoragesMadeAt, wordsLength}
 use Rattle.laws.specs.Part.{part}
 use Rattle.laws.proofs.Sets.{part-same, part-before, part-after}
 use Rattle.pywr.specs.declared.Sentinel.{Sentinel}
@@ -21,48 +22,48 @@ use Rattle.build_rows.specs.Assembled.{Laid}
 -- what the passes over the rows leave: the rows, and the tables of node rows, aggregates and virtual storages
 pub record RowsLaid (b : Built) (z : Sizes) (words : List ℕ) (numbers : List Float) : Type 0 where
   pub rows : RowsHeld (rowsOf (b .programme)) words numbers (record { rows = z .rows; elements = z .elements })
-  pub nodeRows : part 7180 (4 * z .«node_rows») words ≡ flatMap nodeRowWords (b .shape .nodeRows)
-  pub aggregates : part 24588 (z .aggregates) words ≡ b .shape .aggregates
-  pub virtualStorages : part 24652 (6 * z .«virtual_storages») words ≡ flatMap virtualStorageWords (b .shape .virtualStorages)
+  pub nodeRows : part nodeRowsMadeAt (4 * z .«node_rows») words ≡ flatMap nodeRowWords (b .shape .nodeRows)
+  pub aggregates : part aggregatesMadeAt (z .aggregates) words ≡ b .shape .aggregates
+  pub virtualStorages : part virtualStoragesMadeAt (6 * z .«virtual_storages») words ≡ flatMap virtualStorageWords (b .shape .virtualStorages)
 
-module _ (words ns es cs : List ℕ) (n e : ℕ) (ln : length ns ≡ 2 * n) (le : length es ≡ 3 * e) (lc : length cs ≡ 11) (fn : n ≤ 256) (fe : e ≤ 512) (room : 24844 ≤ length words) where
+module _ (words ns es cs : List ℕ) (n e : ℕ) (ln : length ns ≡ 2 * n) (le : length es ≡ 3 * e) (lc : length cs ≡ 11) (fn : n ≤ 256) (fe : e ≤ 512) (room : wordsLength ≤ length words) where
   -- nodes, edges and counts written, in this order
   abbrev pub after : List ℕ
-  after = sets (sets (sets words 5132 ns) 5644 es) 5121 cs
+  after = sets (sets (sets words nodesMadeAt ns) edgesMadeAt es) shapeMadeAt cs
 
   -- behind the three tables and in front of them the words stay
-  pub behind : (a k : ℕ) → 7180 ≤ a → part a k after ≡ part a k words
+  pub behind : (a k : ℕ) → nodeRowsMadeAt ≤ a → part a k after ≡ part a k words
   behind a k h =
-      part-after (sets (sets words 5132 ns) 5644 es) cs 5121 a k (omega (arith, lc))
-      ∙ part-after (sets words 5132 ns) es 5644 a k (omega (arith, le))
-      ∙ part-after words ns 5132 a k (omega (arith, ln))
+      part-after (sets (sets words nodesMadeAt ns) edgesMadeAt es) cs shapeMadeAt a k (omega (arith, lc))
+      ∙ part-after (sets words nodesMadeAt ns) es edgesMadeAt a k (omega (arith, le))
+      ∙ part-after words ns nodesMadeAt a k (omega (arith, ln))
 
-  pub before : take 5121 after ≡ take 5121 words
+  pub before : take shapeMadeAt after ≡ take shapeMadeAt words
   before =
-      part-before (sets (sets words 5132 ns) 5644 es) cs 5121 0 5121 (omega arith)
-      ∙ part-before (sets words 5132 ns) es 5644 0 5121 (omega arith)
-      ∙ part-before words ns 5132 0 5121 (omega arith)
+      part-before (sets (sets words nodesMadeAt ns) edgesMadeAt es) cs shapeMadeAt 0 shapeMadeAt (omega arith)
+      ∙ part-before (sets words nodesMadeAt ns) es edgesMadeAt 0 shapeMadeAt (omega arith)
+      ∙ part-before words ns nodesMadeAt 0 shapeMadeAt (omega arith)
 
-  pub counts-there : part 5121 11 after ≡ cs
-  counts-there = part-same (sets (sets words 5132 ns) 5644 es) cs 5121 11 lc (omega (arith, length-sets (sets words 5132 ns) 5644 es, length-sets words 5132 ns))
+  pub counts-there : part shapeMadeAt 11 after ≡ cs
+  counts-there = part-same (sets (sets words nodesMadeAt ns) edgesMadeAt es) cs shapeMadeAt 11 lc (omega (arith, length-sets (sets words nodesMadeAt ns) edgesMadeAt es, length-sets words nodesMadeAt ns))
 
-  pub nodes-there : part 5132 (2 * n) after ≡ ns
+  pub nodes-there : part nodesMadeAt (2 * n) after ≡ ns
   nodes-there =
-      part-after (sets (sets words 5132 ns) 5644 es) cs 5121 5132 (2 * n) (omega (arith, lc))
-      ∙ part-before (sets words 5132 ns) es 5644 5132 (2 * n) (omega arith)
-      ∙ part-same words ns 5132 (2 * n) ln (omega arith)
+      part-after (sets (sets words nodesMadeAt ns) edgesMadeAt es) cs shapeMadeAt nodesMadeAt (2 * n) (omega (arith, lc))
+      ∙ part-before (sets words nodesMadeAt ns) es edgesMadeAt nodesMadeAt (2 * n) (omega arith)
+      ∙ part-same words ns nodesMadeAt (2 * n) ln (omega arith)
 
-  pub edges-there : part 5644 (3 * e) after ≡ es
+  pub edges-there : part edgesMadeAt (3 * e) after ≡ es
   edges-there =
-      part-after (sets (sets words 5132 ns) 5644 es) cs 5121 5644 (3 * e) (omega (arith, lc))
-      ∙ part-same (sets words 5132 ns) es 5644 (3 * e) le (omega (arith, length-sets words 5132 ns))
+      part-after (sets (sets words nodesMadeAt ns) edgesMadeAt es) cs shapeMadeAt edgesMadeAt (3 * e) (omega (arith, lc))
+      ∙ part-same (sets words nodesMadeAt ns) es edgesMadeAt (3 * e) le (omega (arith, length-sets words nodesMadeAt ns))
 
 pub laid-out : (s : Sentinel) (b : Built) (z : Sizes) (words : List ℕ) (numbers : List Float) (ns es cs : List ℕ)
-    → Few z → columnsOf s z ≡ b .programme .columns → 24844 ≤ length words
+    → Few z → columnsOf s z ≡ b .programme .columns → wordsLength ≤ length words
     → length ns ≡ 2 * z .nodes → length es ≡ 3 * z .edges → length cs ≡ 11
     → ns ≡ flatMap nodeWords (b .shape .nodes) → es ≡ flatMap edgeWords (b .shape .mappedEdges) → cs ≡ countWords b
     → RowsLaid b z words numbers
-    → Laid s b z (sets (sets (sets words 5132 ns) 5644 es) 5121 cs) numbers
+    → Laid s b z (sets (sets (sets words nodesMadeAt ns) edgesMadeAt es) shapeMadeAt cs) numbers
 laid-out s b z words numbers ns es cs few cols room ln le lc en ee ec r =
     let w : List ℕ = after words ns es cs (z .nodes) (z .edges) ln le lc (few .nodes) (few .edges) room in
     record {
@@ -72,7 +73,7 @@ laid-out s b z words numbers ns es cs few cols room ln le lc en ee ec r =
       counts = counts-there words ns es cs (z .nodes) (z .edges) ln le lc (few .nodes) (few .edges) room ∙ ec;
       nodes = nodes-there words ns es cs (z .nodes) (z .edges) ln le lc (few .nodes) (few .edges) room ∙ en;
       edges = edges-there words ns es cs (z .nodes) (z .edges) ln le lc (few .nodes) (few .edges) room ∙ ee;
-      nodeRows = behind words ns es cs (z .nodes) (z .edges) ln le lc (few .nodes) (few .edges) room 7180 (4 * z .«node_rows») (omega arith) ∙ r .nodeRows;
-      aggregates = behind words ns es cs (z .nodes) (z .edges) ln le lc (few .nodes) (few .edges) room 24588 (z .aggregates) (omega arith) ∙ r .aggregates;
-      virtualStorages = behind words ns es cs (z .nodes) (z .edges) ln le lc (few .nodes) (few .edges) room 24652 (6 * z .«virtual_storages») (omega arith) ∙ r .virtualStorages;
+      nodeRows = behind words ns es cs (z .nodes) (z .edges) ln le lc (few .nodes) (few .edges) room nodeRowsMadeAt (4 * z .«node_rows») (omega arith) ∙ r .nodeRows;
+      aggregates = behind words ns es cs (z .nodes) (z .edges) ln le lc (few .nodes) (few .edges) room aggregatesMadeAt (z .aggregates) (omega arith) ∙ r .aggregates;
+      virtualStorages = behind words ns es cs (z .nodes) (z .edges) ln le lc (few .nodes) (few .edges) room virtualStoragesMadeAt (6 * z .«virtual_storages») (omega arith) ∙ r .virtualStorages;
     }

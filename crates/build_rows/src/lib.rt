@@ -8,6 +8,7 @@ ghost use Rattle.build_node_row.specs.EdgeColumns.{edgeColumns};
 ghost use Rattle.build_node_row.specs.Tables.{EdgeTables, SetTables};
 ghost use Rattle.build_write.specs.Lp.{Few};
 ghost use Rattle.build_rows.specs.Assembled.{AfterAssemble, tablesWritten};
+ghost use Rattle.layout.specs.WorkRoom.{WorkRoom};
 use build_append::Filled;
 use build_append::RowsAdded;
 use build_node_table::NodeRowsAdded;
@@ -67,7 +68,7 @@ pub fn add_rows(
 ) -> Assembled
     requires { ⌜ EdgeTables (now s) c (now «first_in») (now «next_in») (now «first_out») (now «next_out») (now «edge_to_col»)
         × SetTables (now s) c (now «set_at») sets (now «first_membership») (now «next_membership») × («edge_columns» ≡ edgeColumns (now s) c)
-        × (wordsLength ≤ length (now words)) × (numbersLength ≤ length (now numbers)) ⌝ }
+        × WorkRoom (now words) (now numbers) ⌝ }
     ensures { λ r. ⌜ AfterAssemble sentinel (now (s .entry)) r (now (words .exit)) (now (numbers .exit)) ⌝ }
 {
     let mut columns: [ColumnNumber; COLUMN_CEILING] = [0; COLUMN_CEILING];

@@ -8,6 +8,7 @@ use native.Mathlib.Nat.{add-zero, add-suc, suc-add, zero-add}
 use native.Mathlib.Omega.{arith}
 use lib.ListN.{length, getD, set, length-append, length-set}
 use lib.Seq.{sets}
+use Rattle.layout.specs.Layout.{edgesMadeAt, nodesMadeAt}
 use Rattle.laws.proofs.Sets.{sets-snoc}
 use Rattle.laws.proofs.Runs.{map-snoc, flat-snoc}
 use Rattle.pywr.specs.Network.{Node}
@@ -60,7 +61,7 @@ node-long file i = go (nodesAt file i) ∙ ap (λ (k : ℕ). 2 * k) (records-len
 
 pub record NodesWritten (file words₀ : List ℕ) (nodes : ℕ) (words : List ℕ) (i : ℕ) : Type 0 where
   pub few : i ≤ nodes
-  pub run : words ≡ sets words₀ 5132 (nodeTable file i)
+  pub run : words ≡ sets words₀ nodesMadeAt (nodeTable file i)
   pub long : length words ≡ length words₀
 
 pub nodes-none : (file words : List ℕ) (nodes : ℕ) → NodesWritten file words nodes words 0
@@ -68,18 +69,18 @@ unfolding nodeTable recordsAt flatMap
 nodes-none file words nodes = record { few = omega arith; run = refl; long = refl }
 
 pub nodes-more : (file words₀ : List ℕ) (nodes : ℕ) (words : List ℕ) (i k f : ℕ) → i < nodes → k ≡ nodeAt file (20 * i) .kind → f ≡ flagWord (nodeAt file (20 * i) .constant)
-    → NodesWritten file words₀ nodes words i → NodesWritten file words₀ nodes (set (set words (5132 + 2 * i) k) (5132 + 2 * i + 1) f) (i + 1)
+    → NodesWritten file words₀ nodes words i → NodesWritten file words₀ nodes (set (set words (nodesMadeAt + 2 * i) k) (nodesMadeAt + 2 * i + 1) f) (i + 1)
 unfolding nodeWords nodeShape
 nodes-more file words₀ nodes words i k f h ek ef w =
     record {
       few = omega arith;
-      run = rw (w .run, ek, ef) (two-more words₀ (nodeTable file i) 5132 (2 * i) _ _ (node-long file i) ∙ ap (sets words₀ 5132) (sym (node-snoc file i)));
-      long = length-set (set words (5132 + 2 * i) k) (5132 + 2 * i + 1) f ∙ length-set words (5132 + 2 * i) k ∙ w .long;
+      run = rw (w .run, ek, ef) (two-more words₀ (nodeTable file i) nodesMadeAt (2 * i) _ _ (node-long file i) ∙ ap (sets words₀ nodesMadeAt) (sym (node-snoc file i)));
+      long = length-set (set words (nodesMadeAt + 2 * i) k) (nodesMadeAt + 2 * i + 1) f ∙ length-set words (nodesMadeAt + 2 * i) k ∙ w .long;
     }
 
-pub nodes-all : (file words₀ : List ℕ) (nodes : ℕ) (words : List ℕ) (i : ℕ) → nodes ≤ i → NodesWritten file words₀ nodes words i → words ≡ sets words₀ 5132 (flatMap nodeWords (map nodeShape (nodesAt file nodes)))
+pub nodes-all : (file words₀ : List ℕ) (nodes : ℕ) (words : List ℕ) (i : ℕ) → nodes ≤ i → NodesWritten file words₀ nodes words i → words ≡ sets words₀ nodesMadeAt (flatMap nodeWords (map nodeShape (nodesAt file nodes)))
 unfolding nodeTable flatMap
-nodes-all file words₀ nodes words i h w = let e : i ≡ nodes = omega (arith, w .few) in w .run ∙ ap (λ (k : ℕ). sets words₀ 5132 (nodeTable file k)) e
+nodes-all file words₀ nodes words i h w = let e : i ≡ nodes = omega (arith, w .few) in w .run ∙ ap (λ (k : ℕ). sets words₀ nodesMadeAt (nodeTable file k)) e
 
 pub flag-yes : (b : Bool) → b ≡ true → 1 ≡ flagWord b
 unfolding flagWord
@@ -121,7 +122,7 @@ module _ (file table : List ℕ) (nodes : ℕ) where
 
   pub record EdgesWritten (words₀ : List ℕ) (edges : ℕ) (words : List ℕ) (i : ℕ) : Type 0 where
     pub few : i ≤ edges
-    pub run : words ≡ sets words₀ 5644 (edgeTable i)
+    pub run : words ≡ sets words₀ edgesMadeAt (edgeTable i)
     pub long : length words ≡ length words₀
 
   pub edges-none : (words : List ℕ) (edges : ℕ) → EdgesWritten words edges words 0
@@ -130,22 +131,22 @@ module _ (file table : List ℕ) (nodes : ℕ) where
 
   pub edges-more : (words₀ : List ℕ) (edges : ℕ) (words : List ℕ) (i a b d : ℕ) → i < edges
       → a ≡ edgeEntry file table nodes i .from → b ≡ edgeEntry file table nodes i .to → d ≡ edgeEntry file table nodes i .column
-      → EdgesWritten words₀ edges words i → EdgesWritten words₀ edges (set (set (set words (5644 + 3 * i) a) (5644 + 3 * i + 1) b) (5644 + 3 * i + 2) d) (i + 1)
+      → EdgesWritten words₀ edges words i → EdgesWritten words₀ edges (set (set (set words (edgesMadeAt + 3 * i) a) (edgesMadeAt + 3 * i + 1) b) (edgesMadeAt + 3 * i + 2) d) (i + 1)
   unfolding edgeWords
   edges-more words₀ edges words i a b d h ea eb ed w =
       record {
         few = omega arith;
-        run = rw (w .run, ea, eb, ed) (three-more words₀ (edgeTable i) 5644 (3 * i) _ _ _ (edge-long i) ∙ ap (sets words₀ 5644) (sym (edge-snoc i)));
+        run = rw (w .run, ea, eb, ed) (three-more words₀ (edgeTable i) edgesMadeAt (3 * i) _ _ _ (edge-long i) ∙ ap (sets words₀ edgesMadeAt) (sym (edge-snoc i)));
         long =
-            length-set (set (set words (5644 + 3 * i) a) (5644 + 3 * i + 1) b) (5644 + 3 * i + 2) d
-            ∙ length-set (set words (5644 + 3 * i) a) (5644 + 3 * i + 1) b
-            ∙ length-set words (5644 + 3 * i) a
+            length-set (set (set words (edgesMadeAt + 3 * i) a) (edgesMadeAt + 3 * i + 1) b) (edgesMadeAt + 3 * i + 2) d
+            ∙ length-set (set words (edgesMadeAt + 3 * i) a) (edgesMadeAt + 3 * i + 1) b
+            ∙ length-set words (edgesMadeAt + 3 * i) a
             ∙ w .long;
       }
 
-  pub edges-all : (words₀ : List ℕ) (edges : ℕ) (words : List ℕ) (i : ℕ) → edges ≤ i → EdgesWritten words₀ edges words i → words ≡ sets words₀ 5644 (flatMap edgeWords (edgeEntries file table nodes edges))
+  pub edges-all : (words₀ : List ℕ) (edges : ℕ) (words : List ℕ) (i : ℕ) → edges ≤ i → EdgesWritten words₀ edges words i → words ≡ sets words₀ edgesMadeAt (flatMap edgeWords (edgeEntries file table nodes edges))
   unfolding edgeTable
-  edges-all words₀ edges words i h w = let e : i ≡ edges = omega (arith, w .few) in w .run ∙ ap (λ (k : ℕ). sets words₀ 5644 (edgeTable k)) e
+  edges-all words₀ edges words i h w = let e : i ≡ edges = omega (arith, w .few) in w .run ∙ ap (λ (k : ℕ). sets words₀ edgesMadeAt (edgeTable k)) e
 
   pub edges-length : (n : ℕ) → length (flatMap edgeWords (edgeEntries file table nodes n)) ≡ 3 * n
   unfolding edgeTable

@@ -7,6 +7,7 @@ use native.Mathlib.Omega.{arith}
 use lib.ListN.{length, take, drop, length-drop, length-map}
 use lib.Seq.{take-add, drop-at, length-take-le, take-take, drop-drop}
 use lib.Ieee.{Float}
+use Rattle.layout.specs.Layout.{aggregatesAt, aggregatesMadeAt, nodeRowCeiling, nodeRowsMadeAt, shapeMadeAt, virtualStoragesAt, virtualStoragesMadeAt, wordsLength}
 use Rattle.laws.specs.Part.{part}
 use Rattle.pywr.specs.declared.Sentinel.{Sentinel}
 use Rattle.pywr.specs.Network.{Network}
@@ -97,32 +98,32 @@ module _ (s : Sentinel) (net : Network) where
   nodes-holding n words numbers h = record { rows = rows₁; held = h .held }
 
   module _ (size : ℕ) (words words₁ : List ℕ) (numbers₁ : List Float) (r : RowsAdded) where
-    pub aggregates-holding : AfterVariableRows s rows₁ forAggregates 24588 size (λ places. places) words r words₁ numbers₁ → (g : Filled) → r ≡ Done g → HoldingVarying s words₁ numbers₁ g
+    pub aggregates-holding : AfterVariableRows s rows₁ forAggregates aggregatesMadeAt size (λ places. places) words r words₁ numbers₁ → (g : Filled) → r ≡ Done g → HoldingVarying s words₁ numbers₁ g
     aggregates-holding a g e = record { rows = rows₂; held = a .held g e }
 
   module _ (aggregates virtualStorages : ℕ) (ca : aggregates ≡ length (net .aggregates)) (cs : virtualStorages ≡ length (net .virtualStorages)) where
     pub all-laid : (n : NodeRows) (g f : Filled) (ra rv : RowsAdded) (words₁ words₂ words₃ : List ℕ) (numbers₁ numbers₂ numbers₃ : List Float)
-        → 4 * n .count ≤ 17408 → 24844 ≤ length words₁ → 24844 ≤ length words₂ → 24844 ≤ length words₃ → aggregates ≤ 64
+        → 4 * n .count ≤ 17408 → wordsLength ≤ length words₁ → wordsLength ≤ length words₂ → wordsLength ≤ length words₃ → aggregates ≤ 64
         → NodeRowsHeld s asks words₁ numbers₁ n
-        → AfterVariableRows s rows₁ forAggregates 24588 aggregates (λ places. places) words₁ ra words₂ numbers₂
+        → AfterVariableRows s rows₁ forAggregates aggregatesMadeAt aggregates (λ places. places) words₁ ra words₂ numbers₂
         → ra ≡ Done g
-        → AfterVariableRows s rows₂ forVirtualStorages 24652 (6 * virtualStorages) (λ places. flatMap virtualStorageWords (placedVirtualStorages (net .virtualStorages) places)) words₂ rv words₃ numbers₃
+        → AfterVariableRows s rows₂ forVirtualStorages virtualStoragesMadeAt (6 * virtualStorages) (λ places. flatMap virtualStorageWords (placedVirtualStorages (net .virtualStorages) places)) words₂ rv words₃ numbers₃
         → rv ≡ Done f
         → AfterVarying s net (NodeRowsAdded.Done (record { filled = f; count = n .count })) words₃ numbers₃
     unfolding programmeOf assemble
     all-laid n g f ra rv words₁ words₂ words₃ numbers₁ numbers₂ numbers₃ few l₁ l₂ l₃ fa h a ea v ev =
-        let node-table : part 7180 (4 * n .count) words₃ ≡ part 7180 (4 * n .count) words₁ =
-        inside words₂ words₃ 5121 19531 7180 (4 * n .count) (omega arith) (omega arith) (omega arith) (omega arith) (v .kept)
-        ∙ inside words₁ words₂ 5121 19467 7180 (4 * n .count) (omega arith) (omega arith) (omega arith) (omega arith) (a .kept) in
-        let aggregate-table : part 24588 aggregates words₃ ≡ part 24588 aggregates words₂ =
-        inside words₂ words₃ 5121 19531 24588 aggregates (omega arith) (omega arith) (omega arith) (omega arith) (v .kept) in
+        let node-table : part nodeRowsMadeAt (4 * n .count) words₃ ≡ part nodeRowsMadeAt (4 * n .count) words₁ =
+        inside words₂ words₃ shapeMadeAt virtualStoragesAt nodeRowsMadeAt (4 * n .count) (omega arith) (omega arith) (omega arith) (omega arith) (v .kept)
+        ∙ inside words₁ words₂ shapeMadeAt aggregatesAt nodeRowsMadeAt (4 * n .count) (omega arith) (omega arith) (omega arith) (omega arith) (a .kept) in
+        let aggregate-table : part aggregatesMadeAt aggregates words₃ ≡ part aggregatesMadeAt aggregates words₂ =
+        inside words₂ words₃ shapeMadeAt virtualStoragesAt aggregatesMadeAt aggregates (omega arith) (omega arith) (omega arith) (omega arith) (v .kept) in
         let laid : VaryingLaid s net (record { filled = f; count = n .count }) words₃ numbers₃ =
         record {
           held = v .held f ev;
           counted = h .counted;
           nodeRows = node-table ∙ h .table;
-          aggregates = ap (λ (k : ℕ). part 24588 k words₃) (sym ca) ∙ aggregate-table ∙ a .placed g ea;
-          virtualStorages = ap (λ (k : ℕ). part 24652 (6 * k) words₃) (sym cs) ∙ v .placed f ev;
+          aggregates = ap (λ (k : ℕ). part aggregatesMadeAt k words₃) (sym ca) ∙ aggregate-table ∙ a .placed g ea;
+          virtualStorages = ap (λ (k : ℕ). part virtualStoragesMadeAt (6 * k) words₃) (sym cs) ∙ v .placed f ev;
         } in
         record {
           done = λ m q. let e : record { filled = f; count = n .count } ≡ m = cc in subst (λ (x : NodeRows). VaryingLaid s net x words₃ numbers₃) e laid;
@@ -137,6 +138,6 @@ sets-few file c firstMembership nextMembership l =
 
 -- the nodes of an accepted network ask for at most 4,352 rows
 pub asks-few : (file : List ℕ) (c : Counts) (firstIn nextIn firstOut nextOut edgeToCol firstMembership nextMembership : List ℕ) → EdgeTables file c firstIn nextIn firstOut nextOut edgeToCol → MembershipTables file c firstMembership nextMembership
-    → length (requestsFrom (columnMap (networkOf file c)) 0 (networkOf file c .nodes)) ≤ 4352
+    → length (requestsFrom (columnMap (networkOf file c)) 0 (networkOf file c .nodes)) ≤ nodeRowCeiling
 asks-few file c firstIn nextIn firstOut nextOut edgeToCol firstMembership nextMembership t l =
     requests-few (networkOf file c) (read-sound file (networkOf file c) (t .parsed) .good) (sets-few file c firstMembership nextMembership l)

@@ -8,6 +8,7 @@ ghost use Rattle.build_node_row.specs.EdgeColumns.{edgeColumns};
 ghost use Rattle.build_node_row.specs.Tables.{networkOf, EdgeTables, MembershipTables};
 ghost use Rattle.build_append.specs.LpBuilder.{RowsHeld};
 ghost use Rattle.build_varying.specs.VaryingLaid.{AfterVarying};
+ghost use Rattle.layout.specs.WorkRoom.{WorkRoom};
 use build_append::Filled;
 use build_append::RowsAdded;
 use build_node_table::NodeRows;
@@ -40,7 +41,7 @@ pub fn add_varying_rows(
 ) -> NodeRowsAdded
     requires { ⌜ EdgeTables (now s) c (now «first_in») (now «next_in») (now «first_out») (now «next_out») (now «edge_to_col»)
         × MembershipTables (now s) c (now «first_membership») (now «next_membership») × («edge_columns» ≡ edgeColumns (now s) c)
-        × (wordsLength ≤ length (now words)) × (numbersLength ≤ length (now numbers)) × RowsHeld [] (now words) (now numbers) f ⌝ }
+        × WorkRoom (now words) (now numbers) × RowsHeld [] (now words) (now numbers) f ⌝ }
     ensures { λ r. ⌜ AfterVarying sentinel (networkOf (now (s .entry)) c) r (now (words .exit)) (now (numbers .exit)) ⌝ }
 {
     let n = build_nodes::create_node_constraints(

@@ -18,6 +18,7 @@ ghost use Rattle.build_node_row.specs.Tables.{networkOf, EdgeTables};
 ghost use Rattle.build_row.specs.Gathered.{Gathered};
 ghost use Rattle.build_join.specs.JoinedRows.{HoldingVarying, AfterVariableRows};
 ghost use Rattle.build_virtual_storages.specs.VirtualStorageRows.{virtualStorageRows, virtualStorageTable};
+ghost use Rattle.layout.specs.WorkRoom.{WorkRoom};
 use build_append::Filled;
 use build_append::RowsAdded;
 use build_join::VariableRow;
@@ -97,7 +98,7 @@ fn add_virtual_storage_row(
 ) -> VariableRow
     requires { ⌜ EdgeTables (now s) c (now «first_in») (now «next_in») (now «first_out») (now «next_out») (now «edge_to_col»)
         × (checkVirtualStorage (now s) (c .nodes) at ≡ Next (virtualStorageEnd (now s) at))
-        × (wordsLength ≤ length (now words)) × (numbersLength ≤ length (now numbers)) × Holding (now words) (now numbers) f ⌝ }
+        × WorkRoom (now words) (now numbers) × Holding (now words) (now numbers) f ⌝ }
     ensures { λ r. ⌜ ((rows : List (List Element)) → RowsHeld (map (freshRow sentinel) rows) (now (words .entry)) (now (numbers .entry)) f
         → AfterVariableRow sentinel rows (virtualStorageRow (columnMap (networkOf (now (s .entry)) c)) (virtualStorageAt (now (s .entry)) at))
         (now (words .entry)) r (now (words .exit)) (now (numbers .exit))) ⌝ }
@@ -164,7 +165,7 @@ pub fn create_virtual_storage_constraints(
     f: Filled,
 ) -> RowsAdded
     requires { ⌜ EdgeTables (now s) c (now «first_in») (now «next_in») (now «first_out») (now «next_out») (now «edge_to_col»)
-        × (wordsLength ≤ length (now words)) × (numbersLength ≤ length (now numbers)) × HoldingVarying sentinel (now words) (now numbers) f ⌝ }
+        × WorkRoom (now words) (now numbers) × HoldingVarying sentinel (now words) (now numbers) f ⌝ }
     ensures { λ r. ⌜ ((rows : List (List Element)) → RowsHeld (map (freshRow sentinel) rows) (now (words .entry)) (now (numbers .entry)) f
         → AfterVariableRows sentinel rows (virtualStorageRows (networkOf (now (s .entry)) c)) virtualStoragesMadeAt (virtualStorageWidth * c .«virtual_storages») (virtualStorageTable (networkOf (now (s .entry)) c))
         (now (words .entry)) r (now (words .exit)) (now (numbers .exit))) ⌝ }

@@ -7,6 +7,7 @@ use lib.ListN.{length, getD, take, drop, length-drop, drop-of-length-le}
 use lib.Seq.{sets, sets-eq, take-all, take-add, drop-drop}
 use lib.Ieee.{Float}
 use borrow.Rule.Slice.PartMut.{midOf, putMid, mid-len, same-len-mid}
+use Rattle.layout.specs.Layout.{numbersLength}
 use Rattle.laws.specs.Part.{part}
 use Rattle.laws.proofs.Sets.{length-part}
 use Rattle.build_write.specs.declared.Sizes.{Sizes}
@@ -61,7 +62,7 @@ module _ (z : Sizes) (words : List ℕ) (s : RowStarts z words) where
   start-most (suc k) r e = omega (arith, next-start r, start-most k (r + 1) (omega arith), s .rise r (omega arith))
 
   -- the row whose start and end were read
-  pub row-fits : (numbers old new : List Float) (r start end : ℕ) → Few z → 6784 ≤ length numbers → 4096 ≤ length old → r < z .rows
+  pub row-fits : (numbers old new : List Float) (r start end : ℕ) → Few z → numbersLength ≤ length numbers → 4096 ≤ length old → r < z .rows
       → start ≡ getD words (4096 + r) 0 → end ≡ getD words (4096 + r + 1) 0 → Written (z .rows) words numbers old new r → RowFits numbers new start end
   row-fits numbers old new r start end few longNumbers longOld lt es ee w =
       let rises : start ≤ end = omega (arith, s .rise r lt) in
@@ -78,7 +79,7 @@ module _ (z : Sizes) (words : List ℕ) (s : RowStarts z words) where
     pub none : Written (z .rows) words numbers old old 0
     none = record { few = omega arith; run = sym (ap (λ (k : ℕ). sets old 0 (part 2048 k numbers)) (s .first)); long = refl }
 
-    pub more : (new ys : List Float) (r start end : ℕ) → Few z → 6784 ≤ length numbers → 4096 ≤ length old → r < z .rows
+    pub more : (new ys : List Float) (r start end : ℕ) → Few z → numbersLength ≤ length numbers → 4096 ≤ length old → r < z .rows
         → start ≡ getD words (4096 + r) 0 → end ≡ getD words (4096 + r + 1) 0
         → ys ≡ sets (midOf start (length new - start) new) 0 (midOf (2048 + start) (2048 + end - (2048 + start)) numbers)
         → length ys ≡ length (midOf start (length new - start) new)

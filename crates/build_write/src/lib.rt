@@ -6,6 +6,7 @@ ghost use lib.Seq.{sets};
 ghost use Rattle.layout.specs.Layout.{columnCeiling, rowCeiling, elementCeiling, rowStartsLength, shapeLength, wordsLength, elementsMadeAt, numbersLength};
 ghost use Rattle.laws.specs.Part.{part};
 ghost use Rattle.build_write.specs.Lp.{Few, RowStarts, ColumnsWritten, RowsWritten, MatrixWritten, shapeWritten};
+ghost use Rattle.layout.specs.WorkRoom.{WorkRoom};
 use layout::AGGREGATES_AT;
 use layout::AGGREGATES_MADE_AT;
 use layout::COUNTS_LENGTH;
@@ -80,7 +81,7 @@ fn write_row(elements: &mut [f64], row: &[f64])
 
 // The elements row by row: each row is written into the element run from its start.
 fn write_elements(z: Sizes, words: &[u16], numbers: &[f64], elements: &mut [f64])
-    requires { ⌜ Few z × RowStarts z (now words) × (wordsLength ≤ length (now words)) × (numbersLength ≤ length (now numbers)) × (elementCeiling ≤ length (now elements)) ⌝ }
+    requires { ⌜ Few z × RowStarts z (now words) × WorkRoom (now words) (now numbers) × (elementCeiling ≤ length (now elements)) ⌝ }
     ensures { λ _. ⌜ now (elements .exit) ≡ sets (now (elements .entry)) 0 (part elementsMadeAt (z .elements) (now (numbers .entry))) ⌝ }
 {
     let rows = z.rows;
@@ -103,7 +104,7 @@ pub fn write_matrix(
     columns: &mut [u16],
     row_starts: &mut [u32],
 )
-    requires { ⌜ Few z × RowStarts z (now words) × (wordsLength ≤ length (now words)) × (numbersLength ≤ length (now numbers))
+    requires { ⌜ Few z × RowStarts z (now words) × WorkRoom (now words) (now numbers)
         × (elementCeiling ≤ length (now elements)) × (elementCeiling ≤ length (now columns)) × (rowStartsLength ≤ length (now «row_starts»)) ⌝ }
     ensures { λ _. ⌜ MatrixWritten z (now (words .entry)) (now (numbers .entry)) (now (elements .entry)) (now (columns .entry)) (now («row_starts» .entry))
         (now (elements .exit)) (now (columns .exit)) (now («row_starts» .exit)) ⌝ }

@@ -7,7 +7,9 @@ use lib.ListN.{length, replicate}
 use lib.Dec.{leb, leb→le}
 use lib.Ieee.{Float}
 use lib.Ieee.Fits.{and-l, and-r}
+use Rattle.layout.specs.Layout.{numbersLength, wordsLength}
 use Rattle.laws.proofs.Tests.{of-true}
+use Rattle.layout.specs.WorkRoom.{WorkRoom}
 use Rattle.pywr.specs.declared.Sentinel.{Sentinel}
 use Rattle.pywr.specs.declared.Answer.{Answer}
 use Rattle.pywr.specs.Result.{value, refused, _>>=_, need}
@@ -29,21 +31,23 @@ use Rattle.builder.proofs.Written.{store-is}
 -- the lengths that a build needs
 pub record Room (s : Store) (words : List ℕ) (numbers : List Float) : Type 0 where
   pub store : Roomy s
-  pub words-room : 24844 ≤ length words
-  pub numbers-room : 6784 ≤ length numbers
+  pub work : WorkRoom words numbers
 
 pub room : (s : Store) (words : List ℕ) (numbers : List Float) → buildRoom s words numbers ≡ true → Room s words numbers
 unfolding buildRoom
 room s words numbers e =
     let a : Bool = storeHasRoom s in
-    let b : Bool = leb 24844 (length words) in
-    let c : Bool = leb 6784 (length numbers) in
+    let b : Bool = leb wordsLength (length words) in
+    let c : Bool = leb numbersLength (length numbers) in
     let h2 = of-true (a && b && c) e in
     let h1 = and-l (a && b) c h2 in
     record {
       store = roomy-parts s (and-l a b h1);
-      words-room = leb→le 24844 (length words) (and-r a b h1);
-      numbers-room = leb→le 6784 (length numbers) (and-r (a && b) c h2);
+      work =
+          record {
+            words-room = leb→le wordsLength (length words) (and-r a b h1);
+            numbers-room = leb→le numbersLength (length numbers) (and-r (a && b) c h2);
+          };
     }
 
 module _ (s : Sentinel) (file : List ℕ) (old : Store) (words : List ℕ) (numbers : List Float) where

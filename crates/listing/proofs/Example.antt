@@ -6,6 +6,7 @@ use mathlib.Core.Bool.{false}
 use lib.Ieee.{fin}
 use lib.IntN.{negsuc}
 use lib.ListN.{replicate}
+use Rattle.layout.specs.Layout.{numbersLength, wordsLength}
 use Rattle.pywr.specs.declared.Sentinel.the-variants.{Infinity}
 use Rattle.pywr.specs.Numbers.{zero64}
 use Rattle.pywr.specs.Network.{input, output}
@@ -23,7 +24,7 @@ use Rattle.listing.specs.Listing.{columnsText, listedColumns, programmeT
 
 built : Store
 built =
-    buildStore Infinity (varying input ++ constant output zero64 (fin false 97 (negsuc 0)) ++ edge 0 1) blank (replicate 24844 0) (replicate 6784 zero64)
+    buildStore Infinity (varying input ++ constant output zero64 (fin false 97 (negsuc 0)) ++ edge 0 1) blank (replicate wordsLength 0) (replicate numbersLength zero64)
 
 -- P 1 2 1 2
 programme : List ℕ

@@ -10,6 +10,7 @@ use lib.Seq.{sets, length-sets}
 use lib.Dec.{T, leb, ltb, eqb, le→leb}
 use lib.Ieee.{Float}
 use lib.Ieee.Fits.{and-i}
+use Rattle.layout.specs.Layout.{rowStartsLength, shapeLength}
 use Rattle.laws.proofs.Tests.{to-true, of-true}
 use Rattle.pywr.specs.declared.Sentinel.{Sentinel}
 use Rattle.pywr.specs.Result.{value, Result, refused, _>>=_, need}
@@ -75,8 +76,8 @@ room-same s p =
     && leb 1024 (u k)
     && leb 4096 (e k)
     && leb 4096 (length (s .columns))
-    && leb 1025 (length (s .rowStarts))
-    && leb 19723 (length (s .shape))
+    && leb rowStartsLength (length (s .rowStarts))
+    && leb shapeLength (length (s .shape))
 
 pub record Keeps (s t : Store) : Type 0 where
   pub shaped : wellShaped t ≡ wellShaped s
@@ -165,7 +166,7 @@ built-room old b =
     let co = length-sets (old .columns) 0 (flatMap columnsIn rows) in
     let st = length-sets (old .rowStarts) 0 (startsFrom 0 rows) in
     let sh = shape-long (old .shape) b in
-    λ k. leb 640 (cl k) && leb 640 (cu k) && leb 640 (cc′ k) && leb 1024 (rl k) && leb 1024 (ru k) && leb 4096 (el k) && leb 4096 (co k) && leb 1025 (st k) && leb 19723 (sh k)
+    λ k. leb 640 (cl k) && leb 640 (cu k) && leb 640 (cc′ k) && leb 1024 (rl k) && leb 1024 (ru k) && leb 4096 (el k) && leb 4096 (co k) && leb rowStartsLength (st k) && leb shapeLength (sh k)
 
 module _ (networkFile : List ℕ) (w : Sentinel) (old : Store) (words : List ℕ) (numbers : List Float) (net : Network) (parsed : parseNetwork networkFile ≡ value net)
     (accepted : isAccepted (buildAnswer w networkFile old words numbers) ≡ true) where

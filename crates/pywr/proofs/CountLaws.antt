@@ -8,6 +8,7 @@ use mathlib.Core.List.{List, [], _∷_}
 use lib.ListN.{length, length-append}
 use lib.Dec.{T, not-T, eqb, leb, eqb→eq, leb→le}
 use lib.Ieee.Fits.{and-l}
+use Rattle.layout.specs.Layout.{nodeRowCeiling}
 use Rattle.laws.proofs.Tests.{cond-no, by-cases, cond-yes}
 use Rattle.pywr.specs.Network.{Node, Network, keepIf}
 use Rattle.pywr.specs.ExclusiveSets.{exclusiveSets, timesIn, setsWithNode}
@@ -134,7 +135,7 @@ sets-under net p under =
     let sets : ℕ = length (exclusiveSets net) in
     leb→le sets 128 (and-l (leb sets 128) (leb (length (p .varying) + length (p .fixed)) 1024) (and-l (leb sets 128 && leb (length (p .varying) + length (p .fixed)) 1024) (leb (elementCount (p .varying) + elementCount (p .fixed)) 4096) under))
 
-pub requests-few : (net : Network) → Good net → length (exclusiveSets net) ≤ 128 → length (requestsFrom (columnMap net) 0 (net .nodes)) ≤ 4352
+pub requests-few : (net : Network) → Good net → length (exclusiveSets net) ≤ 128 → length (requestsFrom (columnMap net) 0 (net .nodes)) ≤ nodeRowCeiling
 unfolding columnMap
 requests-few net good h =
     let a = requests-total (columnMap net) (net .nodes) 0 in

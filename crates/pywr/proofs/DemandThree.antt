@@ -10,6 +10,7 @@ use lib.ListN.{length, length-map}
 use lib.Dec.{T, T-not, leb, leb→le}
 use lib.Ieee.{Float}
 use lib.Ieee.Fits.{and-l, and-r}
+use Rattle.layout.specs.Layout.{rowStartsLength, shapeLength}
 use Rattle.laws.proofs.Tests.{or-elim, same-test, of-true}
 use Rattle.pywr.specs.declared.Sentinel.{Sentinel}
 use Rattle.pywr.specs.Result.{value, Result, refused, need}
@@ -49,8 +50,8 @@ roomy-parts s h =
     let e : Bool = leb 1024 (length (s .rowUpper)) in
     let f : Bool = leb 4096 (length (s .elements)) in
     let g : Bool = leb 4096 (length (s .columns)) in
-    let i : Bool = leb 1025 (length (s .rowStarts)) in
-    let j : Bool = leb 19723 (length (s .shape)) in
+    let i : Bool = leb rowStartsLength (length (s .rowStarts)) in
+    let j : Bool = leb shapeLength (length (s .shape)) in
     let h8 = and-l (a && b && c && d && e && f && g && i) j h in
     let h7 = and-l (a && b && c && d && e && f && g) i h8 in
     let h6 = and-l (a && b && c && d && e && f) g h7 in
@@ -66,8 +67,8 @@ roomy-parts s h =
       rowUpper = leb→le 1024 (length (s .rowUpper)) (and-r (a && b && c && d) e h5);
       elements = leb→le 4096 (length (s .elements)) (and-r (a && b && c && d && e) f h6);
       columns = leb→le 4096 (length (s .columns)) (and-r (a && b && c && d && e && f) g h7);
-      rowStarts = leb→le 1025 (length (s .rowStarts)) (and-r (a && b && c && d && e && f && g) i h8);
-      shape = leb→le 19723 (length (s .shape)) (and-r (a && b && c && d && e && f && g && i) j h);
+      rowStarts = leb→le rowStartsLength (length (s .rowStarts)) (and-r (a && b && c && d && e && f && g) i h8);
+      shape = leb→le shapeLength (length (s .shape)) (and-r (a && b && c && d && e && f && g && i) j h);
     }
 
 pub accepted-value : {A : Type 0} (r : Result A) → isAccepted r ≡ true → (x : A) × (r ≡ value x)

@@ -12,6 +12,7 @@ use lib.ListN.{length, getElem?, replicate, length-append, length-map, length-re
 use lib.Dec.{T, eqb, T-not, not-T, leb, le→leb, leb→le}
 use lib.Ieee.{Float, neg}
 use lib.Ieee.Fits.{and-l, and-r}
+use Rattle.layout.specs.Layout.{nodeRowCeiling}
 use Rattle.laws.proofs.Tests.{to-true, to-false}
 use Rattle.pywr.specs.declared.Sentinel.{Sentinel}
 use Rattle.pywr.specs.Numbers.{one64}
@@ -320,7 +321,7 @@ pub only-continuous : (w : Sentinel) (net : Network) → OnlyConstant net → Co
 unfolding programmeOf assemble
 only-continuous w net only = placed-continuous (requestsFrom (columnMap net) 0 (net .nodes)) _ (requests-are net only (λ (a : RowRequest). a .rowType ≡ continuous) .1 (λ i x e t. refl))
 
-pub programme-fits : (w : Sentinel) (net : Network) (plan : Plan) → Good net → length (requestsFrom (columnMap net) 0 (net .nodes)) ≤ 4352 → T (underCeilings (columnMap net) (programmeOf w net .programme)) → ProgrammeFits (programmeOf w net)
+pub programme-fits : (w : Sentinel) (net : Network) (plan : Plan) → Good net → length (requestsFrom (columnMap net) 0 (net .nodes)) ≤ nodeRowCeiling → T (underCeilings (columnMap net) (programmeOf w net .programme)) → ProgrammeFits (programmeOf w net)
 unfolding underCeilings programmeOf assemble columnMap mappedEdges rowsOf allColumns
 programme-fits w net plan good fewAsks under =
     let p : Programme = programmeOf w net .programme in

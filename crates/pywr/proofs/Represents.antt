@@ -9,6 +9,7 @@ use lib.ListN.{length, getD, drop, length-append, length-map, List·getD-append}
 use lib.Seq.{sets, sets-eq, length-sets, drop-at, getD-append-add}
 use lib.Dec.{lit≤}
 use lib.Ieee.{Float}
+use Rattle.layout.specs.Layout.{rowStartsLength, shapeLength}
 use Rattle.laws.proofs.Runs.{flat-append}
 use Rattle.pywr.specs.declared.Sentinel.{Sentinel}
 use Rattle.pywr.specs.declared.Sentinel.the-variants.{Infinity, Largest}
@@ -153,8 +154,8 @@ pub record Roomy (s : Store) : Type 0 where
   pub rowUpper : 1024 ≤ length (s .rowUpper)
   pub elements : 4096 ≤ length (s .elements)
   pub columns : 4096 ≤ length (s .columns)
-  pub rowStarts : 1025 ≤ length (s .rowStarts)
-  pub shape : 19723 ≤ length (s .shape)
+  pub rowStarts : rowStartsLength ≤ length (s .rowStarts)
+  pub shape : shapeLength ≤ length (s .shape)
 
 sentinel-back : (w : Sentinel) → sentinelOf (sentinelWord w) ≡ w
 unfolding sentinelOf sentinelWord

@@ -8,6 +8,7 @@ use mathlib.Core.List.{List, [], _∷_, _++_, flatMap}
 use lib.ListN.{length, getD, set, length-set, length-append, List·getD-append}
 use lib.Seq.{sets, length-sets, getD-set-same, getD-set-other, getD-append-add}
 use lib.Dec.{eqb, lit≤}
+use Rattle.layout.specs.Layout.{aggregatesAt, edgesAt, nodeRowCeiling, nodeRowsAt, shapeLength, virtualStoragesAt}
 use Rattle.pywr.specs.ColEdgeMap.{MappedEdge}
 use Rattle.pywr.specs.Programme.{NodeShape, RowType, continuous, binaryUpper, binaryLower, NodeRow, VirtualStorageShape, Built}
 use Rattle.pywr.specs.Store.{Store, rowTypeOf, entries, nodeEntry, edgeEntry, nodeRowEntry, virtualStorageEntry, shapeOf}
@@ -179,7 +180,7 @@ singles (x ∷ xs) = ap (λ (l : List ℕ). x ∷ l) (singles xs)
 pub record TablesFit (b : Built) : Type 0 where
   pub nodes : length (b .shape .nodes) ≤ 256
   pub mappedEdges : length (b .shape .mappedEdges) ≤ 512
-  pub nodeRows : length (b .shape .nodeRows) ≤ 4352
+  pub nodeRows : length (b .shape .nodeRows) ≤ nodeRowCeiling
   pub aggregates : length (b .shape .aggregates) ≤ 64
   pub virtualStorages : length (b .shape .virtualStorages) ≤ 32
 
@@ -204,15 +205,15 @@ module _ (b : Built) where
   r2 old = sets (r1 old) 11 nodeTable
 
   abbrev r3 : List ℕ → List ℕ
-  r3 old = sets (r2 old) 523 pipeTable
+  r3 old = sets (r2 old) edgesAt pipeTable
 
   abbrev r4 : List ℕ → List ℕ
-  r4 old = sets (r3 old) 2059 nodeRowTable
+  r4 old = sets (r3 old) nodeRowsAt nodeRowTable
 
   abbrev r5 : List ℕ → List ℕ
-  r5 old = sets (r4 old) 19467 (b .shape .aggregates)
+  r5 old = sets (r4 old) aggregatesAt (b .shape .aggregates)
 
-module _ (old : List ℕ) (b : Built) (room : 19723 ≤ length old) (fit : TablesFit b) where
+module _ (old : List ℕ) (b : Built) (room : shapeLength ≤ length old) (fit : TablesFit b) where
   l1 : length (r1 b old) ≡ length old
   l1 = length-sets old 0 (countWords b)
 
@@ -220,27 +221,27 @@ module _ (old : List ℕ) (b : Built) (room : 19723 ≤ length old) (fit : Table
   l2 = length-sets (r1 b old) 11 (nodeTable b) ∙ l1
 
   l3 : length (r3 b old) ≡ length old
-  l3 = length-sets (r2 b old) 523 (pipeTable b) ∙ l2
+  l3 = length-sets (r2 b old) edgesAt (pipeTable b) ∙ l2
 
   l4 : length (r4 b old) ≡ length old
-  l4 = length-sets (r3 b old) 2059 (nodeRowTable b) ∙ l3
+  l4 = length-sets (r3 b old) nodeRowsAt (nodeRowTable b) ∙ l3
 
   l5 : length (r5 b old) ≡ length old
-  l5 = length-sets (r4 b old) 19467 (b .shape .aggregates) ∙ l4
+  l5 = length-sets (r4 b old) aggregatesAt (b .shape .aggregates) ∙ l4
 
-  n2 : 11 + length (nodeTable b) ≤ 523
+  n2 : 11 + length (nodeTable b) ≤ edgesAt
   n2 = let e = flat-length nodeWords 2 node-wide (b .shape .nodes) in let h = fit .nodes in omega arith
 
-  n3 : 523 + length (pipeTable b) ≤ 2059
+  n3 : edgesAt + length (pipeTable b) ≤ nodeRowsAt
   n3 = let e = flat-length edgeWords 3 pipe-wide (b .shape .mappedEdges) in let h = fit .mappedEdges in omega arith
 
-  n4 : 2059 + length (nodeRowTable b) ≤ 19467
+  n4 : nodeRowsAt + length (nodeRowTable b) ≤ aggregatesAt
   n4 = let e = flat-length nodeRowWords 4 nodeRow-wide (b .shape .nodeRows) in let h = fit .nodeRows in omega arith
 
-  n5 : 19467 + length (b .shape .aggregates) ≤ 19531
+  n5 : aggregatesAt + length (b .shape .aggregates) ≤ virtualStoragesAt
   n5 = let h = fit .aggregates in omega arith
 
-  n6 : 19531 + length (virtualStorageTable b) ≤ 19723
+  n6 : virtualStoragesAt + length (virtualStorageTable b) ≤ shapeLength
   n6 = let e = flat-length virtualStorageWords 6 virtual-storage-wide (b .shape .virtualStorages) in let h = fit .virtualStorages in omega arith
 
   pub counts-held : Holds 0 (shapeAfter old b) 0 (countWords b)
@@ -249,52 +250,52 @@ module _ (old : List ℕ) (b : Built) (room : 19723 ≤ length old) (fit : Table
       let w = counts-wide b in
       let a = sets-holds 0 (countWords b) old 0 (omega arith) in
       let c = holds-after 0 (nodeTable b) (countWords b) (r1 b old) 0 11 (omega arith) a in
-      let d = holds-after 0 (pipeTable b) (countWords b) (r2 b old) 0 523 (omega arith) c in
-      let e = holds-after 0 (nodeRowTable b) (countWords b) (r3 b old) 0 2059 (omega arith) d in
-      let f = holds-after 0 (b .shape .aggregates) (countWords b) (r4 b old) 0 19467 (omega arith) e in
-      holds-after 0 (virtualStorageTable b) (countWords b) (r5 b old) 0 19531 (omega arith) f
+      let d = holds-after 0 (pipeTable b) (countWords b) (r2 b old) 0 edgesAt (omega arith) c in
+      let e = holds-after 0 (nodeRowTable b) (countWords b) (r3 b old) 0 nodeRowsAt (omega arith) d in
+      let f = holds-after 0 (b .shape .aggregates) (countWords b) (r4 b old) 0 aggregatesAt (omega arith) e in
+      holds-after 0 (virtualStorageTable b) (countWords b) (r5 b old) 0 virtualStoragesAt (omega arith) f
 
   pub nodes-held : Holds 0 (shapeAfter old b) 11 (nodeTable b)
   unfolding shapeAfter
   nodes-held =
       let n = n2 in
       let c = sets-holds 0 (nodeTable b) (r1 b old) 11 (let l = l1 in omega arith) in
-      let d = holds-after 0 (pipeTable b) (nodeTable b) (r2 b old) 11 523 n c in
-      let e = holds-after 0 (nodeRowTable b) (nodeTable b) (r3 b old) 11 2059 (omega arith) d in
-      let f = holds-after 0 (b .shape .aggregates) (nodeTable b) (r4 b old) 11 19467 (omega arith) e in
-      holds-after 0 (virtualStorageTable b) (nodeTable b) (r5 b old) 11 19531 (omega arith) f
+      let d = holds-after 0 (pipeTable b) (nodeTable b) (r2 b old) 11 edgesAt n c in
+      let e = holds-after 0 (nodeRowTable b) (nodeTable b) (r3 b old) 11 nodeRowsAt (omega arith) d in
+      let f = holds-after 0 (b .shape .aggregates) (nodeTable b) (r4 b old) 11 aggregatesAt (omega arith) e in
+      holds-after 0 (virtualStorageTable b) (nodeTable b) (r5 b old) 11 virtualStoragesAt (omega arith) f
 
-  pub pipes-held : Holds 0 (shapeAfter old b) 523 (pipeTable b)
+  pub pipes-held : Holds 0 (shapeAfter old b) edgesAt (pipeTable b)
   unfolding shapeAfter
   pipes-held =
       let n = n3 in
-      let d = sets-holds 0 (pipeTable b) (r2 b old) 523 (let l = l2 in omega arith) in
-      let e = holds-after 0 (nodeRowTable b) (pipeTable b) (r3 b old) 523 2059 n d in
-      let f = holds-after 0 (b .shape .aggregates) (pipeTable b) (r4 b old) 523 19467 (omega arith) e in
-      holds-after 0 (virtualStorageTable b) (pipeTable b) (r5 b old) 523 19531 (omega arith) f
+      let d = sets-holds 0 (pipeTable b) (r2 b old) edgesAt (let l = l2 in omega arith) in
+      let e = holds-after 0 (nodeRowTable b) (pipeTable b) (r3 b old) edgesAt nodeRowsAt n d in
+      let f = holds-after 0 (b .shape .aggregates) (pipeTable b) (r4 b old) edgesAt aggregatesAt (omega arith) e in
+      holds-after 0 (virtualStorageTable b) (pipeTable b) (r5 b old) edgesAt virtualStoragesAt (omega arith) f
 
-  pub nodeRows-held : Holds 0 (shapeAfter old b) 2059 (nodeRowTable b)
+  pub nodeRows-held : Holds 0 (shapeAfter old b) nodeRowsAt (nodeRowTable b)
   unfolding shapeAfter
   nodeRows-held =
       let n = n4 in
-      let e = sets-holds 0 (nodeRowTable b) (r3 b old) 2059 (let l = l3 in omega arith) in
-      let f = holds-after 0 (b .shape .aggregates) (nodeRowTable b) (r4 b old) 2059 19467 n e in
-      holds-after 0 (virtualStorageTable b) (nodeRowTable b) (r5 b old) 2059 19531 (omega arith) f
+      let e = sets-holds 0 (nodeRowTable b) (r3 b old) nodeRowsAt (let l = l3 in omega arith) in
+      let f = holds-after 0 (b .shape .aggregates) (nodeRowTable b) (r4 b old) nodeRowsAt aggregatesAt n e in
+      holds-after 0 (virtualStorageTable b) (nodeRowTable b) (r5 b old) nodeRowsAt virtualStoragesAt (omega arith) f
 
-  pub aggregates-held : Holds 0 (shapeAfter old b) 19467 (b .shape .aggregates)
+  pub aggregates-held : Holds 0 (shapeAfter old b) aggregatesAt (b .shape .aggregates)
   unfolding shapeAfter
   aggregates-held =
       let n = n5 in
-      let f = sets-holds 0 (b .shape .aggregates) (r4 b old) 19467 (let l = l4 in omega arith) in
-      holds-after 0 (virtualStorageTable b) (b .shape .aggregates) (r5 b old) 19467 19531 n f
+      let f = sets-holds 0 (b .shape .aggregates) (r4 b old) aggregatesAt (let l = l4 in omega arith) in
+      holds-after 0 (virtualStorageTable b) (b .shape .aggregates) (r5 b old) aggregatesAt virtualStoragesAt n f
 
-  pub virtual-storages-held : Holds 0 (shapeAfter old b) 19531 (virtualStorageTable b)
+  pub virtual-storages-held : Holds 0 (shapeAfter old b) virtualStoragesAt (virtualStorageTable b)
   unfolding shapeAfter
-  virtual-storages-held = let n = n6 in sets-holds 0 (virtualStorageTable b) (r5 b old) 19531 (let l = l5 in omega arith)
+  virtual-storages-held = let n = n6 in sets-holds 0 (virtualStorageTable b) (r5 b old) virtualStoragesAt (let l = l5 in omega arith)
 
 -- ---- what is read of a built store is what was built
 
-module _ (old : Store) (b : Built) (room : 19723 ≤ length (old .shape)) (fit : TablesFit b) where
+module _ (old : Store) (b : Built) (room : shapeLength ≤ length (old .shape)) (fit : TablesFit b) where
   pub count-is : (i : ℕ) → i < 11 → getD (shapeAfter (old .shape) b) i 0 ≡ getD (countWords b) i 0
   unfolding Holds
   count-is i h = ap (λ (n : ℕ). getD (shapeAfter (old .shape) b) n 0) (sym (zero-add i)) ∙ counts-held (old .shape) b room fit i (let w = counts-wide b in omega arith)
@@ -307,17 +308,17 @@ module _ (old : Store) (b : Built) (room : 19723 ≤ length (old .shape)) (fit :
       let nodes : entries (nodeEntry s) 2 11 (getD run 1 0) ≡ b .shape .nodes =
       ap (entries (nodeEntry s) 2 11) (count-is 1 (lit≤ tt))
       ∙ entries-back 0 run (nodeEntry s) 2 nodeWords node-wide (node-reads s) (b .shape .nodes) 11 (nodes-held (old .shape) b room fit) in
-      let mappedEdges : entries (edgeEntry s) 3 523 (getD run 2 0) ≡ b .shape .mappedEdges =
-      ap (entries (edgeEntry s) 3 523) (count-is 2 (lit≤ tt))
-      ∙ entries-back 0 run (edgeEntry s) 3 edgeWords pipe-wide (pipe-reads s) (b .shape .mappedEdges) 523 (pipes-held (old .shape) b room fit) in
-      let nodeRows : entries (nodeRowEntry s) 4 2059 (getD run 8 0) ≡ b .shape .nodeRows =
-      ap (entries (nodeRowEntry s) 4 2059) (count-is 8 (lit≤ tt))
-      ∙ entries-back 0 run (nodeRowEntry s) 4 nodeRowWords nodeRow-wide (nodeRow-reads s) (b .shape .nodeRows) 2059 (nodeRows-held (old .shape) b room fit) in
-      let aggregates : entries (λ (at : ℕ). getD run at 0) 1 19467 (getD run 9 0) ≡ b .shape .aggregates =
-      ap (entries (λ (at : ℕ). getD run at 0) 1 19467) (count-is 9 (lit≤ tt))
-      ∙ entries-back 0 run (λ (at : ℕ). getD run at 0) 1 (λ (x : ℕ). x ∷ []) (λ x. refl) (row-reads s) (b .shape .aggregates) 19467
-      (subst (λ (l : List ℕ). Holds 0 run 19467 l) (sym (singles (b .shape .aggregates))) (aggregates-held (old .shape) b room fit)) in
-      let virtualStorages : entries (virtualStorageEntry s) 6 19531 (getD run 10 0) ≡ b .shape .virtualStorages =
-      ap (entries (virtualStorageEntry s) 6 19531) (count-is 10 (lit≤ tt))
-      ∙ entries-back 0 run (virtualStorageEntry s) 6 virtualStorageWords virtual-storage-wide (virtual-storage-reads s) (b .shape .virtualStorages) 19531 (virtual-storages-held (old .shape) b room fit) in
+      let mappedEdges : entries (edgeEntry s) 3 edgesAt (getD run 2 0) ≡ b .shape .mappedEdges =
+      ap (entries (edgeEntry s) 3 edgesAt) (count-is 2 (lit≤ tt))
+      ∙ entries-back 0 run (edgeEntry s) 3 edgeWords pipe-wide (pipe-reads s) (b .shape .mappedEdges) edgesAt (pipes-held (old .shape) b room fit) in
+      let nodeRows : entries (nodeRowEntry s) 4 nodeRowsAt (getD run 8 0) ≡ b .shape .nodeRows =
+      ap (entries (nodeRowEntry s) 4 nodeRowsAt) (count-is 8 (lit≤ tt))
+      ∙ entries-back 0 run (nodeRowEntry s) 4 nodeRowWords nodeRow-wide (nodeRow-reads s) (b .shape .nodeRows) nodeRowsAt (nodeRows-held (old .shape) b room fit) in
+      let aggregates : entries (λ (at : ℕ). getD run at 0) 1 aggregatesAt (getD run 9 0) ≡ b .shape .aggregates =
+      ap (entries (λ (at : ℕ). getD run at 0) 1 aggregatesAt) (count-is 9 (lit≤ tt))
+      ∙ entries-back 0 run (λ (at : ℕ). getD run at 0) 1 (λ (x : ℕ). x ∷ []) (λ x. refl) (row-reads s) (b .shape .aggregates) aggregatesAt
+      (subst (λ (l : List ℕ). Holds 0 run aggregatesAt l) (sym (singles (b .shape .aggregates))) (aggregates-held (old .shape) b room fit)) in
+      let virtualStorages : entries (virtualStorageEntry s) 6 virtualStoragesAt (getD run 10 0) ≡ b .shape .virtualStorages =
+      ap (entries (virtualStorageEntry s) 6 virtualStoragesAt) (count-is 10 (lit≤ tt))
+      ∙ entries-back 0 run (virtualStorageEntry s) 6 virtualStorageWords virtual-storage-wide (virtual-storage-reads s) (b .shape .virtualStorages) virtualStoragesAt (virtual-storages-held (old .shape) b room fit) in
       λ i. record { nodes = nodes i; mappedEdges = mappedEdges i; edgeColumns = count-is 3 (lit≤ tt) i; nodeRows = nodeRows i; aggregates = aggregates i; virtualStorages = virtualStorages i }

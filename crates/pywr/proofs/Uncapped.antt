@@ -5,6 +5,7 @@ use mathlib.Core.List.{List, [], _∷_, _++_}
 use mathlib.Core.Bool.{true, false}
 use lib.ListN.{replicate}
 use lib.Ieee.{inf}
+use Rattle.layout.specs.Layout.{numbersLength, wordsLength}
 use Rattle.pywr.specs.declared.Sentinel.the-variants.{Infinity}
 use Rattle.pywr.specs.Numbers.{double, zero64}
 use Rattle.pywr.specs.Network.{input, output}
@@ -25,7 +26,7 @@ pumpStep : List ℕ
 pumpStep = date 6 1 (double 1) ++ nodeStep zero64 (double 3) (double 2000000) zero64 ++ nodeStep zero64 zero64 zero64 zero64 ++ aggregateStep zero64 (double 9)
 
 pub pumpRows : List Row
-pumpRows = programmeIn (stepStore (buildStore Infinity pump blank (replicate 24844 0) (replicate 6784 zero64)) pumpStep work) .varying
+pumpRows = programmeIn (stepStore (buildStore Infinity pump blank (replicate wordsLength 0) (replicate numbersLength zero64)) pumpStep work) .varying
 
 -- "both sentinels .. the integer column's coefficient becomes the upper bound, or minus the lower, uncapped"
 pub uncapped : pumpRows

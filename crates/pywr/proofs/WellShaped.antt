@@ -10,6 +10,7 @@ use mathlib.Core.Option.{Option, none, some}
 use lib.ListN.{length, getD, getElem?, length-append, length-map}
 use lib.Dec.{T, leb, ltb, eqb, le→leb, lt→ltb, lit≤}
 use lib.Ieee.Fits.{and-i, eq→eqb}
+use Rattle.layout.specs.Layout.{aggregatesAt, edgesAt, nodeRowCeiling, nodeRowsAt, virtualStoragesAt}
 use Rattle.laws.proofs.Tests.{or-l, or-r}
 use Rattle.pywr.specs.declared.Sentinel.{Sentinel}
 use Rattle.pywr.specs.declared.Sentinel.the-variants.{Infinity, Largest}
@@ -288,14 +289,14 @@ module _ (w : Sentinel) (net : Network) (sound : Sound net) (old : Store) (room 
   counts-ok =
       let g = sound .good in
       let ne = g .edgeCount in
-      nine (leb (nodeCount store) 256) (leb (edgeCount store) 512) (leb (edgeColumnCount store) 512) (leb (setCount store) 128) (leb (rowCount store) 1024) (leb (elementsKept store) 4096) (leb (nodeRowCount store) 4352) (leb (aggregateCount store) 64) (leb (virtualStorageCount store) 32)
+      nine (leb (nodeCount store) 256) (leb (edgeCount store) 512) (leb (edgeColumnCount store) 512) (leb (setCount store) 128) (leb (rowCount store) 1024) (leb (elementsKept store) 4096) (leb (nodeRowCount store) nodeRowCeiling) (leb (aggregateCount store) 64) (leb (virtualStorageCount store) 32)
       (leb-is (nodeCount store) (length (net .nodes)) 256 c1 (g .nodeCount))
       (leb-is (edgeCount store) (length (net .edges)) 512 c2 ne)
       (leb-is (edgeColumnCount store) (columns net .count) 512 c3 (le-trans (columns-most net) ne))
       (leb-is (setCount store) (length (exclusiveSets net)) 128 c4 few)
       (leb-is (rowCount store) (length (rowsOf (b .programme))) 1024 rows-count (fits .rows))
       (leb-is (elementsKept store) (elementCount (rowsOf (b .programme))) 4096 (c7 ∙ sym (rows-elements (b .programme))) (fits .elements))
-      (leb-is (nodeRowCount store) (length (b .shape .nodeRows)) 4352 c8 (fits .tables .nodeRows))
+      (leb-is (nodeRowCount store) (length (b .shape .nodeRows)) nodeRowCeiling c8 (fits .tables .nodeRows))
       (leb-is (aggregateCount store) (length (b .shape .aggregates)) 64 c9 (fits .tables .aggregates))
       (leb-is (virtualStorageCount store) (length (b .shape .virtualStorages)) 32 c10 (fits .tables .virtualStorages))
 
@@ -353,10 +354,10 @@ module _ (w : Sentinel) (net : Network) (sound : Sound net) (old : Store) (room 
       (leb-is (word store (at + 1)) (flagWord (x .constant)) 1 (word-at (shapeAfter (old .shape) b) at (nodeWords x) h 1 (lit≤ tt)) (flag-most (x .constant))))
       (b .shape .nodes) 11 (shapes-fit w net (sound .good)) (nodes-held (old .shape) b (room .shape) (fits .tables)))
 
-  edges-ok : T (allEntries (edgeFits store) 3 523 (edgeCount store))
+  edges-ok : T (allEntries (edgeFits store) 3 edgesAt (edgeCount store))
   unfolding builtStore edgeFits edgeWords countWords
   edges-ok =
-      subst (λ (n : ℕ). T (allEntries (edgeFits store) 3 523 n)) (sym (counted 2 (lit≤ tt)))
+      subst (λ (n : ℕ). T (allEntries (edgeFits store) 3 edgesAt n)) (sym (counted 2 (lit≤ tt)))
       (table-all (shapeAfter (old .shape) b) (edgeFits store) 3 edgeWords (PipeOk (length (net .nodes)) (columns net .count)) pipe-wide
       (λ at x k h.
       let first : word store at ≡ x .from = first-word (shapeAfter (old .shape) b) at (edgeWords x) h (lit≤ tt) in
@@ -367,7 +368,7 @@ module _ (w : Sentinel) (net : Network) (sound : Sound net) (old : Store) (room 
       (ltb-is (word store at) (x .from) (nodeCount store) (length (net .nodes)) first c1 (k .from-under))
       (ltb-is (word store (at + 1)) (x .to) (nodeCount store) (length (net .nodes)) second c1 (k .to-under)))
       (ltb-is (word store (at + 2)) (x .column) (edgeColumnCount store) (columns net .count) third c3 (k .column-under)))
-      (b .shape .mappedEdges) 523 (built-pipes w net sound) (pipes-held (old .shape) b (room .shape) (fits .tables)))
+      (b .shape .mappedEdges) edgesAt (built-pipes w net sound) (pipes-held (old .shape) b (room .shape) (fits .tables)))
 
   sitsN : Sits joined (map requestedRow (requestsFrom (columnMap net) 0 (net .nodes))) (forNodes w net idle .places)
   sitsN =
@@ -407,10 +408,10 @@ module _ (w : Sentinel) (net : Network) (sound : Sound net) (old : Store) (room 
       (and-i u v (ltb-is (word store (at + 3)) (x .set) (setCount store) (length (exclusiveSets net)) fourth c4 (q .0))
       (subst (λ (l : List ℕ). T (listed (edgeColumnCount store + word store (at + 3)) l)) (sym row) (subst (λ (c : ℕ). T (listed c (cols (getD joined (x .row) [])))) (sym col) (mem-listed (columns net .count + x .set) (cols (getD joined (x .row) [])) (q .1)))))
 
-  nodeRows-ok : T (allEntries (nodeRowFits store) 4 2059 (nodeRowCount store))
+  nodeRows-ok : T (allEntries (nodeRowFits store) 4 nodeRowsAt (nodeRowCount store))
   unfolding builtStore nodeRowFits nodeRowWords countWords
   nodeRows-ok =
-      subst (λ (n : ℕ). T (allEntries (nodeRowFits store) 4 2059 n)) (sym (counted 8 (lit≤ tt)))
+      subst (λ (n : ℕ). T (allEntries (nodeRowFits store) 4 nodeRowsAt n)) (sym (counted 8 (lit≤ tt)))
       (table-all (shapeAfter (old .shape) b) (nodeRowFits store) 4 nodeRowWords (NodeRowOk net sound joined) nodeRow-wide
       (λ at x k h.
       let first : word store at ≡ x .node = first-word (shapeAfter (old .shape) b) at (nodeRowWords x) h (lit≤ tt) in
@@ -428,29 +429,29 @@ module _ (w : Sentinel) (net : Network) (sound : Sound net) (old : Store) (room 
       (and-i p q (ltb-is (word store at) (x .node) (nodeCount store) (length (net .nodes)) first c1 (k .node-under)) (ltb-is (word store (at + 1)) (x .row) (varyingCount store) (length joined) second c5 (k .row-under)))
       (leb-is (word store (at + 2)) (rowTypeWord (x .rowType)) 2 third (type-most (x .rowType))))
       (set-listed at x k second third fourth (k .has-set)))
-      (b .shape .nodeRows) 2059 built-node-rows (nodeRows-held (old .shape) b (room .shape) (fits .tables)))
+      (b .shape .nodeRows) nodeRowsAt built-node-rows (nodeRows-held (old .shape) b (room .shape) (fits .tables)))
 
-  aggregates-ok : T (allEntries (aggregateFits store) 1 19467 (aggregateCount store))
+  aggregates-ok : T (allEntries (aggregateFits store) 1 aggregatesAt (aggregateCount store))
   unfolding builtStore aggregateFits countWords programmeOf assemble
   aggregates-ok =
-      subst (λ (n : ℕ). T (allEntries (aggregateFits store) 1 19467 n)) (sym (counted 9 (lit≤ tt)))
+      subst (λ (n : ℕ). T (allEntries (aggregateFits store) 1 aggregatesAt n)) (sym (counted 9 (lit≤ tt)))
       (row-all (shapeAfter (old .shape) b) (aggregateFits store) (length joined) (λ at x k e. ltb-is (word store at) x (varyingCount store) (length joined) e c5 k)
-      (b .shape .aggregates) 19467 (places-under joined _ _ sitsA) (aggregates-held (old .shape) b (room .shape) (fits .tables)))
+      (b .shape .aggregates) aggregatesAt (places-under joined _ _ sitsA) (aggregates-held (old .shape) b (room .shape) (fits .tables)))
 
-  virtual-storages-ok : T (allEntries (virtualStorageFits store) 6 19531 (virtualStorageCount store))
+  virtual-storages-ok : T (allEntries (virtualStorageFits store) 6 virtualStoragesAt (virtualStorageCount store))
   unfolding builtStore virtualStorageFits virtualStorageWords countWords programmeOf assemble
   virtual-storages-ok =
-      subst (λ (n : ℕ). T (allEntries (virtualStorageFits store) 6 19531 n)) (sym (counted 10 (lit≤ tt)))
+      subst (λ (n : ℕ). T (allEntries (virtualStorageFits store) 6 virtualStoragesAt n)) (sym (counted 10 (lit≤ tt)))
       (table-all (shapeAfter (old .shape) b) (virtualStorageFits store) 6 virtualStorageWords (λ (v : VirtualStorageShape). v .row < length joined) virtual-storage-wide
       (λ at x k h.
       and-i (ltb (word store at) (varyingCount store)) (leb (word store (at + 1)) 1)
       (ltb-is (word store at) (x .row) (varyingCount store) (length joined) (first-word (shapeAfter (old .shape) b) at (virtualStorageWords x) h (lit≤ tt)) c5 k)
       (leb-is (word store (at + 1)) (flagWord (not (x .period .always))) 1 (word-at (shapeAfter (old .shape) b) at (virtualStorageWords x) h 1 (lit≤ tt)) (flag-most (not (x .period .always)))))
-      (b .shape .virtualStorages) 19531 (virtual-storages-under (length joined) (net .virtualStorages) (forVirtualStorages w net idle .places) (places-under joined _ _ sitsV)) (virtual-storages-held (old .shape) b (room .shape) (fits .tables)))
+      (b .shape .virtualStorages) virtualStoragesAt (virtual-storages-under (length joined) (net .virtualStorages) (forVirtualStorages w net idle .places) (places-under joined _ _ sitsV)) (virtual-storages-held (old .shape) b (room .shape) (fits .tables)))
 
   pub shaped : T (wellShaped (builtStore old (programmeOf w net)))
   unfolding wellShaped
   shaped =
       nine (countsFit store) (leb (sentinelCode store) 1) (eqb (startOf store 0) 0 && startsRise store 0 (rowCount store)) (allEntries (rowColumnsRise store) 1 0 (rowCount store)) (allEntries (nodeFits store) 2 11 (nodeCount store))
-      (allEntries (edgeFits store) 3 523 (edgeCount store)) (allEntries (nodeRowFits store) 4 2059 (nodeRowCount store)) (allEntries (aggregateFits store) 1 19467 (aggregateCount store)) (allEntries (virtualStorageFits store) 6 19531 (virtualStorageCount store))
+      (allEntries (edgeFits store) 3 edgesAt (edgeCount store)) (allEntries (nodeRowFits store) 4 nodeRowsAt (nodeRowCount store)) (allEntries (aggregateFits store) 1 aggregatesAt (aggregateCount store)) (allEntries (virtualStorageFits store) 6 virtualStoragesAt (virtualStorageCount store))
       counts-ok (leb-is (sentinelCode store) (sentinelWord w) 1 c0 (sentinel-most w)) starts-ok rows-ok nodes-ok edges-ok nodeRows-ok aggregates-ok virtual-storages-ok

@@ -8,6 +8,7 @@ use lib.ListN.{length}
 use lib.Dec.{leb, leb→le}
 use lib.Ieee.{Float}
 use lib.Ieee.Fits.{and-l, and-r}
+use Rattle.layout.specs.Layout.{stepWorkLength}
 use Rattle.pywr.specs.declared.Answer.{Answer}
 use Rattle.pywr.specs.declared.Answer.the-variants.{Accepted, Refused}
 use Rattle.pywr.specs.Result.{Result, value, refused, _>>=_, need}
@@ -52,11 +53,11 @@ ordered-value (refused n p) f e = not-accepted e
 
 pub room-store : (s : Store) (work : List Float) → stepRoom s work ≡ true → Roomy s
 unfolding stepRoom
-room-store s work e = roomy-parts s (and-l (storeHasRoom s) (leb 704 (length work)) (of-true (storeHasRoom s && leb 704 (length work)) e))
+room-store s work e = roomy-parts s (and-l (storeHasRoom s) (leb stepWorkLength (length work)) (of-true (storeHasRoom s && leb stepWorkLength (length work)) e))
 
-pub room-work : (s : Store) (work : List Float) → stepRoom s work ≡ true → 704 ≤ length work
+pub room-work : (s : Store) (work : List Float) → stepRoom s work ≡ true → stepWorkLength ≤ length work
 unfolding stepRoom
-room-work s work e = leb→le 704 (length work) (and-r (storeHasRoom s) (leb 704 (length work)) (of-true (storeHasRoom s && leb 704 (length work)) e))
+room-work s work e = leb→le stepWorkLength (length work) (and-r (storeHasRoom s) (leb stepWorkLength (length work)) (of-true (storeHasRoom s && leb stepWorkLength (length work)) e))
 
 module _ (s : Store) (file : List ℕ) (work : List Float) where
   -- 17
@@ -73,7 +74,7 @@ module _ (s : Store) (file : List ℕ) (work : List Float) where
         → stepAnswer s file lent ≡ afterReading (stepIntervals s) (readOn s file)
     unfolding stepRoom
     answers lent room =
-        step-answers s file lent (and-l (storeHasRoom s) (leb 704 (length lent)) (of-true (storeHasRoom s && leb 704 (length lent)) room)) (room-work s lent room) (of-true (wellShaped s) ok)
+        step-answers s file lent (and-l (storeHasRoom s) (leb stepWorkLength (length lent)) (of-true (storeHasRoom s && leb stepWorkLength (length lent)) room)) (room-work s lent room) (of-true (wellShaped s) ok)
 
     -- 12, 13
     pub judged-file : {n p : ℕ} → Refused n p ≡ answerOf (readOn s file) → Judged s file (Refused n p) work

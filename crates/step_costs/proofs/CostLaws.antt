@@ -10,6 +10,7 @@ use lib.ListN.{length, getD, set, drop, replicate, length-append, length-drop, l
 use lib.Seq.{sets, sets-eq, set-append-left, drop-at}
 use lib.Ieee.{Float, nan, binary64, ofBits, add}
 use lib.Ieee.Fits.{and-l, and-r}
+use Rattle.layout.specs.Layout.{edgesAt}
 use Rattle.laws.proofs.Runs.{getD-any}
 use Rattle.pywr.specs.Numbers.{zero64, two64}
 use Rattle.pywr.specs.Programme.{Column, NodeShape, Shape}
@@ -122,7 +123,7 @@ module _ (file shape : List ℕ) where
     pub costs : List Float
     pub size : length costs ≡ columns
     pub few : i ≤ edges
-    pub place : at ≡ 523 + 3 * i
+    pub place : at ≡ edgesAt + 3 * i
     pub held : d ≡ costs ++ drop columns d₀
     pub so-far : stepCosts tables columns steps ≡ addCosts (tables .nodes) steps (entries (edgeEntry (ofShape shape)) 3 at (edges - i)) costs
 
@@ -131,7 +132,7 @@ module _ (file shape : List ℕ) where
       ap (drop columns) (e ∙ front-is d (replicate columns zero64) columns (length-replicate columns zero64) h)
       ∙ drop-at (replicate columns zero64) (drop columns d) columns (length-replicate columns zero64)
 
-  pub added-none : (d d₁ : List Float) → columns ≤ length d → d₁ ≡ sets d 0 (replicate columns zero64) → Added d₁ d₁ 523 0
+  pub added-none : (d d₁ : List Float) → columns ≤ length d → d₁ ≡ sets d 0 (replicate columns zero64) → Added d₁ d₁ edgesAt 0
   unfolding stepCosts shapeOf
   added-none d d₁ h e =
       record {
@@ -150,8 +151,8 @@ module _ (file shape : List ℕ) where
   added-length d₀ d at i h a = omega (arith, ap length (a .held), length-append (a .costs) (drop columns d₀), length-drop columns d₀, a .size)
 
   -- an edge that fits
-  pub edge-at : (d₀ d : List Float) (at i : ℕ) → Added d₀ d at i → i < edges → allEntries (edgeFits (ofShape shape)) 3 523 edges ≡ true → Edge (ofShape shape) at
-  edge-at d₀ d at i a lt fit = edge-fits (ofShape shape) at (rw (a .place) (entry-passes (edgeFits (ofShape shape)) 3 edges 523 fit i lt))
+  pub edge-at : (d₀ d : List Float) (at i : ℕ) → Added d₀ d at i → i < edges → allEntries (edgeFits (ofShape shape)) 3 edgesAt edges ≡ true → Edge (ofShape shape) at
+  edge-at d₀ d at i a lt fit = edge-fits (ofShape shape) at (rw (a .place) (entry-passes (edgeFits (ofShape shape)) 3 edges edgesAt fit i lt))
 
   kind-is : (k : ℕ) → k < getD shape 1 0 → kindAt (tables .nodes) k ≡ kindIn shape k
   unfolding shapeOf
@@ -164,7 +165,7 @@ module _ (file shape : List ℕ) where
   abbrev costOf : ℕ → ℕ → Float
   costOf from to = edgeCost (kindIn shape from) (costIn file from) (kindIn shape to) (costIn file to)
 
-  module _ (d₀ d : List Float) (at i : ℕ) (a : Added d₀ d at i) (lt : i < edges) (fit : allEntries (edgeFits (ofShape shape)) 3 523 edges ≡ true) where
+  module _ (d₀ d : List Float) (at i : ℕ) (a : Added d₀ d at i) (lt : i < edges) (fit : allEntries (edgeFits (ofShape shape)) 3 edgesAt edges ≡ true) where
     abbrev from : ℕ
     from = getD shape at 0
 

@@ -3,6 +3,7 @@ use mathlib.Core.Path.{_≡_, sym, ap, _∙_}
 use Prim.Native.Nat.{ℕ, _+_, _-_, _<_, _≤_}
 use mathlib.Core.List.{List}
 use lib.ListN.{length, getD}
+use Rattle.layout.specs.Layout.{aggregatesAt, virtualStoragesAt}
 use Rattle.pywr.specs.declared.Answer.{Answer}
 use Rattle.pywr.specs.declared.Answer.the-variants.{Accepted, Refused}
 use Rattle.pywr.specs.Answers.{answerOf}
@@ -57,8 +58,8 @@ pub step-answer : (s : Store) (file shape : List ℕ) (n aggregates virtualStora
 unfolding shapeOf
 step-answer s file shape n aggregates virtualStorages e qn qa qv =
     let ln : length (shapeOf s .nodes) ≡ n = entries-length _ 2 11 _ ∙ ap (λ (l : List ℕ). getD l 1 0) e ∙ sym qn in
-    let la : length (shapeOf s .aggregates) ≡ aggregates = entries-length _ 1 19467 _ ∙ ap (λ (l : List ℕ). getD l 9 0) e ∙ sym qa in
-    let lv : length (shapeOf s .virtualStorages) ≡ virtualStorages = entries-length _ 6 19531 _ ∙ ap (λ (l : List ℕ). getD l 10 0) e ∙ sym qv in
+    let la : length (shapeOf s .aggregates) ≡ aggregates = entries-length _ 1 aggregatesAt _ ∙ ap (λ (l : List ℕ). getD l 9 0) e ∙ sym qa in
+    let lv : length (shapeOf s .virtualStorages) ≡ virtualStorages = entries-length _ 6 virtualStoragesAt _ ∙ ap (λ (l : List ℕ). getD l 10 0) e ∙ sym qv in
     ap answerOf (step-law (shapeOf s .nodes) _ _ file) ∙ answer-back _ _ ∙ counts ln la lv
   where
     counts : {n′ a′ v′ : ℕ} → n′ ≡ n → a′ ≡ aggregates → v′ ≡ virtualStorages → checkFile file (shapeOf s .nodes) n′ a′ v′ ≡ checkFile file (shapeOf s .nodes) n aggregates virtualStorages

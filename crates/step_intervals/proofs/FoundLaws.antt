@@ -6,6 +6,7 @@ use mathlib.Core.List.{List}
 use mathlib.Core.Option.{Option, none, some}
 use lib.ListN.{getD}
 use lib.Ieee.{Float}
+use Rattle.layout.specs.Layout.{virtualStoragesHeldAt}
 use Rattle.pywr.specs.declared.Answer.{Answer}
 use Rattle.pywr.specs.declared.Answer.the-variants.{Accepted, Refused}
 use Rattle.pywr.specs.declared.Interval.{Interval}
@@ -65,8 +66,8 @@ module _ (s : Store) (shape file : List ℕ) (e : s .shape ≡ shape) (days : Fl
 
   module _ (few-nodes : getD shape 1 0 ≤ 256) (few-aggregates : getD shape 9 0 ≤ 64) (accepted : r₁ ≡ Accepted)
       (w₂ w₃ : List Float) (r₂ : Answer) (two : Written (aggregateNumbered shape file) 256 (getD shape 9 0) w₁ w₂)
-      (three : Looked 15 (virtualStorageNumbered sentinel days shape file) 320 (getD shape 10 0) w₂ r₂ w₃) where
-    virtual-storages-looked : Looked 15 (virtualStorageNumbered (sentinelOf (word s 0)) (f64At file 4) (s .shape) file) 320 (virtualStorageCount s) w₂ r₂ w₃
+      (three : Looked 15 (virtualStorageNumbered sentinel days shape file) virtualStoragesHeldAt (getD shape 10 0) w₂ r₂ w₃) where
+    virtual-storages-looked : Looked 15 (virtualStorageNumbered (sentinelOf (word s 0)) (f64At file 4) (s .shape) file) virtualStoragesHeldAt (virtualStorageCount s) w₂ r₂ w₃
     virtual-storages-looked = rw (of-days, kept, ← e) at three
 
     aggregates-written : Written (aggregateNumbered (s .shape) file) 256 (aggregateCount s) w₁ w₂
@@ -83,7 +84,7 @@ module _ (s : Store) (shape file : List ℕ) (e : s .shape ≡ shape) (days : Fl
           aggregates-are = holds w₃ (aggregateNumbered (s .shape) file) 256 (aggregateCount s)
               (λ k lt. v .kept (256 + k) (omega (arith, ap (λ (l : List ℕ). getD l 9 0) e)) ∙ aggregates-written .held k lt)
               ∙ sym (aggregates-are s file);
-          virtual-storages-are = holds w₃ (virtualStorageNumbered (sentinelOf (word s 0)) (f64At file 4) (s .shape) file) 320 (virtualStorageCount s) (v .held) ∙ sym (virtual-storages-are s file);
+          virtual-storages-are = holds w₃ (virtualStorageNumbered (sentinelOf (word s 0)) (f64At file 4) (s .shape) file) virtualStoragesHeldAt (virtualStorageCount s) (v .held) ∙ sym (virtual-storages-are s file);
         }
 
     pub all-found : Found s file r₂ w₃

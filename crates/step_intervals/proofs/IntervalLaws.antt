@@ -3,6 +3,7 @@ use mathlib.Core.Path.{_≡_, refl, ap, ap₂, _∙_}
 use Prim.Native.Nat.{ℕ, zero, suc, _+_, _*_}
 use native.Mathlib.Omega.{arith}
 use mathlib.Core.List.{List, [], _∷_, map}
+use Rattle.layout.specs.Layout.{aggregatesAt, virtualStoragesAt}
 use Rattle.pywr.specs.declared.Sentinel.{Sentinel}
 use Rattle.pywr.specs.declared.Interval.{Interval}
 use Rattle.pywr.specs.Calls.{stepIntervals}
@@ -44,22 +45,22 @@ module _ (s : Store) (file : List ℕ) where
   pub aggregates-are : intervalsIn s file .aggregates ≡ entries (aggregateNumbered (s .shape) file) 1 0 (aggregateCount s)
   unfolding intervalsIn stepIntervals intervals decoded shapeOf aggregateNumbered
   aggregates-are =
-      rw (entries-length (nodeEntry s) 2 11 (nodeCount s), entries-length (word s) 1 19467 (aggregateCount s))
+      rw (entries-length (nodeEntry s) 2 11 (nodeCount s), entries-length (word s) 1 aggregatesAt (aggregateCount s))
       (entries-same (aggregateStepAt file) (aggregateNumbered (s .shape) file) 18 1 (aggregateStepsAt (nodeCount s)) 0 (aggregateCount s)
       (λ k lt. ap (aggregateNumbered (s .shape) file) (let e : k ≡ 0 + 1 * k = omega arith in e)))
 
   virtual-storage-list : (t : Sentinel) (f : StepFile) (g : ℕ → Interval) (n at : ℕ)
-      → ((k : ℕ) → virtualInterval t (f .days) (isActive (virtualStorageEntry s (19531 + 6 * k) .period) (f .month) (f .day)) (virtualStorageStepAt file (at + 26 * k)) ≡ g (0 + k))
-      → virtualStorageIntervals t f (map periodOf (entries (virtualStorageEntry s) 6 19531 n)) (entries (virtualStorageStepAt file) 26 at n) ≡ entries g 1 0 n
+      → ((k : ℕ) → virtualInterval t (f .days) (isActive (virtualStorageEntry s (virtualStoragesAt + 6 * k) .period) (f .month) (f .day)) (virtualStorageStepAt file (at + 26 * k)) ≡ g (0 + k))
+      → virtualStorageIntervals t f (map periodOf (entries (virtualStorageEntry s) 6 virtualStoragesAt n)) (entries (virtualStorageStepAt file) 26 at n) ≡ entries g 1 0 n
   unfolding virtualStorageIntervals entries periodOf
   virtual-storage-list t f g n at h =
       listed (λ (n place at : ℕ). virtualStorageIntervals t f (map periodOf (entries (virtualStorageEntry s) 6 place n)) (entries (virtualStorageStepAt file) 26 at n))
       (λ (place at : ℕ). virtualInterval t (f .days) (isActive (virtualStorageEntry s place .period) (f .month) (f .day)) (virtualStorageStepAt file at)) 6 26 (λ place at. refl) (λ n place at. refl)
-      g n 19531 at 0 h
+      g n virtualStoragesAt at 0 h
 
   pub virtual-storages-are : intervalsIn s file .virtualStorages ≡ entries (virtualStorageNumbered (sentinelOf (word s 0)) (f64At file 4) (s .shape) file) 1 0 (virtualStorageCount s)
   unfolding intervalsIn stepIntervals intervals decoded shapeOf programmeIn periods virtualStorageEntry periodAt virtualIntervalAt virtualStorageNumbered
   virtual-storages-are =
-      rw (entries-length (nodeEntry s) 2 11 (nodeCount s), entries-length (word s) 1 19467 (aggregateCount s), entries-length (virtualStorageEntry s) 6 19531 (virtualStorageCount s))
+      rw (entries-length (nodeEntry s) 2 11 (nodeCount s), entries-length (word s) 1 aggregatesAt (aggregateCount s), entries-length (virtualStorageEntry s) 6 virtualStoragesAt (virtualStorageCount s))
       (virtual-storage-list (sentinelOf (word s 0)) _ (virtualStorageNumbered (sentinelOf (word s 0)) (f64At file 4) (s .shape) file) (virtualStorageCount s) (virtualStorageStepsAt (nodeCount s) (aggregateCount s))
       (λ k. ap (virtualStorageNumbered (sentinelOf (word s 0)) (f64At file 4) (s .shape) file) (let e : k ≡ 0 + k = omega arith in e)))

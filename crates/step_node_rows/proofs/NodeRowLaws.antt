@@ -6,6 +6,7 @@ use native.Mathlib.Omega.{arith}
 use mathlib.Core.List.{List}
 use lib.ListN.{length, getD}
 use lib.Ieee.{Float}
+use Rattle.layout.specs.Layout.{nodeRowsAt}
 use Rattle.pywr.specs.declared.Interval.{Interval}
 use Rattle.pywr.specs.Interval.{sentinels}
 use Rattle.pywr.specs.Programme.{Row}
@@ -34,19 +35,19 @@ none-left s work at rows = refl
 pub record Left (s : Store) (work : List Float) (rows : List Row) (count : ℕ) (lower upper elements : List Float) (at i : ℕ) : Type 0 where
   pub now : List Row
   pub written : VaryingWritten s now lower upper elements
-  pub so-far : nodeRowsApplied s work 2059 count rows ≡ nodeRowsApplied s work at (count - i) now
+  pub so-far : nodeRowsApplied s work nodeRowsAt count rows ≡ nodeRowsApplied s work at (count - i) now
 
 module _ (columns rowStarts shape : List ℕ) (work : List Float) (count : ℕ) (lower₀ upper₀ elements₀ : List Float) where
   pub record Applied (lower upper elements : List Float) (at i : ℕ) : Type 0 where
     pub few : i ≤ count
-    pub place : at ≡ 2059 + 4 * i
+    pub place : at ≡ nodeRowsAt + 4 * i
     pub lower-long : length lower ≡ length lower₀
     pub upper-long : length upper ≡ length upper₀
     pub elements-long : length elements ≡ length elements₀
     pub rest : (s : Store) (rows : List Row) → VaryingWritten (over s columns rowStarts shape) rows lower₀ upper₀ elements₀
         → Left (over s columns rowStarts shape) work rows count lower upper elements at i
 
-  pub applied-none : Applied lower₀ upper₀ elements₀ 2059 0
+  pub applied-none : Applied lower₀ upper₀ elements₀ nodeRowsAt 0
   applied-none =
       record {
         few = zero-le;
@@ -82,11 +83,11 @@ module _ (columns rowStarts shape : List ℕ) (work : List Float) (count : ℕ) 
         }
 
     pub applied-all : count ≤ i → (s : Store) (rows : List Row) → VaryingWritten (over s columns rowStarts shape) rows lower₀ upper₀ elements₀
-        → VaryingWritten (over s columns rowStarts shape) (nodeRowsApplied (over s columns rowStarts shape) work 2059 count rows) lower upper elements
+        → VaryingWritten (over s columns rowStarts shape) (nodeRowsApplied (over s columns rowStarts shape) work nodeRowsAt count rows) lower upper elements
     applied-all le s rows w =
         let l = h .rest s rows w in
         let t : Store = over s columns rowStarts shape in
-        let e : nodeRowsApplied t work 2059 count rows ≡ l .now = l .so-far ∙ ap (λ (n : ℕ). nodeRowsApplied t work at n (l .now)) (sub-eq-zero-of-le le) ∙ none-left t work at (l .now) in
+        let e : nodeRowsApplied t work nodeRowsAt count rows ≡ l .now = l .so-far ∙ ap (λ (n : ℕ). nodeRowsApplied t work at n (l .now)) (sub-eq-zero-of-le le) ∙ none-left t work at (l .now) in
         rw e (l .written)
 
 -- what the runs are long enough for, still

@@ -6,6 +6,7 @@ use native.Mathlib.Omega.{arith}
 use mathlib.Core.List.{List}
 use lib.ListN.{length, getD}
 use lib.Ieee.{Float}
+use Rattle.layout.specs.Layout.{shapeLength}
 use Rattle.pywr.specs.declared.Interval.{Interval}
 use Rattle.pywr.specs.Programme.{Row}
 use Rattle.pywr.specs.Store.{entries}
@@ -16,7 +17,7 @@ use Rattle.step_row_bounds.proofs.AdjustLaws.{adjust-length, tightened}
 
 module _ {shape : List ℕ} {table words count : ℕ} (t : RowTable shape table words count) where
   -- the entry at i, and the row that it names
-  pub entry-within : (at i : ℕ) → i < count → at ≡ table + words * i → at + words ≤ 19723
+  pub entry-within : (at i : ℕ) → i < count → at ≡ table + words * i → at + words ≤ shapeLength
   entry-within at i lt e =
       let m : words * (i + 1) ≤ words * count = mul-le-mul-left words (omega arith) in
       let q : words * (i + 1) ≡ words * i + words = rw (mul-add, mul-one) in

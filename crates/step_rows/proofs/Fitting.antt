@@ -9,6 +9,7 @@ use lib.Seq.{slice}
 use lib.Dec.{T, leb, ltb, eqb, ltb→lt, eqb→eq}
 use lib.Ieee.{Float}
 use lib.Ieee.Fits.{and-l, and-r}
+use Rattle.layout.specs.Layout.{aggregatesAt, nodeRowCeiling, nodeRowsAt, virtualStoragesAt}
 use Rattle.laws.proofs.Tests.{of-true, to-true, or-elim}
 use Rattle.pywr.specs.Network.{listed}
 use Rattle.pywr.specs.Store.{Store, word, nodeCount, edgeColumnCount, setCount, varyingCount, rowCount, nodeRowCount, aggregateCount, virtualStorageCount, columnsOfRow}
@@ -21,12 +22,12 @@ use Rattle.step_rows.specs.ConstraintBounds.{StepRuns}
 
 pub record Fitting (columns rowStarts shape : List ℕ) : Type 0 where
   pub varying : VaryingFit columns rowStarts shape
-  pub node-rows-few : getD shape 8 0 ≤ 4352
-  pub node-rows : (k : ℕ) → k < getD shape 8 0 → NodeRowFits columns rowStarts shape (2059 + 4 * k)
+  pub node-rows-few : getD shape 8 0 ≤ nodeRowCeiling
+  pub node-rows : (k : ℕ) → k < getD shape 8 0 → NodeRowFits columns rowStarts shape (nodeRowsAt + 4 * k)
   pub aggregates-few : getD shape 9 0 ≤ 64
   pub virtual-storages-few : getD shape 10 0 ≤ 32
-  pub aggregates : RowTable shape 19467 1 (getD shape 9 0)
-  pub virtualStorages : RowTable shape 19531 6 (getD shape 10 0)
+  pub aggregates : RowTable shape aggregatesAt 1 (getD shape 9 0)
+  pub virtualStorages : RowTable shape virtualStoragesAt 6 (getD shape 10 0)
 
 module _ (s : Store) where
   row-rises : (r : ℕ) → rowColumnsRise s r ≡ true → columnsRise (edgeColumnCount s + setCount s) 0 (slice (getD (s .rowStarts) r 0) (getD (s .rowStarts) (r + 1) 0) (s .columns)) ≡ true
@@ -89,7 +90,7 @@ module _ (s : Store) where
                   row-rises r e;
             };
         node-rows-few = n .node-rows;
-        node-rows = λ k lt. node-row-fits (2059 + 4 * k) (entry-passes (nodeRowFits s) 4 (nodeRowCount s) 2059 (h .node-rows) k lt);
+        node-rows = λ k lt. node-row-fits (nodeRowsAt + 4 * k) (entry-passes (nodeRowFits s) 4 (nodeRowCount s) nodeRowsAt (h .node-rows) k lt);
         aggregates-few = n .aggregates;
         virtual-storages-few = n .virtualStorages;
         aggregates =
@@ -98,7 +99,7 @@ module _ (s : Store) where
               varying = few;
               some-words = omega arith;
               within = omega (arith, n .aggregates);
-              rows = λ k lt. aggregate-row (19467 + 1 * k) (entry-passes (aggregateFits s) 1 (aggregateCount s) 19467 (h .aggregates) k lt);
+              rows = λ k lt. aggregate-row (aggregatesAt + 1 * k) (entry-passes (aggregateFits s) 1 (aggregateCount s) aggregatesAt (h .aggregates) k lt);
             };
         virtualStorages =
             record {
@@ -106,6 +107,6 @@ module _ (s : Store) where
               varying = few;
               some-words = omega arith;
               within = omega (arith, n .virtualStorages);
-              rows = λ k lt. virtual-storage-row (19531 + 6 * k) (entry-passes (virtualStorageFits s) 6 (virtualStorageCount s) 19531 (h .virtualStorages) k lt);
+              rows = λ k lt. virtual-storage-row (virtualStoragesAt + 6 * k) (entry-passes (virtualStorageFits s) 6 (virtualStorageCount s) virtualStoragesAt (h .virtualStorages) k lt);
             };
       }

@@ -5,6 +5,7 @@ use mathlib.Core.List.{List, [], _∷_, map, flatMap}
 use lib.ListN.{length, getD}
 use lib.Seq.{sets}
 use lib.Ieee.{Float}
+use Rattle.layout.specs.Layout.{aggregatesAt, nodeRowsAt, virtualStoragesAt, virtualStoragesHeldAt}
 use Rattle.pywr.specs.declared.Interval.{Interval}
 use Rattle.pywr.specs.Interval.{sentinels}
 use Rattle.pywr.specs.Programme.{Row}
@@ -44,17 +45,17 @@ module _ (s : Store) (work : List Float) where
   reset = map (withBounds (sentinels (sentinelOf (sentinelCode s)))) (entries (rowEntry s) 1 0 (varyingCount s))
 
   abbrev nodesDone : List Row
-  nodesDone = nodeRowsApplied s work 2059 (nodeRowCount s) reset
+  nodesDone = nodeRowsApplied s work nodeRowsAt (nodeRowCount s) reset
 
   abbrev aggregatesDone : List Row
-  aggregatesDone = applyIntervals (entries (word s) 1 19467 (aggregateCount s)) (heldFrom work 256 (aggregateCount s)) nodesDone
+  aggregatesDone = applyIntervals (entries (word s) 1 aggregatesAt (aggregateCount s)) (heldFrom work 256 (aggregateCount s)) nodesDone
 
   abbrev virtualStoragesDone : List Row
-  virtualStoragesDone = applyIntervals (entries (word s) 6 19531 (virtualStorageCount s)) (heldFrom work 320 (virtualStorageCount s)) aggregatesDone
+  virtualStoragesDone = applyIntervals (entries (word s) 6 virtualStoragesAt (virtualStorageCount s)) (heldFrom work virtualStoragesHeldAt (virtualStorageCount s)) aggregatesDone
 
   rows-are : (i : Intervals) → HeldIn s work i → steppedRows s i ≡ virtualStoragesDone
   unfolding stepRows programmeIn shapeOf
-  rows-are i h = rw (← (h .nodes-are), ← (h .aggregates-are), ← (h .virtual-storages-are), virtual-storage-rows s (virtualStorageCount s) 19531)
+  rows-are i h = rw (← (h .nodes-are), ← (h .aggregates-are), ← (h .virtual-storages-are), virtual-storage-rows s (virtualStorageCount s) virtualStoragesAt)
 
   abbrev pub ResetDone : List Float → List Float → Type 0
   ResetDone lower upper =
@@ -63,7 +64,7 @@ module _ (s : Store) (work : List Float) where
   abbrev pub NodesDone : List Float → List Float → List Float → List Float → List Float → Type 0
   NodesDone lower upper lower′ upper′ elements =
       (x : Store) (rows : List Row) → VaryingWritten (over x (s .columns) (s .rowStarts) (s .shape)) rows lower upper (s .elements)
-      → VaryingWritten (over x (s .columns) (s .rowStarts) (s .shape)) (nodeRowsApplied (over x (s .columns) (s .rowStarts) (s .shape)) work 2059 (nodeRowCount s) rows) lower′ upper′ elements
+      → VaryingWritten (over x (s .columns) (s .rowStarts) (s .shape)) (nodeRowsApplied (over x (s .columns) (s .rowStarts) (s .shape)) work nodeRowsAt (nodeRowCount s) rows) lower′ upper′ elements
 
   -- a table's intervals applied, `n` of them
   abbrev pub TableDone : ℕ → ℕ → ℕ → ℕ → List Float → List Float → List Float → List Float → Type 0
@@ -73,8 +74,8 @@ module _ (s : Store) (work : List Float) where
 
   module _ (fit : VaryingFit (s .columns) (s .rowStarts) (s .shape)) (long : 4096 ≤ length (s .elements)) (lower₁ upper₁ lower₂ upper₂ elements lower₃ upper₃ lower₄ upper₄ : List Float) (g v : ℕ) where
     stepped : ResetDone lower₁ upper₁ → NodesDone lower₁ upper₁ lower₂ upper₂ elements
-        → g ≡ aggregateCount s → TableDone 1 19467 256 g lower₂ upper₂ lower₃ upper₃
-        → v ≡ virtualStorageCount s → TableDone 6 19531 320 v lower₃ upper₃ lower₄ upper₄
+        → g ≡ aggregateCount s → TableDone 1 aggregatesAt 256 g lower₂ upper₂ lower₃ upper₃
+        → v ≡ virtualStorageCount s → TableDone 6 virtualStoragesAt virtualStoragesHeldAt v lower₃ upper₃ lower₄ upper₄
         → (i : Intervals) → HeldIn s work i → StepWritten s i lower₄ upper₄ elements
     stepped a b eg c ev d i held =
         let rows : List Row = entries (rowEntry s) 1 0 (varyingCount s) in
@@ -82,11 +83,11 @@ module _ (s : Store) (work : List Float) where
         let w₂ : VaryingWritten s nodesDone lower₂ upper₂ elements = b s reset w₁ in
         let n₂ : length nodesDone ≡ varyingCount s = rows-many s nodesDone w₂ in
         let w₃ : BoundsWritten aggregatesDone (s .rowLower) (s .rowUpper) lower₃ upper₃ = rw eg at (c nodesDone (s .rowLower) (s .rowUpper) n₂ (w₂ .bounds)) in
-        let n₃ : length aggregatesDone ≡ varyingCount s = length-applied (entries (word s) 1 19467 (aggregateCount s)) (heldFrom work 256 (aggregateCount s)) nodesDone ∙ n₂ in
+        let n₃ : length aggregatesDone ≡ varyingCount s = length-applied (entries (word s) 1 aggregatesAt (aggregateCount s)) (heldFrom work 256 (aggregateCount s)) nodesDone ∙ n₂ in
         let w₄ : BoundsWritten virtualStoragesDone (s .rowLower) (s .rowUpper) lower₄ upper₄ = rw ev at (d aggregatesDone (s .rowLower) (s .rowUpper) n₃ (w₃)) in
         let same : flatMap valuesIn virtualStoragesDone ≡ flatMap valuesIn nodesDone =
-        values-applied (entries (word s) 6 19531 (virtualStorageCount s)) (heldFrom work 320 (virtualStorageCount s)) aggregatesDone
-        ∙ values-applied (entries (word s) 1 19467 (aggregateCount s)) (heldFrom work 256 (aggregateCount s)) nodesDone in
+        values-applied (entries (word s) 6 virtualStoragesAt (virtualStorageCount s)) (heldFrom work virtualStoragesHeldAt (virtualStorageCount s)) aggregatesDone
+        ∙ values-applied (entries (word s) 1 aggregatesAt (aggregateCount s)) (heldFrom work 256 (aggregateCount s)) nodesDone in
         let e = rows-are i held in
         record {
           lowers = rw e (w₄ .lowers);
@@ -129,8 +130,8 @@ module _ (lower upper elements : List Float) (columns rowStarts shape : List ℕ
 
   module _ (work : List Float) (fit : VaryingFit columns rowStarts shape) (long : 4096 ≤ length elements) (s : Store) (lower₁ upper₁ lower₂ upper₂ elements′ lower₃ upper₃ lower₄ upper₄ : List Float) (g v : ℕ) where
     pub step-written : ResetDone (withRuns s) work lower₁ upper₁ → NodesDone (withRuns s) work lower₁ upper₁ lower₂ upper₂ elements′
-        → g ≡ getD shape 9 0 → TableDone (withRuns s) work 1 19467 256 g lower₂ upper₂ lower₃ upper₃
-        → v ≡ getD shape 10 0 → TableDone (withRuns s) work 6 19531 320 v lower₃ upper₃ lower₄ upper₄
+        → g ≡ getD shape 9 0 → TableDone (withRuns s) work 1 aggregatesAt 256 g lower₂ upper₂ lower₃ upper₃
+        → v ≡ getD shape 10 0 → TableDone (withRuns s) work 6 virtualStoragesAt virtualStoragesHeldAt v lower₃ upper₃ lower₄ upper₄
         → (i : Intervals) → HasRuns s lower upper elements columns rowStarts shape → HeldIn s work i → StepWritten s i lower₄ upper₄ elements′
     step-written a b eg c ev d i has =
         subst (λ (x : Store). HeldIn x work i → StepWritten x i lower₄ upper₄ elements′) (sym (has-runs s has))

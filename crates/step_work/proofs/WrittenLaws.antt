@@ -9,6 +9,7 @@ use mathlib.Core.Bool.{Bool, true, false}
 use lib.ListN.{length, set, length-set}
 use lib.Seq.{getD-set-same, getD-set-other}
 use lib.Ieee.{Float}
+use Rattle.layout.specs.Layout.{stepWorkLength, uppersAt}
 use Rattle.pywr.specs.declared.Answer.the-variants.{Accepted, Refused}
 use Rattle.pywr.specs.declared.Interval.{Interval}
 use Rattle.pywr.specs.Numbers.{zero64}
@@ -19,21 +20,21 @@ use Rattle.step_work.proofs.CrossedLaws.{none-crossed, first-crossed}
 
 -- x written at place k
 abbrev pub put : List Float → ℕ → Interval → List Float
-put w k x = set (set w k (x .lower)) (352 + k) (x .upper)
+put w k x = set (set w k (x .lower)) (uppersAt + k) (x .upper)
 
-put-same : (w : List Float) (k : ℕ) (x : Interval) → k < 352 → 704 ≤ length w → heldAt (put w k x) k ≡ x
+put-same : (w : List Float) (k : ℕ) (x : Interval) → k < uppersAt → stepWorkLength ≤ length w → heldAt (put w k x) k ≡ x
 unfolding heldAt
 put-same w k x lt long =
     ap₂ (λ (a b : Float). record { lower = a; upper = b })
-    (getD-set-other (set w k (x .lower)) (352 + k) k (x .upper) zero64 (λ e. omega arith) ∙ getD-set-same w k (x .lower) zero64 (omega arith))
-    (getD-set-same (set w k (x .lower)) (352 + k) (x .upper) zero64 (omega (arith, length-set w k (x .lower))))
+    (getD-set-other (set w k (x .lower)) (uppersAt + k) k (x .upper) zero64 (λ e. omega arith) ∙ getD-set-same w k (x .lower) zero64 (omega arith))
+    (getD-set-same (set w k (x .lower)) (uppersAt + k) (x .upper) zero64 (omega (arith, length-set w k (x .lower))))
 
-put-other : (w : List Float) (k j : ℕ) (x : Interval) → k < 352 → j < k → heldAt (put w k x) j ≡ heldAt w j
+put-other : (w : List Float) (k j : ℕ) (x : Interval) → k < uppersAt → j < k → heldAt (put w k x) j ≡ heldAt w j
 unfolding heldAt
 put-other w k j x lt less =
     ap₂ (λ (a b : Float). record { lower = a; upper = b })
-    (getD-set-other (set w k (x .lower)) (352 + k) j (x .upper) zero64 (λ e. omega arith) ∙ getD-set-other w k j (x .lower) zero64 (λ e. omega arith))
-    (getD-set-other (set w k (x .lower)) (352 + k) (352 + j) (x .upper) zero64 (λ e. omega arith) ∙ getD-set-other w k (352 + j) (x .lower) zero64 (λ e. omega arith))
+    (getD-set-other (set w k (x .lower)) (uppersAt + k) j (x .upper) zero64 (λ e. omega arith) ∙ getD-set-other w k j (x .lower) zero64 (λ e. omega arith))
+    (getD-set-other (set w k (x .lower)) (uppersAt + k) (uppersAt + j) (x .upper) zero64 (λ e. omega arith) ∙ getD-set-other w k (uppersAt + j) (x .lower) zero64 (λ e. omega arith))
 
 module _ (f : ℕ → Interval) (base count : ℕ) where
   -- i intervals are written
@@ -59,12 +60,12 @@ module _ (f : ℕ → Interval) (base count : ℕ) where
   passed-none w = record { writing = writing-none w; ordered = below-none (λ (k : ℕ). isCrossed (f k) ≡ false) }
 
 module _ {f : ℕ → Interval} {base count : ℕ} {w₀ w : List Float} {i : ℕ} where
-  pub writing-more : (at : ℕ) (x : Interval) → at ≡ base + i → base + count ≤ 352 → 704 ≤ length w₀ → i < count → x ≡ f i
+  pub writing-more : (at : ℕ) (x : Interval) → at ≡ base + i → base + count ≤ uppersAt → stepWorkLength ≤ length w₀ → i < count → x ≡ f i
       → Writing f base count w₀ w i → Writing f base count w₀ (put w at x) (i + 1)
   writing-more at x q room enough lt e h =
       record {
         few = omega arith;
-        long = length-set (set w at (x .lower)) (352 + at) (x .upper) ∙ length-set w at (x .lower) ∙ h .long;
+        long = length-set (set w at (x .lower)) (uppersAt + at) (x .upper) ∙ length-set w at (x .lower) ∙ h .long;
         so-far =
             record {
               held =
@@ -79,7 +80,7 @@ module _ {f : ℕ → Interval} {base count : ℕ} {w₀ w : List Float} {i : �
   writing-all le h = let e : i ≡ count = omega (arith, h .few) in rw e at (h .so-far)
 
   module _ (x : Interval) (b : Bool) (lt : i < count) (e : x ≡ f i) (is : b ≡ isCrossed x) (h : Passed f base count w₀ w i) where
-    pub passed-more : (at : ℕ) → at ≡ base + i → base + count ≤ 352 → 704 ≤ length w₀ → b ≡ false → Passed f base count w₀ (put w at x) (i + 1)
+    pub passed-more : (at : ℕ) → at ≡ base + i → base + count ≤ uppersAt → stepWorkLength ≤ length w₀ → b ≡ false → Passed f base count w₀ (put w at x) (i + 1)
     passed-more at q room enough uncrossed =
         record {
           writing = writing-more at x q room enough lt e (h .writing);

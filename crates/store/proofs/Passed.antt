@@ -7,6 +7,7 @@ use lib.ListN.{length, getD}
 use lib.Dec.{leb, eqb, leb→le}
 use lib.Ieee.Fits.{and-l, and-r}
 use borrow.Author.Tests.{not-false}
+use Rattle.layout.specs.Layout.{nodeRowCeiling, rowStartsLength, shapeLength}
 use Rattle.laws.proofs.Tests.{of-true, to-true}
 use Rattle.pywr.specs.Store.{Store, storeHasRoom, sentinelCode, nodeCount, edgeCount, edgeColumnCount, setCount, rowCount, elementsKept, nodeRowCount, aggregateCount, virtualStorageCount, nodesAt, edgesAt, nodeRowsAt, aggregatesAt, virtualStoragesAt, startOf}
 use Rattle.pywr.specs.Misshapen.{countsFit, startsRise, rowColumnsRise, nodeFits, edgeFits, nodeRowFits, aggregateFits, virtualStorageFits, allEntries, wellShaped}
@@ -30,7 +31,7 @@ pub record Counted (s : Store) : Type 0 where
   pub sets : setCount s ≤ 128
   pub rows : rowCount s ≤ 1024
   pub kept : elementsKept s ≤ 4096
-  pub node-rows : nodeRowCount s ≤ 4352
+  pub node-rows : nodeRowCount s ≤ nodeRowCeiling
   pub aggregates : aggregateCount s ≤ 64
   pub virtualStorages : virtualStorageCount s ≤ 32
 
@@ -43,7 +44,7 @@ counted s q =
     let d : Bool = leb (setCount s) 128 in
     let e : Bool = leb (rowCount s) 1024 in
     let f : Bool = leb (elementsKept s) 4096 in
-    let g : Bool = leb (nodeRowCount s) 4352 in
+    let g : Bool = leb (nodeRowCount s) nodeRowCeiling in
     let h : Bool = leb (aggregateCount s) 64 in
     let i : Bool = leb (virtualStorageCount s) 32 in
     let h9 = of-true (a && b && c && d && e && f && g && h && i) q in
@@ -61,7 +62,7 @@ counted s q =
       sets = leb→le (setCount s) 128 (and-r (a && b && c) d h4);
       rows = leb→le (rowCount s) 1024 (and-r (a && b && c && d) e h5);
       kept = leb→le (elementsKept s) 4096 (and-r (a && b && c && d && e) f h6);
-      node-rows = leb→le (nodeRowCount s) 4352 (and-r (a && b && c && d && e && f) g h7);
+      node-rows = leb→le (nodeRowCount s) nodeRowCeiling (and-r (a && b && c && d && e && f) g h7);
       aggregates = leb→le (aggregateCount s) 64 (and-r (a && b && c && d && e && f && g) h h8);
       virtualStorages = leb→le (virtualStorageCount s) 32 (and-r (a && b && c && d && e && f && g && h) i h9);
     }
@@ -75,7 +76,7 @@ pub starts-passed : {rowStarts shape : List ℕ} (r : Bool) → ((s : Store) →
     → StartsRise rowStarts (getD shape 5 0 + getD shape 6 0) (getD shape 7 0)
 starts-passed {rowStarts} {shape} r e q = let s = ofRuns [] rowStarts shape in starts-told s (rowCount s) (sym (e s refl refl) ∙ not-false r q)
 
-pub rows-within : {columns rowStarts shape : List ℕ} → (4096 ≤ length columns) × (1025 ≤ length rowStarts) × (19723 ≤ length shape) → Counted (ofShape shape)
+pub rows-within : {columns rowStarts shape : List ℕ} → (4096 ≤ length columns) × (rowStartsLength ≤ length rowStarts) × (shapeLength ≤ length shape) → Counted (ofShape shape)
     → StartsRise rowStarts (getD shape 5 0 + getD shape 6 0) (getD shape 7 0) → RowsWithin columns rowStarts shape
 rows-within room n starts =
     record {

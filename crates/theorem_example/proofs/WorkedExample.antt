@@ -7,6 +7,7 @@ use mathlib.Core.Bool.{Bool, true, false}
 use lib.ListN.{getD, replicate}
 use lib.IntN.{ℤ, pos, negℤ, negsuc}
 use lib.Ieee.{Float, fin, inf, neg}
+use Rattle.layout.specs.Layout.{wordsLength, numbersLength}
 use Rattle.pywr.specs.declared.Sentinel.the-variants.{Infinity}
 use Rattle.pywr.specs.declared.Interval.{Interval}
 use Rattle.pywr.specs.Result.{value, Result, refused}
@@ -89,7 +90,7 @@ planC = plan 25 24 28
 -- ---- both sides after a list of steps
 
 built : Store
-built = buildStore Infinity network blank (replicate 24844 0) (replicate 6784 zero64)
+built = buildStore Infinity network blank (replicate wordsLength 0) (replicate numbersLength zero64)
 
 call : List ℕ → Call
 call file = record { file = file; work = work }

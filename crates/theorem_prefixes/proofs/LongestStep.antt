@@ -10,6 +10,7 @@ use lib.Seq.{take-append-le, getD-append-add}
 use lib.Dec.{leb, eqb, leb→le, nleb→lt}
 use lib.Ieee.{Float}
 use borrow.Author.Tests.{le-leb, lt-leb, eq-eqb}
+use Rattle.layout.specs.Layout.{aggregatesAt, edgesAt, nodeRowsAt, rowStartsLength, shapeLength, stepWorkLength, virtualStoragesAt}
 use Rattle.laws.proofs.Tests.{by-cases}
 use Rattle.pywr.specs.declared.Interval.{Interval}
 use Rattle.pywr.specs.declared.NodeBounds.{NodeBounds}
@@ -251,7 +252,7 @@ wide =
       rowUpper = doubles 1024;
       elements = doubles 4096;
       columns = zeros 4096;
-      rowStarts = zeros 1025;
+      rowStarts = zeros rowStartsLength;
       shape = counts ++ zeros 19712;
     }
 
@@ -264,13 +265,13 @@ unfolding allEntries
 entries-pass test all words at zero h = refl
 entries-pass test all words at (suc count) h = both-true (test at) _ (all at h) (entries-pass test all words (at + words) count (omega arith))
 
-first-start : getD (zeros 1025) 0 0 ≡ 0
-first-start = zeros-at 1025 0
+first-start : getD (zeros rowStartsLength) 0 0 ≡ 0
+first-start = zeros-at rowStartsLength 0
 
-second-start : getD (zeros 1025) 1 0 ≡ 0
-second-start = zeros-at 1025 1
+second-start : getD (zeros rowStartsLength) 1 0 ≡ 0
+second-start = zeros-at rowStartsLength 1
 
-starts-pass : (eqb (getD (zeros 1025) 0 0) 0 && startsRise wide 0 1) ≡ true
+starts-pass : (eqb (getD (zeros rowStartsLength) 0 0) 0 && startsRise wide 0 1) ≡ true
 unfolding startsRise
 starts-pass = rw (first-start, second-start)
 
@@ -297,22 +298,22 @@ virtual-storage-fits at h = rw (word-zero at h, word-zero (at + 1) (omega arith)
 wide-shaped : wellShaped wide ≡ true
 unfolding wellShaped countsFit
 wide-shaped =
-    rw (starts-pass, rows-pass, entries-pass (nodeFits wide) node-fits 2 11 256 (omega arith), none-pass (edgeFits wide) 3 523, none-pass (nodeRowFits wide) 4 2059, entries-pass (aggregateFits wide) aggregate-fits 1 19467 64 (omega arith), entries-pass (virtualStorageFits wide) virtual-storage-fits 6 19531 32 (omega arith))
+    rw (starts-pass, rows-pass, entries-pass (nodeFits wide) node-fits 2 11 256 (omega arith), none-pass (edgeFits wide) 3 edgesAt, none-pass (nodeRowFits wide) 4 nodeRowsAt, entries-pass (aggregateFits wide) aggregate-fits 1 aggregatesAt 64 (omega arith), entries-pass (virtualStorageFits wide) virtual-storage-fits 6 virtualStoragesAt 32 (omega arith))
 
 long-enough : {A : Type 0} (n : ℕ) (l : List A) → length l ≡ n → leb n (length l) ≡ true
 long-enough n l e = le-leb n (length l) (omega (arith, e))
 
-wide-room : stepRoom wide (doubles 704) ≡ true
+wide-room : stepRoom wide (doubles stepWorkLength) ≡ true
 unfolding stepRoom storeHasRoom
 wide-room =
-    rw (long-enough 640 (doubles 640) (doubles-length 640), long-enough 1024 (doubles 1024) (doubles-length 1024), long-enough 4096 (doubles 4096) (doubles-length 4096), long-enough 4096 (zeros 4096) (zeros-length 4096), long-enough 1025 (zeros 1025) (zeros-length 1025), long-enough 19723 (counts ++ zeros 19712) (let k = zeros-length 19712 in omega arith), long-enough 704 (doubles 704) (doubles-length 704))
+    rw (long-enough 640 (doubles 640) (doubles-length 640), long-enough 1024 (doubles 1024) (doubles-length 1024), long-enough 4096 (doubles 4096) (doubles-length 4096), long-enough 4096 (zeros 4096) (zeros-length 4096), long-enough rowStartsLength (zeros rowStartsLength) (zeros-length rowStartsLength), long-enough shapeLength (counts ++ zeros 19712) (let k = zeros-length 19712 in omega arith), long-enough stepWorkLength (doubles stepWorkLength) (doubles-length stepWorkLength))
 
 -- the step reads the file over the store's shape
-wide-read : (file tail : List ℕ) → file ≡ longest tail → (f : StepFile) × (stepRead wide file (doubles 704) ≡ need (leb (length file) longestStep) 12 longestStep f)
+wide-read : (file tail : List ℕ) → file ≡ longest tail → (f : StepFile) × (stepRead wide file (doubles stepWorkLength) ≡ need (leb (length file) longestStep) 12 longestStep f)
 unfolding stepRead shapeOf
 wide-read file tail e =
-    let r = read-to-end (shapeOf wide .nodes) (length (shapeOf wide .aggregates)) (length (shapeOf wide .virtualStorages)) (entries-length (nodeEntry wide) 2 11 256) (entries-length (word wide) 1 19467 64) (entries-length (virtualStorageEntry wide) 6 19531 32) file tail e in
-    (r .0, then-value _ _ _ wide (need-true (stepRoom wide (doubles 704)) 16 0 wide wide-room) (then-value _ _ _ (shapeOf wide) (need-true (wellShaped wide) 17 0 (shapeOf wide) wide-shaped) (r .1)))
+    let r = read-to-end (shapeOf wide .nodes) (length (shapeOf wide .aggregates)) (length (shapeOf wide .virtualStorages)) (entries-length (nodeEntry wide) 2 11 256) (entries-length (word wide) 1 aggregatesAt 64) (entries-length (virtualStorageEntry wide) 6 virtualStoragesAt 32) file tail e in
+    (r .0, then-value _ _ _ wide (need-true (stepRoom wide (doubles stepWorkLength)) 16 0 wide wide-room) (then-value _ _ _ (shapeOf wide) (need-true (wellShaped wide) 17 0 (shapeOf wide) wide-shaped) (r .1)))
 
 -- ---- 14 and 15 are not 12
 
@@ -328,14 +329,14 @@ not-twelve i f p e = nodes (firstCrossed 0 (i .nodes)) e
     nodes none q = virtualStorages (firstCrossed 0 (i .virtualStorages)) q
     nodes (some k) q = let z : _≡_ {A = ℕ} 14 12 = cc in omega arith
 
-left-over : (file : List ℕ) → file ≡ longest (0 ∷ []) → stepAnswer wide file (doubles 704) ≡ refused 12 longestStep
+left-over : (file : List ℕ) → file ≡ longest (0 ∷ []) → stepAnswer wide file (doubles stepWorkLength) ≡ refused 12 longestStep
 unfolding stepAnswer
 left-over file e =
     let r = wide-read file (0 ∷ []) e in
     let l = longest-length (0 ∷ []) in
     then-refused _ _ 12 longestStep (r .1 ∙ need-false _ 12 longestStep (r .0) (lt-leb (length file) longestStep (omega (arith, ap length e))))
 
-complete : (file : List ℕ) → file ≡ longest [] → stepAnswer wide file (doubles 704) ≡ refused 12 longestStep → ⊥
+complete : (file : List ℕ) → file ≡ longest [] → stepAnswer wide file (doubles stepWorkLength) ≡ refused 12 longestStep → ⊥
 unfolding stepAnswer
 complete file e q =
     let r = wide-read file [] e in
@@ -352,4 +353,4 @@ step-prefix-least m law = by-cases (leb stepPrefix m) (λ t. leb→le stepPrefix
         let full : List ℕ = longest (0 ∷ []) in
         let long = longest-length [] in
         let same : take m full ≡ take m short = ap (take m) (longest-append [] (0 ∷ [])) ∙ take-append-le m short (0 ∷ []) (omega arith) in
-        complete short refl (sym (law wide short (doubles 704)) ∙ ap (λ (l : List ℕ). stepAnswer wide l (doubles 704)) (sym same) ∙ law wide full (doubles 704) ∙ left-over full refl)
+        complete short refl (sym (law wide short (doubles stepWorkLength)) ∙ ap (λ (l : List ℕ). stepAnswer wide l (doubles stepWorkLength)) (sym same) ∙ law wide full (doubles stepWorkLength) ∙ left-over full refl)

@@ -4,6 +4,7 @@ use Prim.Native.Nat.{ℕ, _-_, _≤_}
 use native.Mathlib.Omega.{arith}
 use mathlib.Core.List.{List, [], _∷_, _++_, map}
 use lib.ListN.{length, length-set}
+use Rattle.layout.specs.Layout.{aggregatesMadeAt}
 use Rattle.pywr.specs.Rows.{Element}
 use Rattle.pywr.specs.VaryingRows.{freshRow}
 use Rattle.fields.specs.Records.{recordsEnd}
@@ -20,7 +21,7 @@ use Rattle.build_aggregates.proofs.create_aggregated_node_constraints.T
 abbrev Inv-loop : tie.InvT-loop
 Inv-loop s c first-in next-in first-out next-out edge-to-col sentinel words₀ numbers₀ columns₀ at₀ filled₀ i₀ words numbers columns at filled i =
     ((rows : List (List Element)) → RowsHeld (map (freshRow sentinel) rows) words₀ numbers₀ filled₀
-    → Asked sentinel (aggregateRows (networkOf s c)) 24588 1 aggregateTable rows words₀ i words numbers filled)
+    → Asked sentinel (aggregateRows (networkOf s c)) aggregatesMadeAt 1 aggregateTable rows words₀ i words numbers filled)
     × (at ≡ aggregateStart s (c .nodes) (c .edges) i)
     × (i ≤ c .aggregates)
     × (length words ≡ length words₀)
@@ -70,8 +71,8 @@ add-aggregate-row-requires c κs =
     let t = to-start (to-loop c) in
     let l = to-loop c .loop in
     let lt = c .before .before .before .if1 .taken in
-    let a = l .inv .0 (t .pre .3 .rows) (t .pre .3 .held) in
-    (t .pre .0, aggregate-check _ (t .args .c) (t .pre .0 .sections) _ _ lt (l .inv .1), omega (arith, l .inv .3, t .pre .1), omega (arith, l .inv .4, t .pre .2), record { rows = _; held = a .held })
+    let a = l .inv .0 (t .pre .2 .rows) (t .pre .2 .held) in
+    (t .pre .0, aggregate-check _ (t .args .c) (t .pre .0 .sections) _ _ lt (l .inv .1), record { words-room = omega (arith, l .inv .3, t .pre .1 .words-room); numbers-room = omega (arith, l .inv .4, t .pre .1 .numbers-room) }, record { rows = _; held = a .held })
 
 same-length : tie.Need-same-length Inv-loop μ-loop
 same-length c =
@@ -104,7 +105,7 @@ row-word-requires c κs =
     let t = start in
     let l = at-loop .loop in
     let lt = then1 .if1 .taken in
-    let a = l .inv .0 (t .pre .3 .rows) (t .pre .3 .held) in
+    let a = l .inv .0 (t .pre .2 .rows) (t .pre .2 .held) in
     place-fits _ _ _ _ _ _ _ (omega arith) _ _ _ _ _ _ _ _ (asked-under _ (t .args .c) (t .pre .0 .sections) _ _ lt (l .inv .1)) (asked-row _ (t .args .c) (t .pre .0 .sections) _ _ lt (l .inv .1)) a (after-add-aggregate-row .add-aggregate-row .ensures _ (a .held)) _ _ (after-r .r .given .1)
 
 add-words : tie.Need-add-words Inv-loop μ-loop
@@ -125,7 +126,7 @@ slice-write-words c =
     let l = to-loop (to-add-aggregate-row-arg3 (to-slice-known4 c)) .loop in
     let lt = to-then1 (to-add-aggregate-row (to-slice-known4 c)) .if1 .taken in
     let call = to-add-aggregate-row (to-slice-known4 c) .add-aggregate-row in
-    omega (arith, call .kept .1 .1 .1 .1 .1 .1 .1 .1 .1 .0, l .inv .3, t .pre .1, t .pre .0 .sections .few-aggregates, lt)
+    omega (arith, call .kept .1 .1 .1 .1 .1 .1 .1 .1 .1 .0, l .inv .3, t .pre .1 .words-room, t .pre .0 .sections .few-aggregates, lt)
 
 aggregate-end-requires : tie.Need-aggregate-end-requires Inv-loop μ-loop
 aggregate-end-requires c κs =
@@ -156,7 +157,7 @@ loop-again c =
       (λ rows held.
           let a = l .inv .0 rows held in
           asked-more _ _ _ _ _ _ _ (omega arith) _ _ _ _ _ _ _ _ (asked-under _ (t .args .c) (t .pre .0 .sections) _ _ lt (l .inv .1)) (asked-row _ (t .args .c) (t .pre .0 .sections) _ _ lt (l .inv .1)) a (call .ensures _ (a .held)) _ _ (after-r .r .given .1) _ (after-row-word .row-word .result ∷ []) _ (omega arith) refl
-          (omega (arith, call .kept .1 .1 .1 .1 .1 .1 .1 .1 .1 .0, l .inv .3, t .pre .1, t .pre .0 .sections .few-aggregates, lt))
+          (omega (arith, call .kept .1 .1 .1 .1 .1 .1 .1 .1 .1 .0, l .inv .3, t .pre .1 .words-room, t .pre .0 .sections .few-aggregates, lt))
           (λ places e. ap (λ (k : ℕ). places ++ (k ∷ [])) (sym (after-row-word .row-word .ensures))) refl),
       aggregate-next _ (t .args .c) (t .pre .0 .sections) _ _ lt (l .inv .1) _ (c .aggregate-end .ensures),
       omega arith,

@@ -19,7 +19,7 @@ to-start c =
 returns-2 : tie.Need-returns-2
 returns-2 c =
     let start = to-start c in
-    λ rows held. elements-over rows _ _ _ _ _ _ _ held (start .pre .1) (omega (arith, c .before .before .run .given .0)) (start .pre .2) (omega arith)
+    λ rows held. elements-over rows _ _ _ _ _ _ _ held (start .pre .0 .numbers-room) (omega (arith, c .before .before .run .given .0)) (start .pre .1) (omega arith)
 
 slice-write-numbers-2 : tie.Need-slice-write-numbers-2
 slice-write-numbers-2 c =
@@ -34,7 +34,7 @@ returns-3 c =
     let start-place = after-run .before .before .before in
     let start = start-place in
     λ rows held.
-    row-added rows _ _ _ _ _ _ _ held (start .pre .1) (omega (arith, after-run .run .given .0)) (start .pre .2) (start .pre .0) (omega (arith, else1 .if1 .left)) (omega (arith, else2 .if2 .left)) _ _ (after-put-columns .put-columns .ensures) (c .start-word .ensures)
+    row-added rows _ _ _ _ _ _ _ held (start .pre .0 .numbers-room) (omega (arith, after-run .run .given .0)) (start .pre .1) (start .pre .0 .words-room) (omega (arith, else1 .if1 .left)) (omega (arith, else2 .if2 .left)) _ _ (after-put-columns .put-columns .ensures) (c .start-word .ensures)
 
 pub add-fixed-row-spec : {M : Type 1} → statement M
 add-fixed-row-spec =

@@ -60,7 +60,7 @@ element-copy-out-if2 c =
 
 add-node-row-requires : tie.Need-add-node-row-requires
 add-node-row-requires c κs =
-    let p = to-start (to-is-constant-from-add-node-row-arg3 c) .pre in (p .0, p .1, p .4, p .5, p .6)
+    let p = to-start (to-is-constant-from-add-node-row-arg3 c) .pre in (p .0, p .1, p .4, p .5)
 
 returns-2 : tie.Need-returns-2
 returns-2 c =

@@ -76,15 +76,7 @@ add-bounded-rows-requires : tie.Need-add-bounded-rows-requires Inv-loop μ-loop
 add-bounded-rows-requires c κs =
     let start = to-start (to-wide16 c) in
     let w = to-loop c .loop .inv in
-    let u = membership-under _ _ _ _ _ _ _ _ _ _ _ _ _ (w .0) (c .before .before .before .loop-test .taken) in (
-      start .pre .0,
-      start .pre .1,
-      start .pre .2,
-      omega arith,
-      omega (arith, w .1, start .pre .4),
-      omega (arith, w .2, start .pre .5),
-      adding-holding _ _ _ _ _ _ (w .0 .adding (start .pre .6 .rows) (start .pre .6 .held)),
-    )
+    let u = membership-under _ _ _ _ _ _ _ _ _ _ _ _ _ (w .0) (c .before .before .before .loop-test .taken) in (start .pre .0, start .pre .1, start .pre .2, omega arith, record { words-room = omega (arith, w .1, start .pre .4 .words-room); numbers-room = omega (arith, w .2, start .pre .4 .numbers-room) }, adding-holding _ _ _ _ _ _ (w .0 .adding (start .pre .5 .rows) (start .pre .5 .held)))
 
 same-length : tie.Need-same-length Inv-loop μ-loop
 same-length c =

@@ -38,7 +38,7 @@ add-node-requires : tie.Need-add-node-requires
 unfolding columnsRise
 add-node-requires c κs =
     let start = to-start c in
-    (start .pre .0, start .pre .1, omega arith, lent-room _ _ _ (start .pre .4) (start .pre .3) .1, refl)
+    (start .pre .0, start .pre .1, omega arith, lent-room _ _ _ (start .pre .3) (start .pre .2 .numbers-room) .1, refl)
 
 min-requires : tie.Need-min-requires
 min-requires c κs =
@@ -54,9 +54,9 @@ add-fixed-row-requires : tie.Need-add-fixed-row-requires
 add-fixed-row-requires c κs =
     let after-add-node = to-add-node (c .before) in
     let start = to-start (after-add-node .before) in
-    let few = held-few _ _ _ _ (start .pre .4 .held) in
+    let few = held-few _ _ _ _ (start .pre .3 .held) in
     let a = after-add-node .add-node .ensures in
-    (start .pre .2, lent-long (start .args .numbers .now) (after-add-node .add-node .last .1 .1 .1 .1 .1 .1 .1 .1 .1 .1 .0) (2048 + start .args .f .elements) (after-add-node .add-node .kept .1 .1 .1 .1 .1 .1 .1 .1 .1 .1 .0) (start .pre .3), a .few, few .0, few .1, a .rising)
+    (record { words-room = start .pre .2 .words-room; numbers-room = lent-long (start .args .numbers .now) (after-add-node .add-node .last .1 .1 .1 .1 .1 .1 .1 .1 .1 .1 .0) (2048 + start .args .f .elements) (after-add-node .add-node .kept .1 .1 .1 .1 .1 .1 .1 .1 .1 .1 .0) (start .pre .2 .numbers-room) }, a .few, few .0, few .1, a .rising)
 
 returns : tie.Need-returns
 unfolding one64 ofBits
@@ -66,7 +66,7 @@ returns c =
     let after-min = after-max .before in
     let after-add-node = to-add-node after-min in
     let start = to-start (after-add-node .before) in
-    let room = lent-room _ _ _ (start .pre .4) (start .pre .3) in
+    let room = lent-room _ _ _ (start .pre .3) (start .pre .2 .numbers-room) in
     lent-row _ _ _ _ _ refl (room .0) _ _ _ _ _ _ _ _ _ _ (after-min .min .ensures) (after-max .max .ensures) (node-row _ _ _ _ _ _ _ _ _ refl (after-add-node .add-node .ensures)) (after-add-fixed-row .add-fixed-row .ensures)
 
 pub add-node-row-spec : {M : Type 1} → statement M

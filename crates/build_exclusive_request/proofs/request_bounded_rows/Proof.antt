@@ -71,7 +71,7 @@ request-bounded-row-requires c κs =
     let few = edge-columns-few _ _ _ _ _ _ _ (p .0) in
     let column = c .before .before .before .narrow16 .ensures in
     let set = to-wide16 c .wide16 .ensures .0 in
-    (p .0, p .1, omega arith, p .4, p .5, p .6, omega arith)
+    (p .0, p .1, omega arith, p .4, p .5, omega arith)
 
 request-bounded-row-requires-2 : tie.Need-request-bounded-row-requires-2
 unfolding rowTypeWord
@@ -80,9 +80,9 @@ request-bounded-row-requires-2 c κs =
     let few = edge-columns-few _ _ _ _ _ _ _ (p .0) in
     let column = to-narrow16 (to-request-bounded-row (to-slice-known4 c)) .narrow16 .ensures in
     let set = to-wide16 (to-request-bounded-row-arg3 c) .wide16 .ensures .0 in
-    let upper = to-request-bounded-row (to-slice-known4 c) .request-bounded-row .ensures binaryUpper refl (p .6 .asks) (p .6 .held) .done _ (to-r c .r .given .1) in
-    let count = count-more _ (p .6 .asks) _ _ _ _ _ _ _ (p .6 .held) upper in
-    (p .0, p .1, omega arith, search needs, search needs, record { asks = _; held = upper }, omega arith)
+    let upper = to-request-bounded-row (to-slice-known4 c) .request-bounded-row .ensures binaryUpper refl (p .5 .asks) (p .5 .held) .done _ (to-r c .r .given .1) in
+    let count = count-more _ (p .5 .asks) _ _ _ _ _ _ _ (p .5 .held) upper in
+    (p .0, p .1, omega arith, record { words-room = search needs; numbers-room = search needs }, record { asks = _; held = upper }, omega arith)
 
 returns : tie.Need-returns
 unfolding rowTypeWord one64 ofBits

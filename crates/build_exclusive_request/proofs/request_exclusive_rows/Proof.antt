@@ -60,7 +60,7 @@ element-copy-out-link c =
 loop-holds : tie.Need-loop-holds Inv-loop μ-loop
 loop-holds c =
     let p = to-start (c .before) .pre in
-    (walk-first _ _ _ _ _ _ _ _ _ _ (p .3) (c .before .wide16 .ensures .0) (omega (arith, p .1, p .0 .sections .few-nodes)) (p .6), refl, refl)
+    (walk-first _ _ _ _ _ _ _ _ _ _ (p .3) (c .before .wide16 .ensures .0) (omega (arith, p .1, p .0 .sections .few-nodes)) (p .5), refl, refl)
 
 request-bounded-rows-requires : tie.Need-request-bounded-rows-requires Inv-loop μ-loop
 request-bounded-rows-requires c κs =
@@ -69,7 +69,7 @@ request-bounded-rows-requires c κs =
     let w = at-loop .loop .inv .0 in
     let ne = c .before .before .before .loop-test .taken in
     let under = membership-under _ _ _ _ _ _ _ _ w ne in
-    (p .0, p .1, p .2, omega arith, omega (arith, p .4, at-loop .loop .inv .1), omega (arith, p .5, at-loop .loop .inv .2), record { asks = w .asks; held = w .rows }, room _ _ _ _ _ _ _ _ w ne (p .7))
+    (p .0, p .1, p .2, omega arith, record { words-room = omega (arith, p .4 .words-room, at-loop .loop .inv .1); numbers-room = omega (arith, p .4 .numbers-room, at-loop .loop .inv .2) }, record { asks = w .asks; held = w .rows }, room _ _ _ _ _ _ _ _ w ne (p .6))
 
 same-length : tie.Need-same-length Inv-loop μ-loop
 same-length c =

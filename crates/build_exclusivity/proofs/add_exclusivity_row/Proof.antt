@@ -48,14 +48,14 @@ exclusivity-row-requires c κs =
     let after-is-exclusive = then1 .before in
     let start = to-start after-is-exclusive in
     let x = sym (after-is-exclusive .is-exclusive .ensures) ∙ then1 .if1 .taken in
-    (start .pre .0, start .pre .1, start .pre .2, start .pre .3 x, lent-room _ _ _ (start .pre .6) (start .pre .5) .1)
+    (start .pre .0, start .pre .1, start .pre .2, start .pre .3 x, lent-room _ _ _ (start .pre .5) (start .pre .4 .numbers-room) .1)
 
 add-fixed-row-requires : tie.Need-add-fixed-row-requires
 add-fixed-row-requires c κs =
     let after-exclusivity-row = to-exclusivity-row c in
     let start = to-start (to-is-exclusive after-exclusivity-row) in
-    let few = held-few _ _ _ _ (start .pre .6 .held) in
-    (start .pre .4, lent-long (start .args .numbers .now) (after-exclusivity-row .exclusivity-row .last .1 .1 .1 .1 .1 .1 .0) (2048 + start .args .f .elements) (after-exclusivity-row .exclusivity-row .kept .1 .1 .1 .1 .1 .1 .0) (start .pre .5), after-exclusivity-row .exclusivity-row .ensures .few, few .0, few .1, after-exclusivity-row .exclusivity-row .ensures .rising)
+    let few = held-few _ _ _ _ (start .pre .5 .held) in
+    (record { words-room = start .pre .4 .words-room; numbers-room = lent-long (start .args .numbers .now) (after-exclusivity-row .exclusivity-row .last .1 .1 .1 .1 .1 .1 .0) (2048 + start .args .f .elements) (after-exclusivity-row .exclusivity-row .kept .1 .1 .1 .1 .1 .1 .0) (start .pre .4 .numbers-room) }, after-exclusivity-row .exclusivity-row .ensures .few, few .0, few .1, after-exclusivity-row .exclusivity-row .ensures .rising)
 
 returns : tie.Need-returns
 returns c =
@@ -69,7 +69,7 @@ returns c =
     let after-is-exclusive = then1 .before in
     let start = to-start after-is-exclusive in
     let x = sym (after-is-exclusive .is-exclusive .ensures) ∙ then1 .if1 .taken in
-    λ map m. exclusivity-row-added _ _ _ _ _ _ _ _ (after-exclusivity-row .exclusivity-row .ensures) x map m _ _ _ _ refl (lent-room _ _ _ (start .pre .6) (start .pre .5) .0) _ _ _ _ _
+    λ map m. exclusivity-row-added _ _ _ _ _ _ _ _ (after-exclusivity-row .exclusivity-row .ensures) x map m _ _ _ _ refl (lent-room _ _ _ (start .pre .5) (start .pre .4 .numbers-room) .0) _ _ _ _ _
     (after-active-bound .active-bound .ensures ∙ ap double (after-min-active .min-active .ensures)) (after-active-bound2 .active-bound2 .ensures ∙ ap double (after-max-active .max-active .ensures)) (after-add-fixed-row .add-fixed-row .ensures)
 
 returns-2 : tie.Need-returns-2

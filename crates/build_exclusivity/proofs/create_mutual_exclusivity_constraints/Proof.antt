@@ -59,7 +59,7 @@ add-exclusivity-row-requires c κs =
     let start = to-start at-loop in
     let p = start .pre in
     let l = at-loop .loop .inv in
-    (p .1, p .4, aggregate-starts _ _ _ _ _ _ (p .0) _ (in-loop .loop-test .taken) _ (l .0 .stands), known-sets _ _ _ _ _ _ (p .0) _ (in-loop .loop-test .taken) _ (l .0 .stands) _ _ (p .1) (p .2), omega (arith, l .1, p .5), omega (arith, l .2, p .6), adding-holding _ _ _ _ _ _ (l .0 .adding _ (map-is (start)) (p .7 .rows) (p .7 .held)))
+    (p .1, p .4, aggregate-starts _ _ _ _ _ _ (p .0) _ (in-loop .loop-test .taken) _ (l .0 .stands), known-sets _ _ _ _ _ _ (p .0) _ (in-loop .loop-test .taken) _ (l .0 .stands) _ _ (p .1) (p .2), record { words-room = omega (arith, l .1, p .5 .words-room); numbers-room = omega (arith, l .2, p .5 .numbers-room) }, adding-holding _ _ _ _ _ _ (l .0 .adding _ (map-is (start)) (p .6 .rows) (p .6 .held)))
 
 same-length : tie.Need-same-length Inv-loop μ-loop
 same-length c =

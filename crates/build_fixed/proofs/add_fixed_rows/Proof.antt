@@ -55,7 +55,7 @@ create-constant-constraints-requires c κs =
     let after-m = to-m c in
     let after-create-mass-balance-constraints = to-create-mass-balance-constraints (after-m .before .before) in
     let start = to-start after-create-mass-balance-constraints in
-    (start .pre .0, start .pre .2, record { setAt = _; sets = _; tables = start .pre .1 }, omega (arith, after-create-mass-balance-constraints .create-mass-balance-constraints .kept .1 .1 .1 .1 .1 .1 .1 .0, start .pre .3), omega (arith, after-create-mass-balance-constraints .create-mass-balance-constraints .kept .1 .1 .1 .1 .1 .1 .1 .1 .0, start .pre .4), mass-holding (start .args .sentinel) (networkOf (start .args .s .now) (start .args .c)) _ _ _ _ _ _ (after-create-mass-balance-constraints .create-mass-balance-constraints .ensures) _ (after-m .m .given .1) (start .pre .5))
+    (start .pre .0, start .pre .2, record { setAt = _; sets = _; tables = start .pre .1 }, record { words-room = omega (arith, after-create-mass-balance-constraints .create-mass-balance-constraints .kept .1 .1 .1 .1 .1 .1 .1 .0, start .pre .3 .words-room); numbers-room = omega (arith, after-create-mass-balance-constraints .create-mass-balance-constraints .kept .1 .1 .1 .1 .1 .1 .1 .1 .0, start .pre .3 .numbers-room) }, mass-holding (start .args .sentinel) (networkOf (start .args .s .now) (start .args .c)) _ _ _ _ _ _ (after-create-mass-balance-constraints .create-mass-balance-constraints .ensures) _ (after-m .m .given .1) (start .pre .4))
 
 create-mutual-exclusivity-constraints-requires : tie.Need-create-mutual-exclusivity-constraints-requires
 create-mutual-exclusivity-constraints-requires c κs =
@@ -64,7 +64,7 @@ create-mutual-exclusivity-constraints-requires c κs =
     let after-m = to-m (after-create-constant-constraints .before) in
     let after-create-mass-balance-constraints = to-create-mass-balance-constraints (after-m .before .before) in
     let start = to-start after-create-mass-balance-constraints in
-    (start .pre .0 .sections, start .pre .1 .fit, start .pre .1 .held, start .pre .2, columns-most _ _ _ _ _ _ _ (start .pre .0) _ (start .pre .2), omega (arith, after-create-mass-balance-constraints .create-mass-balance-constraints .kept .1 .1 .1 .1 .1 .1 .1 .0, after-create-constant-constraints .create-constant-constraints .kept .1 .1 .1 .1 .1 .1 .1 .1 .1 .1 .1 .0, start .pre .3), omega (arith, after-create-mass-balance-constraints .create-mass-balance-constraints .kept .1 .1 .1 .1 .1 .1 .1 .1 .0, after-create-constant-constraints .create-constant-constraints .kept .1 .1 .1 .1 .1 .1 .1 .1 .1 .1 .1 .1 .0, start .pre .4), constant-holding (start .args .sentinel) (networkOf (start .args .s .now) (start .args .c)) _ _ _ _ _ _ (after-create-mass-balance-constraints .create-mass-balance-constraints .ensures) _ (after-m .m .given .1) _ _ _ (after-create-constant-constraints .create-constant-constraints .ensures) _ (after-b .b .given .1) (start .pre .5))
+    (start .pre .0 .sections, start .pre .1 .fit, start .pre .1 .held, start .pre .2, columns-most _ _ _ _ _ _ _ (start .pre .0) _ (start .pre .2), record { words-room = omega (arith, after-create-mass-balance-constraints .create-mass-balance-constraints .kept .1 .1 .1 .1 .1 .1 .1 .0, after-create-constant-constraints .create-constant-constraints .kept .1 .1 .1 .1 .1 .1 .1 .1 .1 .1 .1 .0, start .pre .3 .words-room); numbers-room = omega (arith, after-create-mass-balance-constraints .create-mass-balance-constraints .kept .1 .1 .1 .1 .1 .1 .1 .1 .0, after-create-constant-constraints .create-constant-constraints .kept .1 .1 .1 .1 .1 .1 .1 .1 .1 .1 .1 .1 .0, start .pre .3 .numbers-room) }, constant-holding (start .args .sentinel) (networkOf (start .args .s .now) (start .args .c)) _ _ _ _ _ _ (after-create-mass-balance-constraints .create-mass-balance-constraints .ensures) _ (after-m .m .given .1) _ _ _ (after-create-constant-constraints .create-constant-constraints .ensures) _ (after-b .b .given .1) (start .pre .4))
 
 same-length : tie.Need-same-length
 same-length c =

@@ -29,7 +29,7 @@ loop-holds c =
 same-row-requires : tie.Need-same-row-requires Inv-loop μ-loop
 same-row-requires c κs =
     let p = to-start c .pre in
-    (p .0, p .1, p .2, omega (arith, c .before .before .run .given .0), c .loop-test .taken, p .3)
+    (p .0, p .1, omega (arith, c .before .before .run .given .0), c .loop-test .taken, p .2)
 
 returns : tie.Need-returns Inv-loop μ-loop
 returns c =

@@ -21,27 +21,27 @@ to-wide-start c =
 sub-if1 : tie.Need-sub-if1
 sub-if1 c =
     let start = to-start c in
-    starts-rise _ _ _ (start .args .k) _ _ (start .pre .4) (c .before .before .wide-start .ensures .0) (c .wide-start2 .ensures .0) (start .pre .5)
+    starts-rise _ _ _ (start .args .k) _ _ (start .pre .3) (c .before .before .wide-start .ensures .0) (c .wide-start2 .ensures .0) (start .pre .4)
 
 returns : tie.Need-returns
 returns c =
     let start = to-start (c .before) in
-    length-differs _ _ _ _ _ _ (start .pre .4) (c .before .before .before .wide-start .ensures .0) (c .before .wide-start2 .ensures .0) _ _ (start .pre .1) (start .pre .2) (start .pre .3) (c .if1 .taken)
+    length-differs _ _ _ _ _ _ (start .pre .3) (c .before .before .before .wide-start .ensures .0) (c .before .wide-start2 .ensures .0) _ _ (start .pre .0 .numbers-room) (start .pre .1) (start .pre .2) (c .if1 .taken)
 
 same-elements-requires : tie.Need-same-elements-requires
 same-elements-requires c κs =
     let start = to-start (c .before) in
     let at = c .before .before .before .wide-start .ensures .0 in
     let next = c .before .wide-start2 .ensures .0 in
-    let rise = starts-rise _ _ _ (start .args .k) _ _ (start .pre .4) at next (start .pre .5) in
-    let fits = row-fits _ _ _ (start .args .k) _ _ (start .pre .4) at next (start .pre .5) in
-    let few = held-few _ _ _ _ (start .pre .5 .held) in
-    (omega (arith, c .if1 .left), omega (arith, c .if1 .left), start .pre .3, omega arith)
+    let rise = starts-rise _ _ _ (start .args .k) _ _ (start .pre .3) at next (start .pre .4) in
+    let fits = row-fits _ _ _ (start .args .k) _ _ (start .pre .3) at next (start .pre .4) in
+    let few = held-few _ _ _ _ (start .pre .4 .held) in
+    (omega (arith, c .if1 .left), omega (arith, c .if1 .left), start .pre .2, omega arith)
 
 returns-2 : tie.Need-returns-2
 returns-2 c =
     let start = to-start (c .before .before) in
-    length-same _ _ _ _ _ _ (start .pre .4) (to-wide-start c .wide-start .ensures .0) (c .before .before .wide-start2 .ensures .0) _ _ (c .before .if1 .left) _ (c .same-elements .ensures)
+    length-same _ _ _ _ _ _ (start .pre .3) (to-wide-start c .wide-start .ensures .0) (c .before .before .wide-start2 .ensures .0) _ _ (c .before .if1 .left) _ (c .same-elements .ensures)
 
 pub same-row-spec : {M : Type 1} → statement M
 same-row-spec =

@@ -55,7 +55,7 @@ mass-row-requires : tie.Need-mass-row-requires
 mass-row-requires c κs =
     let after-wide16 = to-wide16 c in
     let start = to-start (after-wide16 .before .before) in
-    (lent-room _ _ _ (start .pre .4) (start .pre .3) .1, in-listed _ _ _ _ _ _ _ (start .pre .0) (after-wide16 .wide16 .result), out-listed _ _ _ _ _ _ _ (start .pre .0) (after-wide16 .wide16 .result))
+    (lent-room _ _ _ (start .pre .3) (start .pre .2 .numbers-room) .1, in-listed _ _ _ _ _ _ _ (start .pre .0) (after-wide16 .wide16 .result), out-listed _ _ _ _ _ _ _ (start .pre .0) (after-wide16 .wide16 .result))
 
 part-row-end : tie.Need-part-row-end
 part-row-end c =
@@ -73,7 +73,7 @@ returns-2 c =
     let else1 = after-wide16 .before in
     let after-kind = else1 .before in
     let start = to-start after-kind in
-    let room = lent-room _ _ _ (start .pre .4) (start .pre .3) in
+    let room = lent-room _ _ _ (start .pre .3) (start .pre .2 .numbers-room) in
     let g = mass-row _ _ _ _ _ _ _ (start .pre .0) _ (after-wide16 .wide16 .result) (after-wide16 .wide16 .ensures .0) _ _ _ (after-mass-row .mass-row .ensures) in
     row-dropped _ _ _ _ _ _ _ (start .pre .0) _ (after-wide16 .wide16 .result) (after-wide16 .wide16 .ensures .0) _ _ _ g (sym (after-kind .kind .ensures) ∙ else1 .if1 .left)
     (omega (arith, after-run2 .run2 .given .0)) (omega (arith, after-mass-row .mass-row .kept .1 .1 .1 .1 .1 .1 .0, room .1)) _ _ _ _ refl (room .0) (c .if2 .taken)
@@ -84,8 +84,8 @@ add-fixed-row-requires c κs =
     let after-wide16 = to-wide16 (after-mass-row .before) in
     let start = to-start (after-wide16 .before .before) in
     let g = mass-row _ _ _ _ _ _ _ (start .pre .0) _ (after-wide16 .wide16 .result) (after-wide16 .wide16 .ensures .0) _ _ _ (after-mass-row .mass-row .ensures) in
-    let few = held-few _ _ _ _ (start .pre .4 .held) in
-    (start .pre .2, lent-long (start .args .numbers .now) (after-mass-row .mass-row .last .1 .1 .1 .1 .1 .1 .0) (2048 + start .args .f .elements) (after-mass-row .mass-row .kept .1 .1 .1 .1 .1 .1 .0) (start .pre .3), g .few, few .0, few .1, g .rising)
+    let few = held-few _ _ _ _ (start .pre .3 .held) in
+    (record { words-room = start .pre .2 .words-room; numbers-room = lent-long (start .args .numbers .now) (after-mass-row .mass-row .last .1 .1 .1 .1 .1 .1 .0) (2048 + start .args .f .elements) (after-mass-row .mass-row .kept .1 .1 .1 .1 .1 .1 .0) (start .pre .2 .numbers-room) }, g .few, few .0, few .1, g .rising)
 
 returns-3 : tie.Need-returns-3
 unfolding zero64 ofBits
@@ -98,7 +98,7 @@ returns-3 c =
     let else1 = after-wide16 .before in
     let after-kind = else1 .before in
     let start = to-start after-kind in
-    let room = lent-room _ _ _ (start .pre .4) (start .pre .3) in
+    let room = lent-room _ _ _ (start .pre .3) (start .pre .2 .numbers-room) in
     let g = mass-row _ _ _ _ _ _ _ (start .pre .0) _ (after-wide16 .wide16 .result) (after-wide16 .wide16 .ensures .0) _ _ _ (after-mass-row .mass-row .ensures) in
     row-added _ _ _ _ _ _ _ (start .pre .0) _ (after-wide16 .wide16 .result) (after-wide16 .wide16 .ensures .0) _ _ _ g (sym (after-kind .kind .ensures) ∙ else1 .if1 .left)
     (omega (arith, after-run2 .run2 .given .0)) (omega (arith, after-mass-row .mass-row .kept .1 .1 .1 .1 .1 .1 .0, room .1)) _ _ _ _ refl (room .0) _ _ _ _ _ (else2 .if2 .left) refl refl (after-add-fixed-row .add-fixed-row .ensures)

@@ -68,7 +68,7 @@ add-mass-row-requires c κs =
     let at-loop = in-loop .before in
     let start = to-start at-loop in
     let l = at-loop .loop .inv in
-    (start .pre .0, omega (arith, after-narrow16 .narrow16 .ensures, in-loop .loop-test .taken), omega (arith, l .2, start .pre .1), omega (arith, l .3, start .pre .2), adding-holding _ _ _ _ _ _ (l .1 (start .pre .3 .rows) (start .pre .3 .held)))
+    (start .pre .0, omega (arith, after-narrow16 .narrow16 .ensures, in-loop .loop-test .taken), record { words-room = omega (arith, l .2, start .pre .1 .words-room); numbers-room = omega (arith, l .3, start .pre .1 .numbers-room) }, adding-holding _ _ _ _ _ _ (l .1 (start .pre .2 .rows) (start .pre .2 .held)))
 
 same-length : tie.Need-same-length Inv-loop μ-loop
 same-length c =

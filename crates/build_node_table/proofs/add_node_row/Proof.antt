@@ -24,7 +24,7 @@ to-slice-known4 c =
 
 row-word-requires : tie.Need-row-word-requires
 row-word-requires c κs =
-    let h = to-start (to-add-variable-row (to-slice-known4 c)) .pre .4 in
+    let h = to-start (to-add-variable-row (to-slice-known4 c)) .pre .3 in
     place-fits _ (joined (h .asks) .rows) _ _ _ _ _ _ _ (h .held .held) (to-add-variable-row (to-slice-known4 c) .add-variable-row .ensures (joined (h .asks) .rows) (h .held .held)) _ _ (c .before .before .r .given .1)
 
 returns : tie.Need-returns
@@ -38,8 +38,8 @@ returns-2 c =
     let after-r = after-row-word .before .before .before in
     let after-add-variable-row = to-add-variable-row (after-r .before .before) in
     let start = to-start after-add-variable-row in
-    let room = start .pre .5 in
-    let long = start .pre .0 in
+    let room = start .pre .4 in
+    let long = start .pre .0 .words-room in
     let kept = after-add-variable-row .add-variable-row .kept .0 in
     λ t et asks h.
     row-placed _ asks _ _ _ _ _ _ _ h (after-add-variable-row .add-variable-row .ensures (joined asks .rows) (h .held)) _ _ (after-r .r .given .1) _ _ _ (after-row-word .row-word .ensures) et (omega arith) (after-put-node-row .put-node-row .ensures)

@@ -2,6 +2,7 @@
 use Prim.Native.Nat.{_+_, _*_}
 use native.Mathlib.Omega.{arith}
 use lib.ListN.{length-set}
+use Rattle.layout.specs.Layout.{nodeRowsMadeAt}
 use Rattle.build_node_table.proofs.Table.{four-words}
 use borrow.Author.Needs.{needs}
 use Rattle.build_node_table.proofs.put_node_row.Statement.{statement}
@@ -22,7 +23,7 @@ slice-write-words-4 c =
 returns : tie.Need-returns
 returns c =
     let a = c .args in
-    four-words (a .words .now) (7180 + 4 * a .i) (a .node .0) (a .row) (a .row-type) (a .set)
+    four-words (a .words .now) (nodeRowsMadeAt + 4 * a .i) (a .node .0) (a .row) (a .row-type) (a .set)
 
 pub put-node-row-spec : {M : Type 1} → statement M
 put-node-row-spec =

@@ -42,7 +42,7 @@ to-loop c =
 
 loop-holds : tie.Need-loop-holds Inv-loop μ-loop
 loop-holds c =
-    (order-first _ _ _ _ _ _ _ (c .before .before .before .pre .0) _ _ _ _ (c .before .before .before .pre .5), refl, refl)
+    (order-first _ _ _ _ _ _ _ (c .before .before .before .pre .0) _ _ _ _ (c .before .before .before .pre .4), refl, refl)
 
 narrow16-requires : tie.Need-narrow16-requires Inv-loop μ-loop
 narrow16-requires c κs =
@@ -58,7 +58,7 @@ request-rows-requires c κs =
     let start = after-shared-slice-known .before in
     let p = start .pre in
     let l = at-loop .loop .inv in
-    (p .0, omega (arith, c .before .before .before .narrow16 .ensures, in-loop .loop-test .taken), p .1, p .2, omega (arith, p .3, l .1), omega (arith, p .4, l .2), rw (c .before .before .before .narrow16 .ensures) (l .0))
+    (p .0, omega (arith, c .before .before .before .narrow16 .ensures, in-loop .loop-test .taken), p .1, p .2, record { words-room = omega (arith, p .3 .words-room, l .1); numbers-room = omega (arith, p .3 .numbers-room, l .2) }, rw (c .before .before .before .narrow16 .ensures) (l .0))
 
 same-length : tie.Need-same-length Inv-loop μ-loop
 same-length c =

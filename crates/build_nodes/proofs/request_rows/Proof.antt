@@ -38,7 +38,7 @@ to-request-node-row c =
 returns : tie.Need-returns
 returns c =
     let p = to-start (c .before) .pre in
-    constant-after _ _ _ _ _ _ _ (p .0) _ (p .1) _ (c .before .is-constant .ensures) (c .if1 .taken) _ _ _ _ (p .6)
+    constant-after _ _ _ _ _ _ _ (p .0) _ (p .1) _ (c .before .is-constant .ensures) (c .if1 .taken) _ _ _ _ (p .5)
 
 element-copy-out-if2 : tie.Need-element-copy-out-if2
 element-copy-out-if2 c =
@@ -54,7 +54,7 @@ request-node-row-requires c κs =
     let after-is-constant = else1 .before in
     let start = to-start after-is-constant in
     let p = start .pre in
-    (p .0, p .1, p .4, p .5, record { asks = _; held = p .6 }, own-room _ _ _ _ _ _ _ (p .0) _ _ (p .3) _ _ (after-wide16 .wide16 .ensures .0) (p .1) _ (after-is-constant .is-constant .ensures) (else1 .if1 .left) (then2 .if2 .taken) _ _ _ _ (p .6))
+    (p .0, p .1, p .4, record { asks = _; held = p .5 }, own-room _ _ _ _ _ _ _ (p .0) _ _ (p .3) _ _ (after-wide16 .wide16 .ensures .0) (p .1) _ (after-is-constant .is-constant .ensures) (else1 .if1 .left) (then2 .if2 .taken) _ _ _ _ (p .5))
 
 returns-2 : tie.Need-returns-2
 returns-2 c =
@@ -65,7 +65,7 @@ returns-2 c =
     let after-is-constant = else1 .before in
     let start = to-start after-is-constant in
     let p = start .pre in
-    own-after _ _ _ _ _ _ _ (p .0) _ _ (p .3) _ _ (after-wide16 .wide16 .ensures .0) (p .1) _ (after-is-constant .is-constant .ensures) (else1 .if1 .left) (then2 .if2 .taken) _ _ _ _ (after-request-node-row .request-node-row .ensures _ (p .6))
+    own-after _ _ _ _ _ _ _ (p .0) _ _ (p .3) _ _ (after-wide16 .wide16 .ensures .0) (p .1) _ (after-is-constant .is-constant .ensures) (else1 .if1 .left) (then2 .if2 .taken) _ _ _ _ (after-request-node-row .request-node-row .ensures _ (p .5))
 
 request-exclusive-rows-requires : tie.Need-request-exclusive-rows-requires
 request-exclusive-rows-requires c κs =
@@ -75,7 +75,7 @@ request-exclusive-rows-requires c κs =
     let after-is-constant = else1 .before in
     let start = to-start after-is-constant in
     let p = start .pre in
-    (p .0, p .1, p .2, p .3, p .4, p .5, p .6, listed-room _ _ _ _ _ _ _ (p .0) _ _ (p .3) _ _ (after-wide16 .wide16 .ensures .0) (p .1) _ (after-is-constant .is-constant .ensures) (else1 .if1 .left) (else2 .if2 .left))
+    (p .0, p .1, p .2, p .3, p .4, p .5, listed-room _ _ _ _ _ _ _ (p .0) _ _ (p .3) _ _ (after-wide16 .wide16 .ensures .0) (p .1) _ (after-is-constant .is-constant .ensures) (else1 .if1 .left) (else2 .if2 .left))
 
 returns-3 : tie.Need-returns-3
 returns-3 c =

@@ -37,7 +37,7 @@ add-rows-requires c κs =
     let after-collect-sets = after-k .before .before in
     let start = to-start after-collect-sets in
     let k = after-collect-sets .collect-sets .ensures .held _ (after-k .k .given .1) in
-    (start .pre .0, record { held = k .0; fit = k .1; listed = after-list-members .list-members .ensures }, start .pre .1, start .pre .2, start .pre .3)
+    (start .pre .0, record { held = k .0; fit = k .1; listed = after-list-members .list-members .ensures }, start .pre .1, start .pre .2)
 
 returns : tie.Need-returns
 returns c =

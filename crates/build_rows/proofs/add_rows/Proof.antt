@@ -54,7 +54,7 @@ add-varying-rows-requires : tie.Need-add-varying-rows-requires
 add-varying-rows-requires c κs =
     let after-start-rows = to-start-rows c in
     let start = to-start after-start-rows in
-    (start .pre .0, record { setAt = _; sets = _; tables = start .pre .1 }, start .pre .2, omega (arith, after-start-rows .start-rows .kept .0, start .pre .3), start .pre .4, after-start-rows .start-rows .ensures .0 _)
+    (start .pre .0, record { setAt = _; sets = _; tables = start .pre .1 }, start .pre .2, record { words-room = omega (arith, after-start-rows .start-rows .kept .0, start .pre .3 .words-room); numbers-room = start .pre .3 .numbers-room }, after-start-rows .start-rows .ensures .0 _)
 
 add-fixed-rows-requires : tie.Need-add-fixed-rows-requires
 add-fixed-rows-requires c κs =
@@ -62,7 +62,7 @@ add-fixed-rows-requires c κs =
     let after-add-varying-rows = to-add-varying-rows (after-v .before .before) in
     let after-start-rows = to-start-rows (after-add-varying-rows .before) in
     let start = to-start after-start-rows in
-    (start .pre .0, start .pre .1, start .pre .2, omega (arith, after-start-rows .start-rows .kept .0, after-add-varying-rows .add-varying-rows .kept .1 .1 .1 .1 .1 .1 .1 .1 .1 .1 .1 .0, start .pre .3), omega (arith, after-add-varying-rows .add-varying-rows .kept .1 .1 .1 .1 .1 .1 .1 .1 .1 .1 .1 .1 .0, start .pre .4), record { rows = _; held = after-add-varying-rows .add-varying-rows .ensures .done _ (after-v .v .given .1) .held })
+    (start .pre .0, start .pre .1, start .pre .2, record { words-room = omega (arith, after-start-rows .start-rows .kept .0, after-add-varying-rows .add-varying-rows .kept .1 .1 .1 .1 .1 .1 .1 .1 .1 .1 .1 .0, start .pre .3 .words-room); numbers-room = omega (arith, after-add-varying-rows .add-varying-rows .kept .1 .1 .1 .1 .1 .1 .1 .1 .1 .1 .1 .1 .0, start .pre .3 .numbers-room) }, record { rows = _; held = after-add-varying-rows .add-varying-rows .ensures .done _ (after-v .v .given .1) .held })
 
 write-tables-requires : tie.Need-write-tables-requires
 write-tables-requires c κs =
@@ -75,7 +75,7 @@ write-tables-requires c κs =
     let v = after-add-varying-rows .add-varying-rows .ensures .done _ (after-v .v .given .1) in
     let a = after-add-fixed-rows .add-fixed-rows .ensures (programmeOf (start .args .sentinel) (networkOf (start .args .s .now) (start .args .c)) .programme .varying) (v .held) in
     let t = start .pre .0 in
-    (few (start .args .sentinel) _ (start .args .c) _ _ _ _ _ (start .pre .0) _ _ _ _ (start .pre .1) _ (start .pre .2) _ _ _ _ _ _ v _ a (after-f .f .given .1), omega (arith, t .sections .fixed, t .sections .inside), omega (arith, after-start-rows .start-rows .kept .0, after-add-varying-rows .add-varying-rows .kept .1 .1 .1 .1 .1 .1 .1 .1 .1 .1 .1 .0, after-add-fixed-rows .add-fixed-rows .kept .1 .1 .1 .1 .1 .1 .1 .1 .1 .1 .1 .1 .1 .0, start .pre .3), varying-most (start .args .sentinel) _ (start .args .c) _ _ _ _ _ (start .pre .0) _ _ _ _ (start .pre .1) _ (start .pre .2) _ _ _ _ _ _ v _ a (after-f .f .given .1), placed _ _ _ _ _ _ _ t)
+    (few (start .args .sentinel) _ (start .args .c) _ _ _ _ _ (start .pre .0) _ _ _ _ (start .pre .1) _ (start .pre .2) _ _ _ _ _ _ v _ a (after-f .f .given .1), omega (arith, t .sections .fixed, t .sections .inside), omega (arith, after-start-rows .start-rows .kept .0, after-add-varying-rows .add-varying-rows .kept .1 .1 .1 .1 .1 .1 .1 .1 .1 .1 .1 .0, after-add-fixed-rows .add-fixed-rows .kept .1 .1 .1 .1 .1 .1 .1 .1 .1 .1 .1 .1 .1 .0, start .pre .3 .words-room), varying-most (start .args .sentinel) _ (start .args .c) _ _ _ _ _ (start .pre .0) _ _ _ _ (start .pre .1) _ (start .pre .2) _ _ _ _ _ _ v _ a (after-f .f .given .1), placed _ _ _ _ _ _ _ t)
 
 same-length : tie.Need-same-length
 same-length c =
@@ -138,7 +138,7 @@ returns-3 c =
     let start = to-start after-start-rows in
     let v = after-add-varying-rows .add-varying-rows .ensures .done _ (after-v .v .given .1) in
     let a = after-add-fixed-rows .add-fixed-rows .ensures (programmeOf (start .args .sentinel) (networkOf (start .args .s .now) (start .args .c)) .programme .varying) (v .held) in
-    all-made (start .args .sentinel) _ (start .args .c) _ _ _ _ _ (start .pre .0) _ _ _ _ (start .pre .1) _ (start .pre .2) _ _ _ _ _ _ v _ a (after-f .f .given .1) _ (omega (arith, after-start-rows .start-rows .kept .0, after-add-varying-rows .add-varying-rows .kept .1 .1 .1 .1 .1 .1 .1 .1 .1 .1 .1 .0, after-add-fixed-rows .add-fixed-rows .kept .1 .1 .1 .1 .1 .1 .1 .1 .1 .1 .1 .1 .1 .0, start .pre .3)) (after-write-tables .write-tables .ensures)
+    all-made (start .args .sentinel) _ (start .args .c) _ _ _ _ _ (start .pre .0) _ _ _ _ (start .pre .1) _ (start .pre .2) _ _ _ _ _ _ v _ a (after-f .f .given .1) _ (omega (arith, after-start-rows .start-rows .kept .0, after-add-varying-rows .add-varying-rows .kept .1 .1 .1 .1 .1 .1 .1 .1 .1 .1 .1 .0, after-add-fixed-rows .add-fixed-rows .kept .1 .1 .1 .1 .1 .1 .1 .1 .1 .1 .1 .1 .1 .0, start .pre .3 .words-room)) (after-write-tables .write-tables .ensures)
 
 pub add-rows-spec : {M : Type 1} → statement M
 add-rows-spec =

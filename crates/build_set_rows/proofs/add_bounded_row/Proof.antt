@@ -29,15 +29,15 @@ to-add-fixed-row c =
 bounded-row-requires : tie.Need-bounded-row-requires
 bounded-row-requires c κs =
     let start = to-start c in
-    (start .pre .0, start .pre .1, start .pre .2, lent-room _ _ _ (start .pre .5) (start .pre .4) .1)
+    (start .pre .0, start .pre .1, start .pre .2, lent-room _ _ _ (start .pre .4) (start .pre .3 .numbers-room) .1)
 
 add-fixed-row-requires : tie.Need-add-fixed-row-requires
 add-fixed-row-requires c κs =
     let after-bounded-row = to-bounded-row c in
     let start = to-start (after-bounded-row .before) in
-    let few = held-few _ _ _ _ (start .pre .5 .held) in
+    let few = held-few _ _ _ _ (start .pre .4 .held) in
     let g = after-bounded-row .bounded-row .ensures in
-    (start .pre .3, lent-long (start .args .numbers .now) (after-bounded-row .bounded-row .last .1 .1 .1 .1 .1 .1 .1 .1 .1 .1 .1 .1 .0) (2048 + start .args .f .elements) (after-bounded-row .bounded-row .kept .1 .1 .1 .1 .1 .1 .1 .1 .1 .1 .1 .1 .0) (start .pre .4), g .few, few .0, few .1, g .rising)
+    (record { words-room = start .pre .3 .words-room; numbers-room = lent-long (start .args .numbers .now) (after-bounded-row .bounded-row .last .1 .1 .1 .1 .1 .1 .1 .1 .1 .1 .1 .1 .0) (2048 + start .args .f .elements) (after-bounded-row .bounded-row .kept .1 .1 .1 .1 .1 .1 .1 .1 .1 .1 .1 .1 .0) (start .pre .3 .numbers-room) }, g .few, few .0, few .1, g .rising)
 
 returns : tie.Need-returns
 unfolding zero64 ofBits
@@ -46,7 +46,7 @@ returns c =
     let after-high = after-add-fixed-row .before in
     let after-bounded-row = to-bounded-row after-high in
     let start = to-start (after-bounded-row .before) in
-    let room = lent-room _ _ _ (start .pre .5) (start .pre .4) in
+    let room = lent-room _ _ _ (start .pre .4) (start .pre .3 .numbers-room) in
     lent-row _ _ _ _ _ refl (room .0) _ _ _ _ _ _ _ _ _ _ refl (after-high .high .ensures) (after-bounded-row .bounded-row .ensures .is) (after-add-fixed-row .add-fixed-row .ensures)
 
 pub add-bounded-row-spec : {M : Type 1} → statement M

@@ -84,7 +84,7 @@ add-bounded-row-requires c κs =
     let after-narrow16 = to-narrow16 c in
     let start = to-start (after-narrow16 .before .before) in
     let u = set-column-under _ _ _ _ _ _ _ (start .pre .0) _ _ (start .pre .2) (start .pre .3) in
-    (start .pre .0, start .pre .1, omega (arith, after-narrow16 .narrow16 .ensures), start .pre .4, start .pre .5, start .pre .6)
+    (start .pre .0, start .pre .1, omega (arith, after-narrow16 .narrow16 .ensures), start .pre .4, start .pre .5)
 
 same-length : tie.Need-same-length
 same-length c =
@@ -113,14 +113,7 @@ add-bounded-row-requires-2 c κs =
     let after-narrow16 = to-narrow16 (after-add-bounded-row .before) in
     let start = to-start (after-narrow16 .before .before) in
     let u = set-column-under _ _ _ _ _ _ _ (start .pre .0) _ _ (start .pre .2) (start .pre .3) in
-    let h = start .pre .6 in (
-      start .pre .0,
-      start .pre .1,
-      omega (arith, after-narrow16 .narrow16 .ensures),
-      omega (arith, after-add-bounded-row .add-bounded-row .kept .1 .1 .1 .1 .1 .1 .1 .1 .1 .1 .1 .1 .0, start .pre .4),
-      omega (arith, after-add-bounded-row .add-bounded-row .kept .1 .1 .1 .1 .1 .1 .1 .1 .1 .1 .1 .1 .1 .0, start .pre .5),
-      record { rows = _; held = after-add-bounded-row .add-bounded-row .ensures (h .rows) (h .held) .held _ (after-r .r .given .1) },
-    )
+    let h = start .pre .5 in (start .pre .0, start .pre .1, omega (arith, after-narrow16 .narrow16 .ensures), record { words-room = omega (arith, after-add-bounded-row .add-bounded-row .kept .1 .1 .1 .1 .1 .1 .1 .1 .1 .1 .1 .1 .0, start .pre .4 .words-room); numbers-room = omega (arith, after-add-bounded-row .add-bounded-row .kept .1 .1 .1 .1 .1 .1 .1 .1 .1 .1 .1 .1 .1 .0, start .pre .4 .numbers-room) }, record { rows = _; held = after-add-bounded-row .add-bounded-row .ensures (h .rows) (h .held) .held _ (after-r .r .given .1) })
 
 same-length-3 : tie.Need-same-length-3
 same-length-3 c =

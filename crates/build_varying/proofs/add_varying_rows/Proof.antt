@@ -56,7 +56,7 @@ create-aggregated-node-constraints-requires c κs =
     let after-create-node-constraints = to-create-node-constraints (after-n .before .before) in
     let start = to-start after-create-node-constraints in
     let h = after-create-node-constraints .create-node-constraints .ensures .done _ (after-n .n .given .1) in
-    (start .pre .0, omega (arith, after-create-node-constraints .create-node-constraints .kept .1 .1 .1 .1 .1 .1 .1 .1 .1 .1 .1 .0, start .pre .3), omega (arith, after-create-node-constraints .create-node-constraints .kept .1 .1 .1 .1 .1 .1 .1 .1 .1 .1 .1 .1 .0, start .pre .4), nodes-holding (start .args .sentinel) (networkOf (start .args .s .now) (start .args .c)) _ _ _ h)
+    (start .pre .0, record { words-room = omega (arith, after-create-node-constraints .create-node-constraints .kept .1 .1 .1 .1 .1 .1 .1 .1 .1 .1 .1 .0, start .pre .3 .words-room); numbers-room = omega (arith, after-create-node-constraints .create-node-constraints .kept .1 .1 .1 .1 .1 .1 .1 .1 .1 .1 .1 .1 .0, start .pre .3 .numbers-room) }, nodes-holding (start .args .sentinel) (networkOf (start .args .s .now) (start .args .c)) _ _ _ h)
 
 create-virtual-storage-constraints-requires : tie.Need-create-virtual-storage-constraints-requires
 create-virtual-storage-constraints-requires c κs =
@@ -67,7 +67,7 @@ create-virtual-storage-constraints-requires c κs =
     let start = to-start after-create-node-constraints in
     let h = after-create-node-constraints .create-node-constraints .ensures .done _ (after-n .n .given .1) in
     let g = after-create-aggregated-node-constraints .create-aggregated-node-constraints .ensures (rows₁ (start .args .sentinel) (networkOf (start .args .s .now) (start .args .c))) (h .held) in
-    (start .pre .0, omega (arith, after-create-node-constraints .create-node-constraints .kept .1 .1 .1 .1 .1 .1 .1 .1 .1 .1 .1 .0, after-create-aggregated-node-constraints .create-aggregated-node-constraints .kept .1 .1 .1 .1 .1 .1 .1 .1 .0, start .pre .3), omega (arith, after-create-node-constraints .create-node-constraints .kept .1 .1 .1 .1 .1 .1 .1 .1 .1 .1 .1 .1 .0, after-create-aggregated-node-constraints .create-aggregated-node-constraints .kept .1 .1 .1 .1 .1 .1 .1 .1 .1 .0, start .pre .4), aggregates-holding (start .args .sentinel) (networkOf (start .args .s .now) (start .args .c)) _ _ _ _ _ g _ (after-a .a .given .1))
+    (start .pre .0, record { words-room = omega (arith, after-create-node-constraints .create-node-constraints .kept .1 .1 .1 .1 .1 .1 .1 .1 .1 .1 .1 .0, after-create-aggregated-node-constraints .create-aggregated-node-constraints .kept .1 .1 .1 .1 .1 .1 .1 .1 .0, start .pre .3 .words-room); numbers-room = omega (arith, after-create-node-constraints .create-node-constraints .kept .1 .1 .1 .1 .1 .1 .1 .1 .1 .1 .1 .1 .0, after-create-aggregated-node-constraints .create-aggregated-node-constraints .kept .1 .1 .1 .1 .1 .1 .1 .1 .1 .0, start .pre .3 .numbers-room) }, aggregates-holding (start .args .sentinel) (networkOf (start .args .s .now) (start .args .c)) _ _ _ _ _ g _ (after-a .a .given .1))
 
 same-length : tie.Need-same-length
 same-length c =
@@ -155,7 +155,7 @@ returns-4 c =
     let h = after-create-node-constraints .create-node-constraints .ensures .done _ (after-n .n .given .1) in
     let g = after-create-aggregated-node-constraints .create-aggregated-node-constraints .ensures (rows₁ (start .args .sentinel) (networkOf (start .args .s .now) (start .args .c))) (h .held) in
     let v = after-create-virtual-storage-constraints .create-virtual-storage-constraints .ensures (rows₂ (start .args .sentinel) (networkOf (start .args .s .now) (start .args .c))) (g .held _ (after-a .a .given .1)) in
-    all-laid (start .args .sentinel) (networkOf (start .args .s .now) (start .args .c)) (c₀ .aggregates) (c₀ .«virtual_storages») (sym (aggregate-count _ (c₀ .nodes) (c₀ .edges) (c₀ .aggregates) (c₀ .«virtual_storages»))) (sym (virtual-storage-count _ (c₀ .nodes) (c₀ .edges) (c₀ .aggregates) (c₀ .«virtual_storages»))) _ _ _ _ _ _ _ _ _ _ _ (omega (arith, h .counted, asks-few _ _ _ _ _ _ _ _ _ (start .pre .0) (start .pre .1))) (omega (arith, after-create-node-constraints .create-node-constraints .kept .1 .1 .1 .1 .1 .1 .1 .1 .1 .1 .1 .0, start .pre .3)) (omega (arith, after-create-node-constraints .create-node-constraints .kept .1 .1 .1 .1 .1 .1 .1 .1 .1 .1 .1 .0, after-create-aggregated-node-constraints .create-aggregated-node-constraints .kept .1 .1 .1 .1 .1 .1 .1 .1 .0, start .pre .3)) (omega (arith, after-create-node-constraints .create-node-constraints .kept .1 .1 .1 .1 .1 .1 .1 .1 .1 .1 .1 .0, after-create-aggregated-node-constraints .create-aggregated-node-constraints .kept .1 .1 .1 .1 .1 .1 .1 .1 .0, after-create-virtual-storage-constraints .create-virtual-storage-constraints .kept .1 .1 .1 .1 .1 .1 .1 .1 .0, start .pre .3)) (start .pre .0 .sections .few-aggregates) h g (after-a .a .given .1) v (after-v .v .given .1)
+    all-laid (start .args .sentinel) (networkOf (start .args .s .now) (start .args .c)) (c₀ .aggregates) (c₀ .«virtual_storages») (sym (aggregate-count _ (c₀ .nodes) (c₀ .edges) (c₀ .aggregates) (c₀ .«virtual_storages»))) (sym (virtual-storage-count _ (c₀ .nodes) (c₀ .edges) (c₀ .aggregates) (c₀ .«virtual_storages»))) _ _ _ _ _ _ _ _ _ _ _ (omega (arith, h .counted, asks-few _ _ _ _ _ _ _ _ _ (start .pre .0) (start .pre .1))) (omega (arith, after-create-node-constraints .create-node-constraints .kept .1 .1 .1 .1 .1 .1 .1 .1 .1 .1 .1 .0, start .pre .3 .words-room)) (omega (arith, after-create-node-constraints .create-node-constraints .kept .1 .1 .1 .1 .1 .1 .1 .1 .1 .1 .1 .0, after-create-aggregated-node-constraints .create-aggregated-node-constraints .kept .1 .1 .1 .1 .1 .1 .1 .1 .0, start .pre .3 .words-room)) (omega (arith, after-create-node-constraints .create-node-constraints .kept .1 .1 .1 .1 .1 .1 .1 .1 .1 .1 .1 .0, after-create-aggregated-node-constraints .create-aggregated-node-constraints .kept .1 .1 .1 .1 .1 .1 .1 .1 .0, after-create-virtual-storage-constraints .create-virtual-storage-constraints .kept .1 .1 .1 .1 .1 .1 .1 .1 .0, start .pre .3 .words-room)) (start .pre .0 .sections .few-aggregates) h g (after-a .a .given .1) v (after-v .v .given .1)
 
 pub add-varying-rows-spec : {M : Type 1} → statement M
 add-varying-rows-spec =

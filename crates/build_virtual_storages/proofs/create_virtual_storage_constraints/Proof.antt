@@ -4,6 +4,7 @@ use Prim.Native.Nat.{_-_, _≤_}
 use native.Mathlib.Omega.{arith}
 use mathlib.Core.List.{List, map}
 use lib.ListN.{length}
+use Rattle.layout.specs.Layout.{virtualStoragesMadeAt}
 use Rattle.pywr.specs.Rows.{Element}
 use Rattle.pywr.specs.VaryingRows.{freshRow}
 use Rattle.pywr.proofs.StoreLaws.{virtual-storage-wide}
@@ -21,7 +22,7 @@ use Rattle.build_virtual_storages.proofs.create_virtual_storage_constra
 abbrev Inv-loop : tie.InvT-loop
 Inv-loop s c first-in next-in first-out next-out edge-to-col sentinel words₀ numbers₀ columns₀ at₀ filled₀ i₀ words numbers columns at filled i =
     ((rows : List (List Element)) → RowsHeld (map (freshRow sentinel) rows) words₀ numbers₀ filled₀
-    → Asked sentinel (virtualStorageRows (networkOf s c)) 24652 6 (virtualStorageTable (networkOf s c)) rows words₀ i words numbers filled)
+    → Asked sentinel (virtualStorageRows (networkOf s c)) virtualStoragesMadeAt 6 (virtualStorageTable (networkOf s c)) rows words₀ i words numbers filled)
     × (at ≡ recordsEnd (virtualStorageEnd s) i (c .«virtual_storages_at»))
     × (i ≤ c .«virtual_storages»)
     × (length words ≡ length words₀)
@@ -77,8 +78,8 @@ add-virtual-storage-row-requires c κs =
     let t = to-start (to-loop c) in
     let l = to-loop c .loop in
     let lt = c .before .before .before .if1 .taken in
-    let a = l .inv .0 (t .pre .3 .rows) (t .pre .3 .held) in
-    (t .pre .0, virtual-storage-check _ (t .args .c) (t .pre .0 .sections) _ _ lt (l .inv .1), omega (arith, l .inv .3, t .pre .1), omega (arith, l .inv .4, t .pre .2), record { rows = _; held = a .held })
+    let a = l .inv .0 (t .pre .2 .rows) (t .pre .2 .held) in
+    (t .pre .0, virtual-storage-check _ (t .args .c) (t .pre .0 .sections) _ _ lt (l .inv .1), record { words-room = omega (arith, l .inv .3, t .pre .1 .words-room); numbers-room = omega (arith, l .inv .4, t .pre .1 .numbers-room) }, record { rows = _; held = a .held })
 
 same-length : tie.Need-same-length Inv-loop μ-loop
 same-length c =
@@ -130,7 +131,7 @@ row-word-requires c κs =
     let t = start in
     let l = at-loop .loop in
     let lt = then1 .if1 .taken in
-    let a = l .inv .0 (t .pre .3 .rows) (t .pre .3 .held) in
+    let a = l .inv .0 (t .pre .2 .rows) (t .pre .2 .held) in
     place-fits _ _ _ _ _ _ _ (omega arith) _ _ _ _ _ _ _ _ (asked-under _ (t .args .c) (t .pre .0 .sections) _ _ lt (l .inv .1)) (asked-row _ (t .args .c) (t .pre .0 .sections) _ _ lt (l .inv .1)) a (after-add-virtual-storage-row .add-virtual-storage-row .ensures _ (a .held)) _ _ (after-r .r .given .1)
 
 put-virtual-storage-requires : tie.Need-put-virtual-storage-requires Inv-loop μ-loop
@@ -139,7 +140,7 @@ put-virtual-storage-requires c κs =
     let l = to-loop (to-add-virtual-storage-row-arg3 (to-slice-known4 (c .before))) .loop in
     let lt = to-then1 (to-add-virtual-storage-row (to-slice-known4 (c .before))) .if1 .taken in
     let call = to-add-virtual-storage-row (to-slice-known4 (c .before)) .add-virtual-storage-row in
-    omega (arith, call .kept .1 .1 .1 .1 .1 .1 .1 .1 .1 .0, l .inv .3, t .pre .1, t .pre .0 .sections .few-virtual-storages, lt)
+    omega (arith, call .kept .1 .1 .1 .1 .1 .1 .1 .1 .1 .0, l .inv .3, t .pre .1 .words-room, t .pre .0 .sections .few-virtual-storages, lt)
 
 virtual-storage-end-requires : tie.Need-virtual-storage-end-requires Inv-loop μ-loop
 virtual-storage-end-requires c κs =
@@ -175,7 +176,7 @@ loop-again c =
       (λ rows held.
           let a = l .inv .0 rows held in
           asked-more _ _ _ _ _ _ _ (omega arith) _ _ _ _ _ _ _ _ (asked-under _ (t .args .c) (t .pre .0 .sections) _ _ lt (l .inv .1)) (asked-row _ (t .args .c) (t .pre .0 .sections) _ _ lt (l .inv .1)) a (call .ensures _ (a .held)) _ _ (after-r .r .given .1) _ _ _ refl (virtual-storage-wide _)
-          (omega (arith, call .kept .1 .1 .1 .1 .1 .1 .1 .1 .1 .0, l .inv .3, t .pre .1, t .pre .0 .sections .few-virtual-storages, lt))
+          (omega (arith, call .kept .1 .1 .1 .1 .1 .1 .1 .1 .1 .0, l .inv .3, t .pre .1 .words-room, t .pre .0 .sections .few-virtual-storages, lt))
           (table-more _ (t .args .c) (t .pre .0 .sections) _ _ lt (l .inv .1) _)
           (entry-same _ _ _ _ _ _ _ (after-put-virtual-storage .put-virtual-storage .ensures) (after-row-word .row-word .ensures) (after-active-period .active-period .ensures))),
       virtual-storage-next _ (t .args .c) (t .pre .0 .sections) _ _ lt (l .inv .1) _ (c .virtual-storage-end .ensures),

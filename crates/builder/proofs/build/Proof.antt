@@ -124,8 +124,7 @@ returns c =
 
 assemble-requires : tie.Need-assemble-requires
 assemble-requires c κs =
-    let h = roomy (c .before .before) in
-    (h .words-room, h .numbers-room)
+    roomy (c .before .before) .work
 
 write-columns-requires : tie.Need-write-columns-requires
 write-columns-requires c κs =
@@ -141,22 +140,14 @@ write-rows-requires c κs =
     let made = to-assembled after-a in
     let h = roomy (to-room made) in
     let few = made .assemble .ensures .made _ (after-a .a .given .1) .laid .few in
-    (few, omega (arith, made .assemble .kept .1 .1 .1 .0, h .numbers-room), h .store .rowLower, h .store .rowUpper)
+    (few, omega (arith, made .assemble .kept .1 .1 .1 .0, h .work .numbers-room), h .store .rowLower, h .store .rowUpper)
 
 write-matrix-requires : tie.Need-write-matrix-requires
 write-matrix-requires c κs =
     let after-a = to-a (to-write-columns (to-write-rows c .before) .before) in
     let made = to-assembled after-a in
     let h = roomy (to-room made) in
-    let laid = made .assemble .ensures .made _ (after-a .a .given .1) .laid in (
-      laid .few,
-      row-starts _ _ _ _ _ laid,
-      omega (arith, made .assemble .kept .1 .1 .0, h .words-room),
-      omega (arith, made .assemble .kept .1 .1 .1 .0, h .numbers-room),
-      h .store .elements,
-      h .store .columns,
-      h .store .rowStarts,
-    )
+    let laid = made .assemble .ensures .made _ (after-a .a .given .1) .laid in (laid .few, row-starts _ _ _ _ _ laid, record { words-room = omega (arith, made .assemble .kept .1 .1 .0, h .work .words-room); numbers-room = omega (arith, made .assemble .kept .1 .1 .1 .0, h .work .numbers-room) }, h .store .elements, h .store .columns, h .store .rowStarts)
 
 write-shape-requires : tie.Need-write-shape-requires
 write-shape-requires c κs =
@@ -164,7 +155,7 @@ write-shape-requires c κs =
     let made = to-assembled after-a in
     let h = roomy (to-room made) in
     let few = made .assemble .ensures .made _ (after-a .a .given .1) .laid .few in
-    (few, omega (arith, made .assemble .kept .1 .1 .0, h .words-room), h .store .shape)
+    (few, omega (arith, made .assemble .kept .1 .1 .0, h .work .words-room), h .store .shape)
 
 clear-requires-2 : tie.Need-clear-requires-2
 clear-requires-2 c κs = search needs

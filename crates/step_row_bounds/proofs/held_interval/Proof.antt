@@ -2,6 +2,7 @@
 use Prim.Native.Nat.{_+_}
 use native.Mathlib.Omega.{arith}
 use lib.Ieee.{nan}
+use Rattle.layout.specs.Layout.{uppersAt}
 use Rattle.pywr.specs.Numbers.{zero64}
 use Rattle.step_work.specs.WorkRun.{heldAt}
 use Rattle.laws.proofs.Runs.{getD-any}
@@ -13,7 +14,7 @@ returns : tie.Need-returns
 unfolding heldAt
 returns c =
     let a = c .before .before .args in
-    rw (getD-any (a .work .now) (a .k) nan zero64 (omega arith), getD-any (a .work .now) (352 + a .k) nan zero64 (omega arith))
+    rw (getD-any (a .work .now) (a .k) nan zero64 (omega arith), getD-any (a .work .now) (uppersAt + a .k) nan zero64 (omega arith))
 
 pub held-interval-spec : {M : Type 1} → statement M
 held-interval-spec =

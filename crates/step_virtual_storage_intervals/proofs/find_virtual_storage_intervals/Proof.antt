@@ -3,6 +3,7 @@ use mathlib.Core.Path.{refl, _∙_}
 use Prim.Native.Nat.{_+_, _-_}
 use native.Mathlib.Omega.{arith}
 use lib.ListN.{length-set}
+use Rattle.layout.specs.Layout.{virtualStoragesHeldAt}
 use Rattle.step_virtual_storage_intervals.specs.VirtualStorageIntervals.{virtualStorageNumbered}
 use Rattle.step_work.proofs.WrittenLaws.{Passed, passed-none, passed-more, passed-stops, passed-all}
 use borrow.Author.Needs.{needs}
@@ -10,7 +11,7 @@ use Rattle.step_virtual_storage_intervals.proofs.find_virtual_storage_i
 use Rattle.step_virtual_storage_intervals.proofs.find_virtual_storage_intervals.Tie as tie
 
 abbrev Inv-loop : tie.InvT-loop
-Inv-loop file shape days sentinel work₀ first virtualStorages i₀ work i = Passed (virtualStorageNumbered sentinel days shape file) 320 virtualStorages work₀ work i
+Inv-loop file shape days sentinel work₀ first virtualStorages i₀ work i = Passed (virtualStorageNumbered sentinel days shape file) virtualStoragesHeldAt virtualStorages work₀ work i
 
 abbrev μ-loop : tie.MeasureT-loop
 μ-loop file shape days sentinel work₀ first virtualStorages i₀ work i = virtualStorages - i
@@ -44,7 +45,7 @@ slice-write-work-2 : tie.Need-slice-write-work-2 Inv-loop μ-loop
 slice-write-work-2 c =
     let after-virtual-storage-interval = c .before .before in
     let at-loop = after-virtual-storage-interval .before .before in
-    omega (arith, length-set (at-loop .loop .work) (320 + at-loop .loop .i) (after-virtual-storage-interval .virtual-storage-interval .result .lower), at-loop .loop .inv .writing .long)
+    omega (arith, length-set (at-loop .loop .work) (virtualStoragesHeldAt + at-loop .loop .i) (after-virtual-storage-interval .virtual-storage-interval .result .lower), at-loop .loop .inv .writing .long)
 
 loop-again : tie.Need-loop-again Inv-loop μ-loop
 unfolding virtualStorageNumbered

@@ -2,6 +2,7 @@
 use mathlib.Core.Path.{refl, sym, _∙_}
 use mathlib.Core.Bool.{true}
 use Prim.Native.Nat.{_-_}
+use Rattle.layout.specs.Layout.{nodeRowsAt}
 use Rattle.pywr.specs.Store.{columnsOfRow}
 use Rattle.pywr.specs.Misshapen.{nodeRowFits}
 use Rattle.store_shape.proofs.Entries.{Tested, tested-none, tested-pass, tested-fail, tested-all}
@@ -11,7 +12,7 @@ use Rattle.store_node_rows.proofs.node_rows_fit.Statement.{statement}
 use Rattle.store_node_rows.proofs.node_rows_fit.Tie as tie
 
 abbrev Inv-loop : tie.InvT-loop
-Inv-loop columns row-starts shape node-rows at₀ i₀ at i = Tested (nodeRowFits (ofRuns columns row-starts shape)) 4 2059 node-rows true at i
+Inv-loop columns row-starts shape node-rows at₀ i₀ at i = Tested (nodeRowFits (ofRuns columns row-starts shape)) 4 nodeRowsAt node-rows true at i
 
 abbrev μ-loop : tie.MeasureT-loop
 μ-loop columns row-starts shape node-rows at₀ i₀ at i = node-rows - i

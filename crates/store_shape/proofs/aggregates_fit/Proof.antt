@@ -1,5 +1,6 @@
 -- `aggregates_fit` meets its contract. The loop's invariant: i entries were tested, and `good` says whether all passed. Assumes nothing.
 use Prim.Native.Nat.{_-_}
+use Rattle.layout.specs.Layout.{aggregatesAt}
 use Rattle.pywr.specs.Misshapen.{aggregateFits}
 use Rattle.store_shape.proofs.Entries.{ofShape, Tested, tested-none, tested-more, tested-all}
 use borrow.Author.Needs.{needs}
@@ -7,7 +8,7 @@ use Rattle.store_shape.proofs.aggregates_fit.Statement.{statement}
 use Rattle.store_shape.proofs.aggregates_fit.Tie as tie
 
 abbrev Inv-loop : tie.InvT-loop
-Inv-loop shape varying aggregates good₀ at₀ i₀ good at i = Tested (aggregateFits (ofShape shape)) 1 19467 aggregates good at i
+Inv-loop shape varying aggregates good₀ at₀ i₀ good at i = Tested (aggregateFits (ofShape shape)) 1 aggregatesAt aggregates good at i
 
 abbrev μ-loop : tie.MeasureT-loop
 μ-loop shape varying aggregates good₀ at₀ i₀ good at i = aggregates - i

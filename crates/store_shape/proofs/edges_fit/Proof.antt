@@ -1,5 +1,6 @@
 -- `edges_fit` meets its contract. The loop's invariant: i entries were tested, and `good` says whether all passed. Assumes nothing.
 use Prim.Native.Nat.{_-_}
+use Rattle.layout.specs.Layout.{edgesAt}
 use Rattle.pywr.specs.Misshapen.{edgeFits}
 use Rattle.store_shape.proofs.Entries.{ofShape, Tested, tested-none, tested-more, tested-all}
 use borrow.Author.Needs.{needs}
@@ -7,7 +8,7 @@ use Rattle.store_shape.proofs.edges_fit.Statement.{statement}
 use Rattle.store_shape.proofs.edges_fit.Tie as tie
 
 abbrev Inv-loop : tie.InvT-loop
-Inv-loop shape nodes columns edges good₀ at₀ i₀ good at i = Tested (edgeFits (ofShape shape)) 3 523 edges good at i
+Inv-loop shape nodes columns edges good₀ at₀ i₀ good at i = Tested (edgeFits (ofShape shape)) 3 edgesAt edges good at i
 
 abbrev μ-loop : tie.MeasureT-loop
 μ-loop shape nodes columns edges good₀ at₀ i₀ good at i = edges - i

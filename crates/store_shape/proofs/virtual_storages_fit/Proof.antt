@@ -1,5 +1,6 @@
 -- `virtual_storages_fit` meets its contract. The loop's invariant: i entries were tested, and `good` says whether all passed. Assumes nothing.
 use Prim.Native.Nat.{_-_}
+use Rattle.layout.specs.Layout.{virtualStoragesAt}
 use Rattle.pywr.specs.Misshapen.{virtualStorageFits}
 use Rattle.store_shape.proofs.Entries.{ofShape, Tested, tested-none, tested-more, tested-all}
 use borrow.Author.Needs.{needs}
@@ -7,7 +8,7 @@ use Rattle.store_shape.proofs.virtual_storages_fit.Statement.{statement
 use Rattle.store_shape.proofs.virtual_storages_fit.Tie as tie
 
 abbrev Inv-loop : tie.InvT-loop
-Inv-loop shape varying virtualStorages good₀ at₀ i₀ good at i = Tested (virtualStorageFits (ofShape shape)) 6 19531 virtualStorages good at i
+Inv-loop shape varying virtualStorages good₀ at₀ i₀ good at i = Tested (virtualStorageFits (ofShape shape)) 6 virtualStoragesAt virtualStorages good at i
 
 abbrev μ-loop : tie.MeasureT-loop
 μ-loop shape varying virtualStorages good₀ at₀ i₀ good at i = virtualStorages - i

@@ -3,6 +3,7 @@
 use mathlib.Core.Path.{_≡_}
 use lib.ListN.{length}
 use borrow.Author.Needs.{needs}
+use Rattle.layout.specs.Layout.{rowStartsLength, shapeLength}
 use Rattle.test_cases.proofs.step.Statement.{statement}
 use Rattle.test_cases.proofs.step.Tie as tie
 
@@ -41,13 +42,13 @@ columns-known s = search needs
 columns-length : tie.Need-slice-aggregate-front-u16
 columns-length c = search (needs, columns-known (start (to-shape (c .before .before))))
 
-row-starts-known : (s : tie.Start) → length (s .args .store .«row_starts») ≡ 1025
+row-starts-known : (s : tie.Start) → length (s .args .store .«row_starts») ≡ rowStartsLength
 row-starts-known s = search needs
 
 row-starts-length : tie.Need-slice-aggregate-front-u32
 row-starts-length c = search (needs, row-starts-known (start (to-shape (to-elements2 c))))
 
-shape-known : (s : tie.Start) → length (s .args .store .shape) ≡ 19723
+shape-known : (s : tie.Start) → length (s .args .store .shape) ≡ shapeLength
 shape-known s = search needs
 
 shape-length : tie.Need-slice-aggregate-front-u16-2
