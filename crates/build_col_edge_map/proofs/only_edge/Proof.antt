@@ -11,20 +11,20 @@ returns c =
 
 element-copy-out-if2 : tie.Need-element-copy-out-if2
 element-copy-out-if2 c =
-    let c3 = c .before .before .before in
-    omega (arith, c .wide162 .ensures .0, rw (← (c3 .wide16 .ensures .0)) at (c3 .before .pre .1))
+    let after-wide16 = c .before .before .before in
+    omega (arith, c .wide162 .ensures .0, rw (← (after-wide16 .wide16 .ensures .0)) at (after-wide16 .before .pre .1))
 
 returns-2 : tie.Need-returns-2
 returns-2 c =
-    let c2 = c .before .before in
-    let c3 = c2 .before in
-    rw (← (c3 .before .before .wide16 .ensures .0)) (λ size js l. only-one size _ _ js l (c3 .if1 .left) (rw (c2 .wide162 .ensures .0) at (c .if2 .taken)))
+    let after-wide162 = c .before .before in
+    let else1 = after-wide162 .before in
+    rw (← (else1 .before .before .wide16 .ensures .0)) (λ size js l. only-one size _ _ js l (else1 .if1 .left) (rw (after-wide162 .wide162 .ensures .0) at (c .if2 .taken)))
 
 returns-3 : tie.Need-returns-3
 returns-3 c =
-    let c2 = c .before .before in
-    let c3 = c2 .before in
-    rw (← (c3 .before .before .wide16 .ensures .0)) (λ size js l. only-more size _ _ js l (c3 .if1 .left) (rw (c2 .wide162 .ensures .0) at (c .if2 .left)))
+    let after-wide162 = c .before .before in
+    let else1 = after-wide162 .before in
+    rw (← (else1 .before .before .wide16 .ensures .0)) (λ size js l. only-more size _ _ js l (else1 .if1 .left) (rw (after-wide162 .wide162 .ensures .0) at (c .if2 .left)))
 
 pub only-edge-spec : {M : Type 1} → statement M
 only-edge-spec =

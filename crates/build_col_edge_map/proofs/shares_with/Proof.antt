@@ -11,27 +11,27 @@ returns c =
 
 only-edge-requires : tie.Need-only-edge-requires
 only-edge-requires c κs =
-    let c3 = c .before .before .before in
-    (c3 .pre .0, c3 .pre .3)
+    let start = c .before .before .before in
+    (start .pre .0, start .pre .3)
 
 returns-2 : tie.Need-returns-2
 returns-2 c =
-    let c2 = c .before .before in
-    λ size into out i o. not-one-out _ into out (sym (c2 .before .kind .ensures) ∙ c2 .if1 .left) (sym (c .before .only-edge .ensures size out o) ∙ c .if2 .taken)
+    let else1 = c .before .before in
+    λ size into out i o. not-one-out _ into out (sym (else1 .before .kind .ensures) ∙ else1 .if1 .left) (sym (c .before .only-edge .ensures size out o) ∙ c .if2 .taken)
 
 only-edge-requires-2 : tie.Need-only-edge-requires-2
 only-edge-requires-2 c κs =
-    let c2 = c .before .before in
-    let c5 = c2 .before .before .before in
-    (c5 .pre .0, c5 .pre .2)
+    let else1 = c .before .before in
+    let start = else1 .before .before .before in
+    (start .pre .0, start .pre .2)
 
 returns-3 : tie.Need-returns-3
 returns-3 c =
-    let c2 = c .before .before in
-    let c3 = c2 .before in
+    let after-only-edge = c .before .before in
+    let else1 = after-only-edge .before in
     λ size into out i o.
     c .only-edge2 .ensures size into i
-    ∙ across _ into out (sym (c3 .before .kind .ensures) ∙ c3 .if1 .left) (λ z. c .before .if2 .left (c2 .only-edge .ensures size out o ∙ z))
+    ∙ across _ into out (sym (else1 .before .kind .ensures) ∙ else1 .if1 .left) (λ z. c .before .if2 .left (after-only-edge .only-edge .ensures size out o ∙ z))
 
 pub shares-with-spec : {M : Type 1} → statement M
 shares-with-spec =

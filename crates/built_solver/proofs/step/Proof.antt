@@ -21,10 +21,10 @@ lent c =
 
 abbrev start : tie.After-has-room → tie.Start
 start c =
-    let c3 = c .before .before .before in
-    let c6 = c3 .before .before .before in
-    let c9 = c6 .before .before .before in
-    c9 .before .before .before
+    let after-shared-slice-known5 = c .before .before .before in
+    let after-slice-known3 = after-shared-slice-known5 .before .before .before in
+    let after-shared-slice-known3 = after-slice-known3 .before .before .before in
+    after-shared-slice-known3 .before .before .before
 
 -- the places after the calls of `judge` and `update`, and where the file was accepted
 abbrev judged : tie.After-slice-known6 → tie.After-judge
@@ -32,15 +32,15 @@ judged c = c .before .before
 
 abbrev accepted : tie.After-update-arg5 → tie.After-enum-told
 accepted c =
-    let c3 = c .before .before .before in
-    c3 .before .before
+    let after-update-arg2 = c .before .before .before in
+    after-update-arg2 .before .before
 
 abbrev updated : tie.After-slice-known12 → tie.After-update
 updated c =
-    let c3 = c .before .before .before in
-    let c6 = c3 .before .before .before in
-    let c9 = c6 .before .before .before in
-    c9 .before .before .before
+    let after-zero-f64-arg = c .before .before .before in
+    let after-slice-known10 = after-zero-f64-arg .before .before .before in
+    let after-row-lower = after-slice-known10 .before .before .before in
+    after-row-lower .before .before .before
 
 enough-room : (c : tie.Else1) → stepRoom (lent (start (c .before))) (start (c .before) .args .work .now) ≡ true
 enough-room c =

@@ -10,15 +10,15 @@ use Rattle.listing_rows.proofs.list_row.Tie as tie
 
 abbrev start : tie.After-least → tie.Start
 start c =
-    let c3 = c .before .before .before in
-    let c6 = c3 .before .before .before in
-    c6 .before .before
+    let after-shared-slice-known4 = c .before .before .before in
+    let after-shared-slice-known = after-shared-slice-known4 .before .before .before in
+    after-shared-slice-known .before .before
 
 -- there is a store with these runs
 sub-t16 : tie.Need-sub-t16
 sub-t16 c =
-    let c3 = c .before .before .before in
-    let row = c3 .before .before .before in
+    let after-list-elements-arg = c .before .before .before in
+    let row = after-list-elements-arg .before .before .before in
     let first = row .before .before in
     let a = start (first .before .before) .args in
     let s : Store = record {
@@ -36,18 +36,18 @@ sub-t16 c =
 
 returns : tie.Need-returns
 returns c =
-    let c3 = c .before .before .before in
-    let c6 = c3 .before .before .before in
-    let c7 = c6 .before in
-    let c9 = c7 .before .before in
-    let c10 = c9 .before in
-    let c11 = c10 .before in
-    let a = start c11 .args in
-    let known = c11 .least in
-    let last = c10 .start-within in
-    let first = c9 .start-within2 in
-    let row = c7 .put-stored-row in
-    let listed = c3 .list-elements in (
+    let after-list-elements = c .before .before .before in
+    let after-out = after-list-elements .before .before .before in
+    let after-put-stored-row = after-out .before in
+    let after-start-within2 = after-put-stored-row .before .before in
+    let after-start-within = after-start-within2 .before in
+    let after-least = after-start-within .before in
+    let a = start after-least .args in
+    let known = after-least .least in
+    let last = after-start-within .start-within in
+    let first = after-start-within2 .start-within2 in
+    let row = after-put-stored-row .put-stored-row in
+    let listed = after-list-elements .list-elements in (
       λ s el eu ex ec es eh.
           let e = row-bytes s (a .elements .now) (a .columns .now) (a .row-starts .now) (a .row) (known .result) (last .result) (first .result) (known .ensures .0) (last .ensures .0) (first .ensures .0) ex ec es in
           omega (arith, row .ensures .0 s el eu eh .next, listed .ensures .0),

@@ -31,12 +31,12 @@ loop-holds c = (search needs, search needs, search needs, search needs, λ s el 
 
 loop-again : tie.Need-loop-again Inv-loop μ-loop
 loop-again c =
-    let c3 = c .before .before .before in
-    let c5 = c3 .before .before in
-    let c8 = c5 .before .before .before in
-    let row = c3 .list-row in
-    let spare = c5 .spare in
-    let loop = c8 .loop in (
+    let after-list-row = c .before .before .before in
+    let after-spare = after-list-row .before .before in
+    let at-loop = after-spare .before .before .before in
+    let row = after-list-row .list-row in
+    let spare = after-spare .spare in
+    let loop = at-loop .loop in (
       search needs,
       search needs,
       search needs,
@@ -48,12 +48,12 @@ loop-again c =
 returns : tie.Need-returns Inv-loop μ-loop
 returns c =
     let loop = c .before .loop in
-    let c2 = c .before .before in
-    let c5 = c2 .before .before .before in
-    let c8 = c5 .before .before .before in
-    let start = c8 .before .before in
+    let after-listed-rows = c .before .before in
+    let after-shared-slice-known4 = after-listed-rows .before .before .before in
+    let after-shared-slice-known = after-shared-slice-known4 .before .before .before in
+    let start = after-shared-slice-known .before .before in
     let a = start .args in
-    let rows = c2 .listed-rows in
+    let rows = after-listed-rows .listed-rows in
     let inv = loop .inv in
     let e : loop .i ≡ rows .result = omega (arith, inv .2, c .loop-test .left) in (
       λ s el eu ex ec es eh.

@@ -5,13 +5,13 @@ use Rattle.listing_stored.proofs.put_counts.Tie as tie
 
 returns : tie.Need-returns
 returns c =
-    let c2 = c .before .before in
-    let c4 = c2 .before .before in
-    let c5 = c4 .before in
-    let c6 = c5 .before in
-    let c7 = c6 .before in
-    let c8 = c7 .before in
-    (λ s e. rw (e, ← (c8 .word .ensures .0), ← (c7 .word2 .ensures .0), ← (c6 .word3 .ensures .0), ← (c5 .word4 .ensures .0), ← (c4 .word5 .ensures .0)) (c2 .put-programme .ensures .put), c2 .put-programme .ensures .end)
+    let after-put-programme = c .before .before in
+    let after-word5 = after-put-programme .before .before in
+    let after-word4 = after-word5 .before in
+    let after-word3 = after-word4 .before in
+    let after-word2 = after-word3 .before in
+    let after-word = after-word2 .before in
+    (λ s e. rw (e, ← (after-word .word .ensures .0), ← (after-word2 .word2 .ensures .0), ← (after-word3 .word3 .ensures .0), ← (after-word4 .word4 .ensures .0), ← (after-word5 .word5 .ensures .0)) (after-put-programme .put-programme .ensures .put), after-put-programme .put-programme .ensures .end)
 
 pub put-counts-spec : {M : Type 1} → statement M
 put-counts-spec =

@@ -15,20 +15,20 @@ returns c =
 returns-2 : tie.Need-returns-2
 unfolding networkAt
 returns-2 c =
-    let c1 = c .before in
-    let c3 = c1 .before .before in
-    let c4 = c3 .before in
-    let c7 = c4 .before .before .before in
-    link-refused (networkOf (c7 .args .s .now) (c7 .args .c)) (λ q. c4 .if1 .left (sym (edges-of (c7 .args .s .now) (c7 .args .c)) ∙ q)) _ _ (sym (c3 .check-links .ensures) ∙ ap foundBy (c1 .r .given .1))
+    let after-r = c .before in
+    let after-check-links = after-r .before .before in
+    let else1 = after-check-links .before in
+    let start = else1 .before .before .before in
+    link-refused (networkOf (start .args .s .now) (start .args .c)) (λ q. else1 .if1 .left (sym (edges-of (start .args .s .now) (start .args .c)) ∙ q)) _ _ (sym (after-check-links .check-links .ensures) ∙ ap foundBy (after-r .r .given .1))
 
 returns-3 : tie.Need-returns-3
 unfolding networkAt
 returns-3 c =
-    let c1 = c .before in
-    let c3 = c1 .before .before in
-    let c4 = c3 .before in
-    let c7 = c4 .before .before .before in
-    links-pass (networkOf (c7 .args .s .now) (c7 .args .c)) (λ q. c4 .if1 .left (sym (edges-of (c7 .args .s .now) (c7 .args .c)) ∙ q)) (c .check-constants .result) (sym (c3 .check-links .ensures) ∙ ap foundBy (c1 .enum-told .given .1)) (sym (c .check-constants .ensures))
+    let after-enum-told = c .before in
+    let after-check-links = after-enum-told .before .before in
+    let else1 = after-check-links .before in
+    let start = else1 .before .before .before in
+    links-pass (networkOf (start .args .s .now) (start .args .c)) (λ q. else1 .if1 .left (sym (edges-of (start .args .s .now) (start .args .c)) ∙ q)) (c .check-constants .result) (sym (after-check-links .check-links .ensures) ∙ ap foundBy (after-enum-told .enum-told .given .1)) (sym (c .check-constants .ensures))
 
 pub check-network-spec : {M : Type 1} → statement M
 check-network-spec =

@@ -10,14 +10,14 @@ is-constant-requires c κs =
 
 max-requires : tie.Need-max-requires
 max-requires c κs =
-    let c3 = c .before .before .before in
-    (c3 .pre .within, c3 .pre .max)
+    let start = c .before .before .before in
+    (start .pre .within, start .pre .max)
 
 min-requires : tie.Need-min-requires
 min-requires c κs =
-    let c2 = c .before .before in
-    let c4 = c2 .before .before in
-    (c4 .pre .within, c4 .pre .min)
+    let after-is-constant = c .before .before in
+    let start = after-is-constant .before .before in
+    (start .pre .within, start .pre .min)
 
 returns : tie.Need-returns
 returns c =

@@ -11,9 +11,9 @@ is-constant-requires c κs =
 
 max-requires : tie.Need-max-requires
 max-requires c κs =
-    let c3 = c .before .before .before in
-    let c6 = c3 .before .before .before in
-    (c6 .pre .1 .within, c6 .pre .1 .max)
+    let after-is-constant = c .before .before .before in
+    let start = after-is-constant .before .before .before in
+    (start .pre .1 .within, start .pre .1 .max)
 
 float-from-bits-if3 : tie.Need-float-from-bits-if3
 unfolding nanBits
@@ -23,19 +23,19 @@ float-from-bits-if3 c =
 returns : tie.Need-returns
 unfolding ofBits
 returns c =
-    let c1 = c .before in
-    let c2 = c1 .before in
-    let c4 = c2 .before .before in
-    let c5 = c4 .before in
-    let c6 = c5 .before in
-    rw (sym (c5 .is-constant .ensures) ∙ c4 .if1 .taken, ← (c1 .max .ensures), c .if3 .taken, ← (c6 .wide16 .ensures .0), c2 .if2 .taken)
+    let after-max = c .before in
+    let then2 = after-max .before in
+    let then1 = then2 .before .before in
+    let after-is-constant = then1 .before in
+    let after-wide16 = after-is-constant .before in
+    rw (sym (after-is-constant .is-constant .ensures) ∙ then1 .if1 .taken, ← (after-max .max .ensures), c .if3 .taken, ← (after-wide16 .wide16 .ensures .0), then2 .if2 .taken)
 
 min-requires : tie.Need-min-requires
 min-requires c κs =
-    let c3 = c .before .before .before in
-    let c6 = c3 .before .before .before in
-    let c8 = c6 .before .before in
-    (c8 .pre .1 .within, c8 .pre .1 .min)
+    let after-if22 = c .before .before .before in
+    let after-wide16 = after-if22 .before .before .before in
+    let start = after-wide16 .before .before in
+    (start .pre .1 .within, start .pre .1 .min)
 
 float-from-bits-result : tie.Need-float-from-bits-result
 unfolding nanBits
@@ -45,18 +45,18 @@ float-from-bits-result c =
 returns-2 : tie.Need-returns-2
 unfolding ofBits
 returns-2 c =
-    let c1 = c .before in
-    let c2 = c1 .before in
-    let c3 = c2 .before in
-    let c5 = c3 .before .before in
-    let c6 = c5 .before in
-    let c7 = c6 .before in
-    rw (sym (c6 .is-constant .ensures) ∙ c5 .if1 .taken, ← (c2 .max .ensures), c1 .if3 .left, ← (c .min .ensures), ← (c7 .wide16 .ensures .0), c3 .if2 .taken)
+    let else3 = c .before in
+    let after-max = else3 .before in
+    let then2 = after-max .before in
+    let then1 = then2 .before .before in
+    let after-is-constant = then1 .before in
+    let after-wide16 = after-is-constant .before in
+    rw (sym (after-is-constant .is-constant .ensures) ∙ then1 .if1 .taken, ← (after-max .max .ensures), else3 .if3 .left, ← (c .min .ensures), ← (after-wide16 .wide16 .ensures .0), then2 .if2 .taken)
 
 returns-3 : tie.Need-returns-3
 returns-3 c =
-    let c3 = c .before .before .before in
-    rw (sym (c3 .is-constant .ensures) ∙ c .before .before .if1 .taken, ← (c3 .before .wide16 .ensures .0), c .if2 .left)
+    let after-is-constant = c .before .before .before in
+    rw (sym (after-is-constant .is-constant .ensures) ∙ c .before .before .if1 .taken, ← (after-is-constant .before .wide16 .ensures .0), c .if2 .left)
 
 returns-4 : tie.Need-returns-4
 returns-4 c =

@@ -6,23 +6,23 @@ use Rattle.network_checks.proofs.is_unconnected.Tie as tie
 
 returns : tie.Need-returns
 returns c =
-    let c2 = c .before .before in
-    let c4 = c2 .before .before in
-    let c5 = c4 .before in
-    rw (← (c5 .kind .ensures), eq-eqb _ _ (c4 .if1 .taken), ← (c5 .before .wide16 .ensures .0), c2 .if2 .taken, c .if3 .taken)
+    let then2 = c .before .before in
+    let then1 = then2 .before .before in
+    let after-kind = then1 .before in
+    rw (← (after-kind .kind .ensures), eq-eqb _ _ (then1 .if1 .taken), ← (after-kind .before .wide16 .ensures .0), then2 .if2 .taken, c .if3 .taken)
 
 returns-2 : tie.Need-returns-2
 returns-2 c =
-    let c2 = c .before .before in
-    let c4 = c2 .before .before in
-    let c5 = c4 .before in
-    rw (← (c5 .kind .ensures), eq-eqb _ _ (c4 .if1 .taken), ← (c5 .before .wide16 .ensures .0), c2 .if2 .taken, c .if3 .left)
+    let then2 = c .before .before in
+    let then1 = then2 .before .before in
+    let after-kind = then1 .before in
+    rw (← (after-kind .kind .ensures), eq-eqb _ _ (then1 .if1 .taken), ← (after-kind .before .wide16 .ensures .0), then2 .if2 .taken, c .if3 .left)
 
 returns-3 : tie.Need-returns-3
 returns-3 c =
-    let c2 = c .before .before in
-    let c3 = c2 .before in
-    rw (← (c3 .kind .ensures), eq-eqb _ _ (c2 .if1 .taken), ← (c3 .before .wide16 .ensures .0), c .if2 .left)
+    let then1 = c .before .before in
+    let after-kind = then1 .before in
+    rw (← (after-kind .kind .ensures), eq-eqb _ _ (then1 .if1 .taken), ← (after-kind .before .wide16 .ensures .0), c .if2 .left)
 
 returns-4 : tie.Need-returns-4
 returns-4 c =

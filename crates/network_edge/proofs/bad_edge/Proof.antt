@@ -8,30 +8,30 @@ use Rattle.network_edge.proofs.bad_edge.Tie as tie
 returns : tie.Need-returns
 unfolding badEdgeAt
 returns c =
-    let c2 = c .before .before in
-    rw (← (c2 .wide162 .ensures .0), eq-eqb _ _ (c .if1 .taken))
+    let after-wide162 = c .before .before in
+    rw (← (after-wide162 .wide162 .ensures .0), eq-eqb _ _ (c .if1 .taken))
 
 returns-2 : tie.Need-returns-2
 unfolding badEdgeAt
 returns-2 c =
-    let c2 = c .before .before in
-    let c4 = c2 .before .before in
-    rw (← (c4 .before .wide16 .ensures .0), ← (c4 .wide162 .ensures .0), ne-eqb _ _ (c2 .if1 .left), eq-eqb _ _ (c .if2 .taken))
+    let else1 = c .before .before in
+    let after-wide162 = else1 .before .before in
+    rw (← (after-wide162 .before .wide16 .ensures .0), ← (after-wide162 .wide162 .ensures .0), ne-eqb _ _ (else1 .if1 .left), eq-eqb _ _ (c .if2 .taken))
 
 returns-3 : tie.Need-returns-3
 unfolding badEdgeAt
 returns-3 c =
-    let c3 = c .before .before .before in
-    let c5 = c3 .before .before in
-    rw (← (c5 .before .wide16 .ensures .0), ← (c5 .wide162 .ensures .0), ne-eqb _ _ (c3 .if1 .left), ne-eqb _ _ (c .before .if2 .left), eq-eqb _ _ (c .if3 .taken))
+    let else1 = c .before .before .before in
+    let after-wide162 = else1 .before .before in
+    rw (← (after-wide162 .before .wide16 .ensures .0), ← (after-wide162 .wide162 .ensures .0), ne-eqb _ _ (else1 .if1 .left), ne-eqb _ _ (c .before .if2 .left), eq-eqb _ _ (c .if3 .taken))
 
 returns-4 : tie.Need-returns-4
 unfolding badEdgeAt
 returns-4 c =
-    let c2 = c .before .before in
-    let c4 = c2 .before .before in
-    let c6 = c4 .before .before in
-    rw (← (c6 .before .wide16 .ensures .0), ← (c6 .wide162 .ensures .0), ne-eqb _ _ (c4 .if1 .left), ne-eqb _ _ (c2 .if2 .left), ne-eqb _ _ (c .before .if3 .left), c6 .before .wide16 .ensures .0, c6 .wide162 .ensures .0) (c .pair-among .ensures)
+    let else2 = c .before .before in
+    let else1 = else2 .before .before in
+    let after-wide162 = else1 .before .before in
+    rw (← (after-wide162 .before .wide16 .ensures .0), ← (after-wide162 .wide162 .ensures .0), ne-eqb _ _ (else1 .if1 .left), ne-eqb _ _ (else2 .if2 .left), ne-eqb _ _ (c .before .if3 .left), after-wide162 .before .wide16 .ensures .0, after-wide162 .wide162 .ensures .0) (c .pair-among .ensures)
 
 pub bad-edge-spec : {M : Type 1} → statement M
 bad-edge-spec =

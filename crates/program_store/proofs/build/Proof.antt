@@ -8,10 +8,10 @@ use Rattle.program_store.proofs.build.Tie as tie
 returns : tie.Need-returns
 unfolding zero64 ofBits
 returns c =
-    let c3 = c .before .before .before in
-    let c6 = c3 .before .before .before in
-    let c9 = c6 .before .before .before in
-    let after = c9 .before .before .build .ensures in
+    let after-row-starts3 = c .before .before .before in
+    let after-row-upper3 = after-row-starts3 .before .before .before in
+    let after-col-upper3 = after-row-upper3 .before .before .before in
+    let after = after-col-upper3 .before .before .build .ensures in
     record { answer = after .answer; store = after .store }
 
 pub build-spec : {M : Type 1} → statement M

@@ -8,8 +8,8 @@ use Rattle.program_store.proofs.step.Tie as tie
 returns : tie.Need-returns
 unfolding zero64 ofBits
 returns c =
-    let c3 = c .before .before .before in
-    let after = c3 .before .before .step .ensures in
+    let after-row-lower3 = c .before .before .before in
+    let after = after-row-lower3 .before .before .step .ensures in
     record { answer = after .answer; store = after .store }
 
 pub step-spec : {M : Type 1} → statement M

@@ -15,21 +15,21 @@ refusal-of-requires c κs = tt
 -- the places after the calls of `build` and `sentinel`
 abbrev built : tie.After-refusal-of → tie.After-build
 built c =
-    let c3 = c .before .before .before in
-    let c6 = c3 .before .before .before in
-    let c9 = c6 .before .before .before in
-    let c12 = c9 .before .before .before in
-    let c15 = c12 .before .before .before in
-    let c18 = c15 .before .before .before in
-    let c21 = c18 .before .before .before in
-    c21 .before .before
+    let after-slice-known21 = c .before .before .before in
+    let after-shape = after-slice-known21 .before .before .before in
+    let after-slice-known18 = after-shape .before .before .before in
+    let after-elements = after-slice-known18 .before .before .before in
+    let after-slice-known15 = after-elements .before .before .before in
+    let after-col-obj-coef = after-slice-known15 .before .before .before in
+    let after-slice-known12 = after-col-obj-coef .before .before .before in
+    after-slice-known12 .before .before
 
 abbrev picked : tie.After-build → tie.After-sentinel
 picked c =
-    let c3 = c .before .before .before in
-    let c6 = c3 .before .before .before in
-    let c9 = c6 .before .before .before in
-    c9 .before .before .before
+    let after-build-arg9 = c .before .before .before in
+    let after-build-arg6 = after-build-arg9 .before .before .before in
+    let after-build-arg3 = after-build-arg6 .before .before .before in
+    after-build-arg3 .before .before .before
 
 same-length : tie.Need-same-length
 same-length c = built c .build .kept .1 .1 .0

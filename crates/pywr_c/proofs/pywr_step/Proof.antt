@@ -12,10 +12,10 @@ refusal-of-requires c κs = tt
 -- the place after the call of `step`
 abbrev stepped : tie.After-refusal-of → tie.After-step
 stepped c =
-    let c3 = c .before .before .before in
-    let c6 = c3 .before .before .before in
-    let c9 = c6 .before .before .before in
-    c9 .before .before
+    let after-slice-known9 = c .before .before .before in
+    let after-row-upper = after-slice-known9 .before .before .before in
+    let after-slice-known6 = after-row-upper .before .before .before in
+    after-slice-known6 .before .before
 
 same-length : tie.Need-same-length
 same-length c = stepped c .step .kept .1 .1 .1 .0

@@ -22,17 +22,17 @@ loop-holds c =
 
 slice-write-work-2 : tie.Need-slice-write-work-2 Inv-loop μ-loop
 slice-write-work-2 c =
-    let c3 = c .before .before .before in
-    omega (arith, length-set (c3 .loop .work) (256 + c3 .loop .i) (c .before .f64-at .result), c3 .loop .inv .long)
+    let at-loop = c .before .before .before in
+    omega (arith, length-set (at-loop .loop .work) (256 + at-loop .loop .i) (c .before .f64-at .result), at-loop .loop .inv .long)
 
 loop-again : tie.Need-loop-again Inv-loop μ-loop
 unfolding aggregateNumbered aggregateStepAt
 loop-again c =
-    let c2 = c .before .before in
-    let c3 = c2 .before in
-    let c6 = c3 .before .before .before in
-    writing-more _ (record { lower = c .before .f64-at .result; upper = c .f64-at2 .result }) refl (search needs) (search needs) (c2 .loop-test .taken)
-    (rw (c .before .f64-at .ensures, c .f64-at2 .ensures, c6 .wide .ensures .0)) (c3 .loop .inv)
+    let in-loop = c .before .before in
+    let at-loop = in-loop .before in
+    let after-wide = at-loop .before .before .before in
+    writing-more _ (record { lower = c .before .f64-at .result; upper = c .f64-at2 .result }) refl (search needs) (search needs) (in-loop .loop-test .taken)
+    (rw (c .before .f64-at .ensures, c .f64-at2 .ensures, after-wide .wide .ensures .0)) (at-loop .loop .inv)
 
 same-length : tie.Need-same-length Inv-loop μ-loop
 same-length c =

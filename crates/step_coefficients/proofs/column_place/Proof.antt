@@ -29,21 +29,21 @@ loop-holds c =
 
 sub-k-2 : tie.Need-sub-k-2 Inv-loop μ-loop
 sub-k-2 c =
-    let c3 = c .before .before .before in
-    let a = c3 .before .args in
-    let h = in-front (a .column .0) (a .columns .now) (a .start) (c3 .loop .k) (omega arith) (c3 .loop .inv .2) (c .if1 .taken) in search needs
+    let at-loop = c .before .before .before in
+    let a = at-loop .before .args in
+    let h = in-front (a .column .0) (a .columns .now) (a .start) (at-loop .loop .k) (omega arith) (at-loop .loop .inv .2) (c .if1 .taken) in search needs
 
 loop-less : tie.Need-loop-less Inv-loop μ-loop
 loop-less c =
-    let c3 = c .before .before .before in
-    let a = c3 .before .args in
-    let h = in-front (a .column .0) (a .columns .now) (a .start) (c3 .loop .k) (omega arith) (c3 .loop .inv .2) (c .if1 .taken) in search needs
+    let at-loop = c .before .before .before in
+    let a = at-loop .before .args in
+    let h = in-front (a .column .0) (a .columns .now) (a .start) (at-loop .loop .k) (omega arith) (at-loop .loop .inv .2) (c .if1 .taken) in search needs
 
 loop-again : tie.Need-loop-again Inv-loop μ-loop
 loop-again c =
-    let c3 = c .before .before .before in
-    let a = c3 .before .args in
-    let h = in-front (a .column .0) (a .columns .now) (a .start) (c3 .loop .k) (omega arith) (c3 .loop .inv .2) (c .if1 .taken) in
+    let at-loop = c .before .before .before in
+    let a = at-loop .before .args in
+    let h = in-front (a .column .0) (a .columns .now) (a .start) (at-loop .loop .k) (omega arith) (at-loop .loop .inv .2) (c .if1 .taken) in
     (omega (arith, h .0), omega arith, h .1)
 
 returns : tie.Need-returns Inv-loop μ-loop

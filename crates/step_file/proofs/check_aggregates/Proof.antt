@@ -22,19 +22,19 @@ loop-holds c =
 
 returns : tie.Need-returns Inv-loop μ-loop
 returns c =
-    let c3 = c .before .before .before in
-    let c4 = c3 .before in
-    let c5 = c4 .before in
-    let c7 = c5 .before .before in
-    sym (c5 .loop .inv .2 ∙ records-refused (checkAggregate (c7 .args .file .now)) 18 _ _ _ _ _ (c4 .loop-test .taken) (sym (c3 .check-aggregate .ensures) ∙ c .before .aggregate .given .1))
+    let after-check-aggregate = c .before .before .before in
+    let in-loop = after-check-aggregate .before in
+    let at-loop = in-loop .before in
+    let start = at-loop .before .before in
+    sym (at-loop .loop .inv .2 ∙ records-refused (checkAggregate (start .args .file .now)) 18 _ _ _ _ _ (in-loop .loop-test .taken) (sym (after-check-aggregate .check-aggregate .ensures) ∙ c .before .aggregate .given .1))
 
 loop-again : tie.Need-loop-again Inv-loop μ-loop
 loop-again c =
-    let c2 = c .before .before in
-    let c3 = c2 .before in
-    let c4 = c3 .before in
-    let c6 = c4 .before .before in
-    (search needs, search needs, c4 .loop .inv .2 ∙ records-more (checkAggregate (c6 .args .file .now)) 18 _ _ _ (c3 .loop-test .taken) (sym (c2 .check-aggregate .ensures) ∙ c .enum-told .given .1))
+    let after-check-aggregate = c .before .before in
+    let in-loop = after-check-aggregate .before in
+    let at-loop = in-loop .before in
+    let start = at-loop .before .before in
+    (search needs, search needs, at-loop .loop .inv .2 ∙ records-more (checkAggregate (start .args .file .now)) 18 _ _ _ (in-loop .loop-test .taken) (sym (after-check-aggregate .check-aggregate .ensures) ∙ c .enum-told .given .1))
 
 returns-2 : tie.Need-returns-2 Inv-loop μ-loop
 returns-2 c =

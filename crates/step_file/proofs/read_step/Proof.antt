@@ -9,97 +9,97 @@ use Rattle.step_file.proofs.read_step.Tie as tie
 returns : tie.Need-returns
 unfolding checkFile answerThen
 returns c =
-    let c3 = c .before .before .before in
-    let c4 = c3 .before in
-    let c6 = c4 .before .before in
-    let c8 = c6 .before .before in
-    λ s e. rw (step-answer s _ _ _ _ _ e (c8 .wide .ensures .0) (c6 .wide2 .ensures .0) (c4 .wide3 .ensures .0), ← (c3 .check-date .ensures), c .before .date .given .1)
+    let after-check-date = c .before .before .before in
+    let after-wide3 = after-check-date .before in
+    let after-wide2 = after-wide3 .before .before in
+    let after-wide = after-wide2 .before .before in
+    λ s e. rw (step-answer s _ _ _ _ _ e (after-wide .wide .ensures .0) (after-wide2 .wide2 .ensures .0) (after-wide3 .wide3 .ensures .0), ← (after-check-date .check-date .ensures), c .before .date .given .1)
 
 returns-2 : tie.Need-returns-2
 unfolding checkFile answerThen
 returns-2 c =
-    let c3 = c .before .before .before in
-    let c4 = c3 .before in
-    let c6 = c4 .before .before in
-    let c7 = c6 .before in
-    let c9 = c7 .before .before in
-    let c11 = c9 .before .before in
+    let after-check-nodes = c .before .before .before in
+    let after-enum-told = after-check-nodes .before in
+    let after-check-date = after-enum-told .before .before in
+    let after-wide3 = after-check-date .before in
+    let after-wide2 = after-wide3 .before .before in
+    let after-wide = after-wide2 .before .before in
     λ s e. rw (
-      step-answer s _ _ _ _ _ e (c11 .wide .ensures .0) (c9 .wide2 .ensures .0) (c7 .wide3 .ensures .0),
-      ← (c6 .check-date .ensures),
-      c4 .enum-told .given .1,
-      ← (c3 .check-nodes .ensures s e),
+      step-answer s _ _ _ _ _ e (after-wide .wide .ensures .0) (after-wide2 .wide2 .ensures .0) (after-wide3 .wide3 .ensures .0),
+      ← (after-check-date .check-date .ensures),
+      after-enum-told .enum-told .given .1,
+      ← (after-check-nodes .check-nodes .ensures s e),
       c .before .nodes .given .1,
     )
 
 returns-3 : tie.Need-returns-3
 unfolding checkFile answerThen
 returns-3 c =
-    let c3 = c .before .before .before in
-    let c4 = c3 .before in
-    let c6 = c4 .before .before in
-    let c7 = c6 .before in
-    let c9 = c7 .before .before in
-    let c10 = c9 .before in
-    let c12 = c10 .before .before in
-    let c14 = c12 .before .before in
+    let after-check-aggregates = c .before .before .before in
+    let after-enum-told2 = after-check-aggregates .before in
+    let after-check-nodes = after-enum-told2 .before .before in
+    let after-enum-told = after-check-nodes .before in
+    let after-check-date = after-enum-told .before .before in
+    let after-wide3 = after-check-date .before in
+    let after-wide2 = after-wide3 .before .before in
+    let after-wide = after-wide2 .before .before in
     λ s e. rw (
-      step-answer s _ _ _ _ _ e (c14 .wide .ensures .0) (c12 .wide2 .ensures .0) (c10 .wide3 .ensures .0),
-      ← (c9 .check-date .ensures),
-      c7 .enum-told .given .1,
-      ← (c6 .check-nodes .ensures s e),
-      c4 .enum-told2 .given .1,
-      ← (c3 .check-aggregates .ensures),
+      step-answer s _ _ _ _ _ e (after-wide .wide .ensures .0) (after-wide2 .wide2 .ensures .0) (after-wide3 .wide3 .ensures .0),
+      ← (after-check-date .check-date .ensures),
+      after-enum-told .enum-told .given .1,
+      ← (after-check-nodes .check-nodes .ensures s e),
+      after-enum-told2 .enum-told2 .given .1,
+      ← (after-check-aggregates .check-aggregates .ensures),
       c .before .intervals .given .1,
     )
 
 returns-4 : tie.Need-returns-4
 unfolding checkFile answerThen
 returns-4 c =
-    let c3 = c .before .before .before in
-    let c4 = c3 .before in
-    let c6 = c4 .before .before in
-    let c7 = c6 .before in
-    let c9 = c7 .before .before in
-    let c10 = c9 .before in
-    let c12 = c10 .before .before in
-    let c13 = c12 .before in
-    let c15 = c13 .before .before in
-    let c17 = c15 .before .before in
+    let after-check-virtual-storages = c .before .before .before in
+    let after-enum-told3 = after-check-virtual-storages .before in
+    let after-check-aggregates = after-enum-told3 .before .before in
+    let after-enum-told2 = after-check-aggregates .before in
+    let after-check-nodes = after-enum-told2 .before .before in
+    let after-enum-told = after-check-nodes .before in
+    let after-check-date = after-enum-told .before .before in
+    let after-wide3 = after-check-date .before in
+    let after-wide2 = after-wide3 .before .before in
+    let after-wide = after-wide2 .before .before in
     λ s e. rw (
-      step-answer s _ _ _ _ _ e (c17 .wide .ensures .0) (c15 .wide2 .ensures .0) (c13 .wide3 .ensures .0),
-      ← (c12 .check-date .ensures),
-      c10 .enum-told .given .1,
-      ← (c9 .check-nodes .ensures s e),
-      c7 .enum-told2 .given .1,
-      ← (c6 .check-aggregates .ensures),
-      c4 .enum-told3 .given .1,
-      ← (c3 .check-virtual-storages .ensures),
+      step-answer s _ _ _ _ _ e (after-wide .wide .ensures .0) (after-wide2 .wide2 .ensures .0) (after-wide3 .wide3 .ensures .0),
+      ← (after-check-date .check-date .ensures),
+      after-enum-told .enum-told .given .1,
+      ← (after-check-nodes .check-nodes .ensures s e),
+      after-enum-told2 .enum-told2 .given .1,
+      ← (after-check-aggregates .check-aggregates .ensures),
+      after-enum-told3 .enum-told3 .given .1,
+      ← (after-check-virtual-storages .check-virtual-storages .ensures),
       c .before .volumes .given .1,
     )
 
 returns-5 : tie.Need-returns-5
 unfolding checkFile answerThen
 returns-5 c =
-    let c3 = c .before .before .before in
-    let c4 = c3 .before in
-    let c6 = c4 .before .before in
-    let c7 = c6 .before in
-    let c9 = c7 .before .before in
-    let c10 = c9 .before in
-    let c12 = c10 .before .before in
-    let c13 = c12 .before in
-    let c15 = c13 .before .before in
-    let c17 = c15 .before .before in
+    let after-check-virtual-storages = c .before .before .before in
+    let after-enum-told3 = after-check-virtual-storages .before in
+    let after-check-aggregates = after-enum-told3 .before .before in
+    let after-enum-told2 = after-check-aggregates .before in
+    let after-check-nodes = after-enum-told2 .before .before in
+    let after-enum-told = after-check-nodes .before in
+    let after-check-date = after-enum-told .before .before in
+    let after-wide3 = after-check-date .before in
+    let after-wide2 = after-wide3 .before .before in
+    let after-wide = after-wide2 .before .before in
     λ s e. rw (
-      step-answer s _ _ _ _ _ e (c17 .wide .ensures .0) (c15 .wide2 .ensures .0) (c13 .wide3 .ensures .0),
-      ← (c12 .check-date .ensures),
-      c10 .enum-told .given .1,
-      ← (c9 .check-nodes .ensures s e),
-      c7 .enum-told2 .given .1,
-      ← (c6 .check-aggregates .ensures),
-      c4 .enum-told3 .given .1,
-      ← (c3 .check-virtual-storages .ensures),
+      step-answer s _ _ _ _ _ e (after-wide .wide .ensures .0) (after-wide2 .wide2 .ensures .0) (after-wide3 .wide3 .ensures .0),
+      ← (after-check-date .check-date .ensures),
+      after-enum-told .enum-told .given .1,
+      ← (after-check-nodes .check-nodes .ensures s e),
+      after-enum-told2 .enum-told2 .given .1,
+      ← (after-check-aggregates .check-aggregates .ensures),
+      after-enum-told3 .enum-told3 .given .1,
+      ← (after-check-virtual-storages .check-virtual-storages .ensures),
       c .before .enum-told4 .given .1,
     ) (c .check-end .ensures)
 

@@ -16,30 +16,30 @@ returns c =
 returns-2 : tie.Need-returns-2
 unfolding nodeNumbered nodeStepAt boundsRead nodeInterval
 returns-2 c =
-    let c2 = c .before .before in
-    let c3 = c2 .before in
-    let c5 = c3 .before .before in
-    let c6 = c5 .before in
-    let c7 = c6 .before in
-    let c9 = c7 .before .before in
+    let after-f64-at3 = c .before .before in
+    let then2 = after-f64-at3 .before in
+    let after-f64-at2 = then2 .before .before in
+    let after-f64-at = after-f64-at2 .before in
+    let else1 = after-f64-at .before in
+    let after-wide = else1 .before .before in
     rw (
-      ← (c9 .wide .ensures .0),
-      ne-eqb _ _ (c7 .if1 .left),
-      eq-eqb _ _ (c3 .if2 .taken),
-      ← (c6 .f64-at .ensures),
-      ← (c5 .f64-at2 .ensures),
-      ← (c2 .f64-at3 .ensures),
+      ← (after-wide .wide .ensures .0),
+      ne-eqb _ _ (else1 .if1 .left),
+      eq-eqb _ _ (then2 .if2 .taken),
+      ← (after-f64-at .f64-at .ensures),
+      ← (after-f64-at2 .f64-at2 .ensures),
+      ← (after-f64-at3 .f64-at3 .ensures),
       ← (c .before .storage-bounds .ensures),
     ) (c .interval-of .ensures)
 
 returns-3 : tie.Need-returns-3
 unfolding nodeNumbered nodeStepAt boundsRead nodeInterval
 returns-3 c =
-    let c3 = c .before .before .before in
-    let c4 = c3 .before in
-    let c5 = c4 .before in
-    let c7 = c5 .before .before in
-    rw (← (c7 .wide .ensures .0), ne-eqb _ _ (c5 .if1 .left), ne-eqb _ _ (c .before .if2 .left), ← (c4 .f64-at .ensures), ← (c3 .f64-at2 .ensures)) (c .interval-of2 .ensures)
+    let after-f64-at2 = c .before .before .before in
+    let after-f64-at = after-f64-at2 .before in
+    let else1 = after-f64-at .before in
+    let after-wide = else1 .before .before in
+    rw (← (after-wide .wide .ensures .0), ne-eqb _ _ (else1 .if1 .left), ne-eqb _ _ (c .before .if2 .left), ← (after-f64-at .f64-at .ensures), ← (after-f64-at2 .f64-at2 .ensures)) (c .interval-of2 .ensures)
 
 pub node-interval-spec : {M : Type 1} → statement M
 node-interval-spec =

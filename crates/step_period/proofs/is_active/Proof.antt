@@ -13,18 +13,18 @@ returns c =
 returns-2 : tie.Need-returns-2
 unfolding isActive
 returns-2 c =
-    let c2 = c .before .before in
-    let c3 = c2 .before in
-    let c4 = c3 .before in
-    rw (ne-eqb _ _ (c4 .if1 .left), ← (c3 .up-to .ensures), ← (c2 .up-to2 .ensures), ← (c .before .up-to3 .ensures), c .if2 .taken)
+    let after-up-to2 = c .before .before in
+    let after-up-to = after-up-to2 .before in
+    let else1 = after-up-to .before in
+    rw (ne-eqb _ _ (else1 .if1 .left), ← (after-up-to .up-to .ensures), ← (after-up-to2 .up-to2 .ensures), ← (c .before .up-to3 .ensures), c .if2 .taken)
 
 returns-3 : tie.Need-returns-3
 unfolding isActive
 returns-3 c =
-    let c2 = c .before .before in
-    let c3 = c2 .before in
-    let c4 = c3 .before in
-    rw (ne-eqb _ _ (c4 .if1 .left), ← (c3 .up-to .ensures), ← (c2 .up-to2 .ensures), ← (c .before .up-to3 .ensures), c .if2 .left)
+    let after-up-to2 = c .before .before in
+    let after-up-to = after-up-to2 .before in
+    let else1 = after-up-to .before in
+    rw (ne-eqb _ _ (else1 .if1 .left), ← (after-up-to .up-to .ensures), ← (after-up-to2 .up-to2 .ensures), ← (c .before .up-to3 .ensures), c .if2 .left)
 
 pub is-active-spec : {M : Type 1} → statement M
 is-active-spec =

@@ -19,20 +19,20 @@ returns c =
 returns-2 : tie.Need-returns-2
 unfolding checkDate answerThen
 returns-2 c =
-    let c3 = c .before .before .before in
-    let c4 = c3 .before in
-    let c6 = c4 .before .before in
-    rw (← (c6 .check-mark .ensures), c4 .enum-told .given .1, ← (c3 .check-byte .ensures), c .before .month .given .1)
+    let after-check-byte = c .before .before .before in
+    let after-enum-told = after-check-byte .before in
+    let after-check-mark = after-enum-told .before .before in
+    rw (← (after-check-mark .check-mark .ensures), after-enum-told .enum-told .given .1, ← (after-check-byte .check-byte .ensures), c .before .month .given .1)
 
 returns-3 : tie.Need-returns-3
 unfolding checkDate answerThen
 returns-3 c =
-    let c2 = c .before .before in
-    let c4 = c2 .before .before in
-    let c6 = c4 .before .before in
-    let c7 = c6 .before in
-    let c9 = c7 .before .before in
-    rw (← (c9 .check-mark .ensures), c7 .enum-told .given .1, ← (c6 .check-byte .ensures), c4 .enum-told2 .given .1, ← (c2 .days-in .ensures), ← (c .before .check-byte2 .ensures))
+    let after-days-in = c .before .before in
+    let after-enum-told2 = after-days-in .before .before in
+    let after-check-byte = after-enum-told2 .before .before in
+    let after-enum-told = after-check-byte .before in
+    let after-check-mark = after-enum-told .before .before in
+    rw (← (after-check-mark .check-mark .ensures), after-enum-told .enum-told .given .1, ← (after-check-byte .check-byte .ensures), after-enum-told2 .enum-told2 .given .1, ← (after-days-in .days-in .ensures), ← (c .before .check-byte2 .ensures))
     (c .field-after .ensures)
 
 pub check-date-spec : {M : Type 1} → statement M

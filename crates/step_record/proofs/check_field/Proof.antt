@@ -13,18 +13,18 @@ u64-at-requires c κs =
 returns : tie.Need-returns
 unfolding checkField
 returns c =
-    let c2 = c .before .before in
-    let c3 = c2 .before in
-    let c4 = c3 .before in
-    rw (← (c4 .is-within .ensures), c3 .if1 .taken, ← (c2 .u64-at .ensures), ← (c .before .in-range .ensures), c .if2 .taken)
+    let after-u64-at = c .before .before in
+    let then1 = after-u64-at .before in
+    let after-is-within = then1 .before in
+    rw (← (after-is-within .is-within .ensures), then1 .if1 .taken, ← (after-u64-at .u64-at .ensures), ← (c .before .in-range .ensures), c .if2 .taken)
 
 returns-2 : tie.Need-returns-2
 unfolding checkField
 returns-2 c =
-    let c2 = c .before .before in
-    let c3 = c2 .before in
-    let c4 = c3 .before in
-    rw (← (c4 .is-within .ensures), c3 .if1 .taken, ← (c2 .u64-at .ensures), ← (c .before .in-range .ensures), c .if2 .left)
+    let after-u64-at = c .before .before in
+    let then1 = after-u64-at .before in
+    let after-is-within = then1 .before in
+    rw (← (after-is-within .is-within .ensures), then1 .if1 .taken, ← (after-u64-at .u64-at .ensures), ← (c .before .in-range .ensures), c .if2 .left)
 
 returns-3 : tie.Need-returns-3
 unfolding checkField

@@ -11,36 +11,36 @@ use Rattle.step_record.proofs.check_mark.Tie as tie
 
 shared-slice-read-if2 : tie.Need-shared-slice-read-if2
 shared-slice-read-if2 c =
-    let c2 = c .before .before in
-    let c4 = c2 .before .before in
-    omega (arith, leb-true (c4 .args .at + 2) (length (c4 .args .file .now)) (sym (c2 .is-within .ensures) ∙ c .before .if1 .taken))
+    let after-is-within = c .before .before in
+    let start = after-is-within .before .before in
+    omega (arith, leb-true (start .args .at + 2) (length (start .args .file .now)) (sym (after-is-within .is-within .ensures) ∙ c .before .if1 .taken))
 
 add-if2 : tie.Need-add-if2
 add-if2 c =
-    let c2 = c .before .before in
-    let c4 = c2 .before .before in
-    omega (arith, leb-true (c4 .args .at + 2) (length (c4 .args .file .now)) (sym (c2 .is-within .ensures) ∙ c .before .if1 .taken))
+    let after-is-within = c .before .before in
+    let start = after-is-within .before .before in
+    omega (arith, leb-true (start .args .at + 2) (length (start .args .file .now)) (sym (after-is-within .is-within .ensures) ∙ c .before .if1 .taken))
 
 shared-slice-read-if2-2 : tie.Need-shared-slice-read-if2-2
 shared-slice-read-if2-2 c =
-    let c2 = c .before .before in
-    let c3 = c2 .before in
-    let c5 = c3 .before .before in
-    omega (arith, leb-true (c5 .args .at + 2) (length (c5 .args .file .now)) (sym (c3 .is-within .ensures) ∙ c2 .if1 .taken))
+    let then1 = c .before .before in
+    let after-is-within = then1 .before in
+    let start = after-is-within .before .before in
+    omega (arith, leb-true (start .args .at + 2) (length (start .args .file .now)) (sym (after-is-within .is-within .ensures) ∙ then1 .if1 .taken))
 
 returns : tie.Need-returns
 unfolding checkMark
 returns c =
-    let c3 = c .before .before .before in
-    let c4 = c3 .before in
-    rw (← (c4 .is-within .ensures), c3 .if1 .taken, c .if2 .taken)
+    let then1 = c .before .before .before in
+    let after-is-within = then1 .before in
+    rw (← (after-is-within .is-within .ensures), then1 .if1 .taken, c .if2 .taken)
 
 returns-2 : tie.Need-returns-2
 unfolding checkMark
 returns-2 c =
-    let c3 = c .before .before .before in
-    let c4 = c3 .before in
-    rw (← (c4 .is-within .ensures), c3 .if1 .taken, c .if2 .left)
+    let then1 = c .before .before .before in
+    let after-is-within = then1 .before in
+    rw (← (after-is-within .is-within .ensures), then1 .if1 .taken, c .if2 .left)
 
 returns-3 : tie.Need-returns-3
 unfolding checkMark

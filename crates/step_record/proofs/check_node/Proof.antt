@@ -7,17 +7,17 @@ use Rattle.step_record.proofs.check_node.Tie as tie
 returns : tie.Need-returns
 unfolding checkNode
 returns c =
-    let c2 = c .before .before in
-    let c3 = c2 .before in
-    let c4 = c3 .before in
-    let c5 = c4 .before in
-    let c6 = c5 .before in
+    let after-field-after3 = c .before .before in
+    let after-field-after2 = after-field-after3 .before in
+    let after-field-after = after-field-after2 .before in
+    let after-check-mark = after-field-after .before in
+    let after-bound-range = after-check-mark .before in
     rw (
-      ← (c5 .check-mark .ensures),
-      ← (c6 .bound-range .ensures),
-      ← (c4 .field-after .ensures),
-      ← (c3 .field-after2 .ensures),
-      ← (c2 .field-after3 .ensures),
+      ← (after-check-mark .check-mark .ensures),
+      ← (after-bound-range .bound-range .ensures),
+      ← (after-field-after .field-after .ensures),
+      ← (after-field-after2 .field-after2 .ensures),
+      ← (after-field-after3 .field-after3 .ensures),
       ← (c .before .volume-range .ensures),
     ) (c .field-after4 .ensures)
 

@@ -7,9 +7,9 @@ use Rattle.step_record.proofs.check_virtual_storage_step.Tie as tie
 returns : tie.Need-returns
 unfolding checkVirtualStorageStep
 returns c =
-    let c2 = c .before .before in
-    let c3 = c2 .before in
-    rw (← (c3 .check-mark .ensures), ← (c2 .field-after .ensures), ← (c .before .field-after2 .ensures)) (c .field-after3 .ensures)
+    let after-field-after = c .before .before in
+    let after-check-mark = after-field-after .before in
+    rw (← (after-check-mark .check-mark .ensures), ← (after-field-after .field-after .ensures), ← (c .before .field-after2 .ensures)) (c .field-after3 .ensures)
 
 pub check-virtual-storage-step-spec : {M : Type 1} → statement M
 check-virtual-storage-step-spec =

@@ -28,11 +28,11 @@ loop-again c =
 returns : tie.Need-returns Inv-loop μ-loop
 unfolding nodeRowFits columnsOfRow
 returns c =
-    let c1 = c .before in
-    let c2 = c1 .before in
-    let c3 = c2 .before in
-    let c4 = c3 .before in
-    λ s ec er es. rw (ec, er, es, ← (c4 .wide .ensures .0)) (tested-fail (c3 .loop .inv) (c2 .loop-test .taken) (sym (c1 .node-row-fits .ensures (ofRuns _ _ _) refl refl refl) ∙ c .if1 .left))
+    let after-node-row-fits = c .before in
+    let in-loop = after-node-row-fits .before in
+    let at-loop = in-loop .before in
+    let after-wide = at-loop .before in
+    λ s ec er es. rw (ec, er, es, ← (after-wide .wide .ensures .0)) (tested-fail (at-loop .loop .inv) (in-loop .loop-test .taken) (sym (after-node-row-fits .node-row-fits .ensures (ofRuns _ _ _) refl refl refl) ∙ c .if1 .left))
 
 returns-2 : tie.Need-returns-2 Inv-loop μ-loop
 unfolding nodeRowFits columnsOfRow

@@ -21,13 +21,13 @@ loop-holds c =
 
 returns : tie.Need-returns Inv-loop μ-loop
 returns c =
-    let c3 = c .before .before .before in
-    sym (c3 .before .loop .inv .1 ∙ found _ _ _ _ (c3 .loop-test .taken) (omega arith) (c .if1 .taken))
+    let in-loop = c .before .before .before in
+    sym (in-loop .before .loop .inv .1 ∙ found _ _ _ _ (in-loop .loop-test .taken) (omega arith) (c .if1 .taken))
 
 loop-again : tie.Need-loop-again Inv-loop μ-loop
 loop-again c =
-    let c3 = c .before .before .before in
-    (search needs, c3 .before .loop .inv .1 ∙ further _ _ _ _ (c3 .loop-test .taken) (omega arith) (c .if1 .left))
+    let in-loop = c .before .before .before in
+    (search needs, in-loop .before .loop .inv .1 ∙ further _ _ _ _ (in-loop .loop-test .taken) (omega arith) (c .if1 .left))
 
 returns-2 : tie.Need-returns-2 Inv-loop μ-loop
 returns-2 c =
