@@ -126,7 +126,8 @@ module _ (file : List ℕ) (nodes edges : ℕ) where
 
   module _ {first-in next-in first-out next-out : List ℕ} (ins : EdgesListed target file nodes edges first-in next-in) (outs : EdgesListed source file nodes edges first-out next-out) where
     pub shared-read : (e from before : ℕ) → from ≡ le16 file (20 * nodes + 6 * e + 2)
-        → ((size : ℕ) (into out : List ℕ) → Linked size next-in (getD first-in from 0) into → Linked size next-out (getD first-out from 0) out → before ≡ code (sharesAcross (byte file (20 * from + 2)) into out))
+        → ((size : ℕ) (into out : List ℕ) → Linked size next-in (getD first-in from 0) into → Linked size next-out (getD first-out from 0) out
+        → before ≡ code (sharesAcross (byte file (20 * from + 2)) into out))
         → before ≡ code (sharedBy e)
     shared-read e from before q h =
         let n : ℕ = le16 file (20 * nodes + 6 * e + 2) in

@@ -88,7 +88,14 @@ module _ (f : ColumnMap) (n : ℕ) (next : List ℕ) (s : Sentinel) where
       -- there is room for two node rows
       pub room : length whole ≤ nodeRowCeiling → r .count + 2 ≤ nodeRowCeiling
       room h =
-          omega (arith, ap (λ (l : List RowRequest). length l) rest-is, length-append (w .asks ++ two) (exclusiveRequests f n (map setOf (step .rest))), length-append (w .asks) two, exclusive-two f n (setOf (link - 1)), w .rows .counted)
+          omega (
+            arith,
+            ap (λ (l : List RowRequest). length l) rest-is,
+            length-append (w .asks ++ two) (exclusiveRequests f n (map setOf (step .rest))),
+            length-append (w .asks) two,
+            exclusive-two f n (setOf (link - 1)),
+            w .rows .counted,
+          )
 
       module _ (v : NodeRowsAdded) (words′ : List ℕ) (numbers′ : List Float) (a : AfterRequests s (w .asks ++ two) v words′ numbers′) where
         pub walk-full : v ≡ Full → AfterRequests s whole Full words′ numbers′

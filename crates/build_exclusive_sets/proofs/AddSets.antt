@@ -137,7 +137,8 @@ module _ (file : List ℕ) (at : ℕ) (places₀ : List ℕ) (known sets : ℕ) 
       pub adding-over : count ≤ setNumber (setAt file here) (setsAt file places count) → count ≡ 128 → (places′ : List ℕ) → Collected file all Sets.TooMany places′
       adding-over l e places′ = record {
         held = λ k q. absurd (let z : _≡_ {A = ℕ} 0 1 = cc in omega arith);
-        over = λ q. rw (added l) (let a = adds-longer rest (setsAt file places count ++ (setAt file here ∷ [])) in let b = length-append (setsAt file places count) (setAt file here ∷ []) in omega (arith, counted));
+        over = λ q. rw (added l) (let a = adds-longer rest (setsAt file places count ++ (setAt file here ∷ [])) in let b = length-append
+            (setsAt file places count) (setAt file here ∷ []) in omega (arith, counted));
       }
 
     pub adding-done : sets ≤ i → Collected file all (Sets.Count count) places

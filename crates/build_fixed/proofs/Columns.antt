@@ -13,4 +13,11 @@ use Rattle.build_node_row.specs.Tables.{networkOf, EdgeTables}
 pub columns-most : (file : List ℕ) (c : Counts) (firstIn nextIn firstOut nextOut table : List ℕ) → EdgeTables file c firstIn nextIn firstOut nextOut table
     → (count : ℕ) → count ≡ columns (networkOf file c) .count → count ≤ 512
 columns-most file c firstIn nextIn firstOut nextOut table t count e =
-    omega (arith, e, columns-few (networkOf file c) table (columns (networkOf file c) .count) (t .mapped), edge-count file (c .nodes) (c .edges) (c .aggregates) (c .«virtual_storages»), t .sections .few-edges)
+    omega (
+      arith,
+      e,
+      columns-few (networkOf file c) table (columns (networkOf file c) .count) (t .mapped),
+      edge-count file (c .nodes) (c .edges) (c .aggregates)
+          (c .«virtual_storages»),
+      t .sections .few-edges,
+    )

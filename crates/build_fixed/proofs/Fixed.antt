@@ -19,7 +19,8 @@ use Rattle.build_append.proofs.AddingRows.{Adds}
 
 module _ (new more : List Row) (words words₁ : List ℕ) (numbers numbers₁ : List Float) (f : Filled) where
   -- rows added behind rows that were added
-  adds-then : (g : Filled) (r : RowsAdded) (words₂ : List ℕ) (numbers₂ : List Float) → Adds new words numbers f (Done g) words₁ numbers₁ → Adds more words₁ numbers₁ g r words₂ numbers₂ → Adds (new ++ more) words numbers f r words₂ numbers₂
+  adds-then : (g : Filled) (r : RowsAdded) (words₂ : List ℕ) (numbers₂ : List Float) → Adds new words numbers f (Done g) words₁ numbers₁
+      → Adds more words₁ numbers₁ g r words₂ numbers₂ → Adds (new ++ more) words numbers f r words₂ numbers₂
   adds-then g r words₂ numbers₂ a b rows h =
       let first = a rows h in
       let second = b (rows ++ new) (first .held g refl) in
@@ -41,7 +42,8 @@ module _ (new more : List Row) (words words₁ : List ℕ) (numbers numbers₁ :
       }
 
 -- the rows that are held once rows were added
-adds-holding : (new : List Row) (words words₁ : List ℕ) (numbers numbers₁ : List Float) (f g : Filled) → Adds new words numbers f (Done g) words₁ numbers₁ → Holding words numbers f → Holding words₁ numbers₁ g
+adds-holding : (new : List Row) (words words₁ : List ℕ) (numbers numbers₁ : List Float) (f g : Filled) → Adds new words numbers f (Done g) words₁ numbers₁
+    → Holding words numbers f → Holding words₁ numbers₁ g
 adds-holding new words words₁ numbers numbers₁ f g a h = record { rows = h .rows ++ new; held = a (h .rows) (h .held) .held g refl }
 
 module _ (s : Sentinel) (net : Network) where

@@ -101,7 +101,8 @@ module _ (file : List ℕ) (c : Counts) (firstIn nextIn firstOut nextOut edgeToC
             few = a .few;
           }
 
-      pub outgoing-added : byte file (20 * k + 2) ≢ 1 → byte file (20 * k + 2) ≢ 3 → ColumnsAdded nextOut edgeToCol (getD firstOut k 0) x cols els m cols′ els′ r → NodeAdded file c n x cols els m cols′ els′ r
+      pub outgoing-added : byte file (20 * k + 2) ≢ 1 → byte file (20 * k + 2) ≢ 3
+          → ColumnsAdded nextOut edgeToCol (getD firstOut k 0) x cols els m cols′ els′ r → NodeAdded file c n x cols els m cols′ els′ r
       unfolding addNode columnMap
       outgoing-added ne₁ ne₃ a =
           let no : eqb (kindOf (net .nodes) n) output ≡ false = ne-eqb _ _ (λ q. ne₁ (kind-at ∙ q)) in

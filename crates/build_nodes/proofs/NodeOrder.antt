@@ -122,7 +122,13 @@ module _ (file : List ℕ) (c : Counts) (firstIn nextIn firstOut nextOut edgeToC
     before-few : (n : ℕ) → length (requestsBefore f n) ≤ nodeRowCeiling
     unfolding columnMap
     before-few n =
-        omega (arith, requests-few (networkOf file c) (read-sound file (networkOf file c) (t .parsed) .good) sets-few, ap (λ (x : List RowRequest). length x) (before-after f n), length-append (requestsBefore f n) (after f n))
+        omega (
+          arith,
+          requests-few (networkOf file c) (read-sound file (networkOf file c) (t .parsed) .good) sets-few,
+          ap (λ (x : List RowRequest). length x)
+              (before-after f n),
+          length-append (requestsBefore f n) (after f n),
+        )
 
     -- ---- a varying node
 
@@ -160,7 +166,8 @@ module _ (file : List ℕ) (c : Counts) (firstIn nextIn firstOut nextOut edgeToC
             varying
             ∙ ap (λ (x : List RowRequest). requestsBefore f n ++ x)
             (by-sets f n (setsWithNode n 0 (f .sets))
-            (λ q. ne (no-sets file (l .setAt) (l .sets) (l .tables .fit) (networkOf file c) (l .tables .held) n nextMembership (getD firstMembership k 0) (rw e (l .tables .listed n (node-under n h))) .0 q)))
+            (λ q. ne (no-sets file (l .setAt) (l .sets) (l .tables .fit) (networkOf file c) (l .tables .held) n nextMembership (getD firstMembership k 0)
+            (rw e (l .tables .listed n (node-under n h))) .0 q)))
 
         pub listed-room : length (requestsBefore f n ++ listedRequests f n) ≤ nodeRowCeiling
         listed-room = rw listed-is at (before-few (n + 1))

@@ -57,7 +57,8 @@ map-append {B} f (x ∷ xs) ys = ap (λ (l : List B). f x ∷ l) (map-append f x
 over-joined : (s : Sentinel) (rows asked : List (List Element)) → withinCeilings (map (freshRow s) rows) ≡ false → withinCeilings (map (freshRow s) (joined asked rows .rows)) ≡ false
 over-joined s rows asked e =
     let l = longer asked (record { rows = rows; places = [] }) in
-    ap (λ (x : List (List Element)). withinCeilings (map (freshRow s) x)) (l .is) ∙ ap withinCeilings (map-append (freshRow s) rows (l .new)) ∙ over-more (map (freshRow s) rows) (map (freshRow s) (l .new)) e
+    ap (λ (x : List (List Element)). withinCeilings (map (freshRow s) x)) (l .is) ∙ ap withinCeilings (map-append (freshRow s) rows (l .new)) ∙ over-more (map
+    (freshRow s) rows) (map (freshRow s) (l .new)) e
 
 module _ (s : Sentinel) (net : Network) where
   abbrev pub asks : List RowRequest
@@ -107,7 +108,8 @@ module _ (s : Sentinel) (net : Network) where
         → NodeRowsHeld s asks words₁ numbers₁ n
         → AfterVariableRows s rows₁ forAggregates aggregatesMadeAt aggregates (λ places. places) words₁ ra words₂ numbers₂
         → ra ≡ Done g
-        → AfterVariableRows s rows₂ forVirtualStorages virtualStoragesMadeAt (6 * virtualStorages) (λ places. flatMap virtualStorageWords (placedVirtualStorages (net .virtualStorages) places)) words₂ rv words₃ numbers₃
+        → AfterVariableRows s rows₂ forVirtualStorages virtualStoragesMadeAt (6 * virtualStorages)
+        (λ places. flatMap virtualStorageWords (placedVirtualStorages (net .virtualStorages) places)) words₂ rv words₃ numbers₃
         → rv ≡ Done f
         → AfterVarying s net (NodeRowsAdded.Done (record { filled = f; count = n .count })) words₃ numbers₃
     unfolding programmeOf assemble
@@ -137,7 +139,8 @@ sets-few file c firstMembership nextMembership l =
     omega (arith, long, ap (λ (x : List (List ℕ)). length x) (l .tables .held), length-take-le (l .sets) (l .setAt) (omega (arith, l .tables .fit .long, l .tables .fit .few)), l .tables .fit .few)
 
 -- the nodes of an accepted network ask for at most 4,352 rows
-pub asks-few : (file : List ℕ) (c : Counts) (firstIn nextIn firstOut nextOut edgeToCol firstMembership nextMembership : List ℕ) → EdgeTables file c firstIn nextIn firstOut nextOut edgeToCol → MembershipTables file c firstMembership nextMembership
+pub asks-few : (file : List ℕ) (c : Counts) (firstIn nextIn firstOut nextOut edgeToCol firstMembership nextMembership : List ℕ)
+    → EdgeTables file c firstIn nextIn firstOut nextOut edgeToCol → MembershipTables file c firstMembership nextMembership
     → length (requestsFrom (columnMap (networkOf file c)) 0 (networkOf file c .nodes)) ≤ nodeRowCeiling
 asks-few file c firstIn nextIn firstOut nextOut edgeToCol firstMembership nextMembership t l =
     requests-few (networkOf file c) (read-sound file (networkOf file c) (t .parsed) .good) (sets-few file c firstMembership nextMembership l)

@@ -80,7 +80,8 @@ module _ (s : Sentinel) (file : List ℕ) (old : Store) (words : List ℕ) (numb
         → RowsWritten z x (old .rowLower) (old .rowUpper) rl ru
         → MatrixWritten z w x (old .elements) (old .columns) (old .rowStarts) el cs st
         → sh ≡ shapeWritten z w (old .shape)
-        → AfterBuild s file old words numbers Answer.Accepted (record { colLower = cl; colUpper = cu; colObjCoef = co; rowLower = rl; rowUpper = ru; elements = el; columns = cs; rowStarts = st; shape = sh }) words′ numbers′
+        → AfterBuild s file old words numbers Answer.Accepted
+        (record { colLower = cl; colUpper = cu; colObjCoef = co; rowLower = rl; rowUpper = ru; elements = el; columns = cs; rowStarts = st; shape = sh }) words′ numbers′
     unfolding buildAnswer buildStore storeOfBuild need _>>=_ answerOf
     finish {z} e {cl} {cu} {co} {rl} {ru} {el} {cs} {st} {sh} cw rw₁ mw sw =
         let made = after .made z e in

@@ -41,7 +41,8 @@ storeOf colLower colUpper colObjCoef rowLower rowUpper elements columns rowStart
 -- the edges' test reads the shape run alone
 pub edges-fit : (s t : Store) → s .shape ≡ t .shape → allEntries (edgeFits t) 3 edgesAt (edgeCount t) ≡ true → allEntries (edgeFits s) 3 edgesAt (edgeCount s) ≡ true
 unfolding edgeFits
-edges-fit s t e h = ap (λ (w : List ℕ). allEntries (λ (at : ℕ). ltb (getD w at 0) (getD w 1 0) && ltb (getD w (at + 1) 0) (getD w 1 0) && ltb (getD w (at + 2) 0) (getD w 3 0)) 3 edgesAt (getD w 2 0)) e ∙ h
+edges-fit s t e h = ap (λ (w : List ℕ). allEntries
+    (λ (at : ℕ). ltb (getD w at 0) (getD w 1 0) && ltb (getD w (at + 1) 0) (getD w 1 0) && ltb (getD w (at + 2) 0) (getD w 3 0)) 3 edgesAt (getD w 2 0)) e ∙ h
 
 module _ (file : List ℕ) (old : Store) (work : List Float) where
   -- 16: nothing is changed
@@ -66,7 +67,18 @@ module _ (file : List ℕ) (old : Store) (work : List Float) where
     pub finish : r ≡ Accepted → {costs rowLower rowUpper elements : List Float}
         → costs ≡ sets (old .colObjCoef) 0 (stepCosts (shapeOf old) (columnCount old) (decodedBy old file .nodes))
         → StepWritten old (stepIntervals old (decodedBy old file)) rowLower rowUpper elements
-        → AfterStep file old work Accepted (record { colLower = old .colLower; colUpper = old .colUpper; colObjCoef = costs; rowLower = rowLower; rowUpper = rowUpper; elements = elements; columns = old .columns; rowStarts = old .rowStarts; shape = old .shape }) work′
+        → AfterStep file old work Accepted
+        (record {
+          colLower = old .colLower;
+          colUpper = old .colUpper;
+          colObjCoef = costs;
+          rowLower = rowLower;
+          rowUpper = rowUpper;
+          elements = elements;
+          columns = old .columns;
+          rowStarts = old .rowStarts;
+          shape = old .shape;
+        }) work′
     unfolding stepStore storeOfStep steppedStore stepped stepIntervals answerOf
     finish e {costs} {rowLower} {rowUpper} {elements} cw w =
         let told = judged .read work room e in

@@ -60,7 +60,8 @@ module _ (f : Format) (p : ℕ) (P : 0 < p) (h : Float) (H : Num f h) where
 
   pub upper-both : (a : ℤ) (x y : Float) → Num f x → Num f y → T (meetsUpper f p h a (smaller x y)) ↔ (T (meetsUpper f p h a x) × T (meetsUpper f p h a y))
   upper-both a x y r q =
-      rw (upper-is-lower a (smaller x y) (smaller-num f x y r q), neg-smaller f x y r q, upper-is-lower a x r, upper-is-lower a y q) (lower-both (negℤ a) (neg x) (neg y) (neg-num f x r) (neg-num f y q))
+      rw (upper-is-lower a (smaller x y) (smaller-num f x y r q), neg-smaller f x y r q, upper-is-lower a x r, upper-is-lower a y q)
+      (lower-both (negℤ a) (neg x) (neg y) (neg-num f x r) (neg-num f y q))
 
   pub upper-free : (a : ℤ) → T (meetsUpper f p h a h)
   upper-free a = rw (upper-is-lower a h H) (lower-free (negℤ a))

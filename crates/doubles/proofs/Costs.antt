@@ -63,7 +63,8 @@ part-half x p n h =
       fit = div-fits binary64 x two;
       isFinite = v .isFinite;
       within = at-most (mag binary64 y) (mag binary64 x) (1000 * 2 ^ 1074) (v .over) h (lit≤ tt);
-      off = subst (λ (z : ℤ). Off (z +ℤ z) (rank binary64 x) 2) (ap (λ (s : Bool). signed s (mag binary64 y)) (sym (v .signIs))) (signed-double (sign x) (mag binary64 y) (mag binary64 x) (v .over) (v .under));
+      off = subst (λ (z : ℤ). Off (z +ℤ z) (rank binary64 x) 2) (ap (λ (s : Bool). signed s (mag binary64 y)) (sym (v .signIs)))
+          (signed-double (sign x) (mag binary64 y) (mag binary64 x) (v .over) (v .under));
     }
 
 -- ---- an edge: the sum of two parts, off by 2 ^ 1032 half units and what the parts are off by
@@ -90,7 +91,8 @@ edge-small a b l u p q h = omega arith
 
 pub edge-cost : (x y : Float) (d e : ℤ) → Part x d → Part y e → EdgeCost (add binary64 x y) (d +ℤ e)
 edge-cost x y d e p q =
-    let a = add-near binary64 1032 x y edge-room (p .fit) (q .fit) (p .isFinite) (q .isFinite) (edge-small (mag binary64 x) (mag binary64 y) (2 ^ 1074) (2 ^ (53 + 1032)) (p .within) (q .within) (lit< tt)) in
+    let a = add-near binary64 1032 x y edge-room (p .fit) (q .fit) (p .isFinite) (q .isFinite)
+    (edge-small (mag binary64 x) (mag binary64 y) (2 ^ 1074) (2 ^ (53 + 1032)) (p .within) (q .within) (lit< tt)) in
     let r = add binary64 x y in
     record {
       fit = add-fits binary64 x y;
@@ -130,7 +132,8 @@ module _ {A : Type 0} (cost : A → Float) (exact : A → ℤ) where
       let ran = add-all-near binary64 j (lit< tt) zero+ rs (zero-grain binary64 0 .fit) tt (finite-all xs ps)
       (small (mag binary64 zero+) (mags binary64 rs) (length rs) (2001 * 2 ^ 1074) (2 ^ j) (2 ^ (53 + j)) (zero-mag binary64) (mags-le binary64 (2001 * 2 ^ 1074) rs (within-all xs ps)) L (lit< tt)) in
       let a = off-double (rank binary64 (addAll binary64 zero+ rs)) (rank binary64 zero+ +ℤ ranks binary64 rs) (length rs * 2 ^ j) (ran .off) in
-      let b = subst (λ (z : ℤ). Off (twice (addAll binary64 zero+ rs)) (z +ℤ z) (2 * (length rs * 2 ^ j))) (ap (λ (z : ℕ). pos z +ℤ ranks binary64 rs) (zero-mag binary64) ∙ +ℤ-idl (ranks binary64 rs)) a in
+      let b = subst (λ (z : ℤ). Off (twice (addAll binary64 zero+ rs)) (z +ℤ z) (2 * (length rs * 2 ^ j)))
+      (ap (λ (z : ℕ). pos z +ℤ ranks binary64 rs) (zero-mag binary64) ∙ +ℤ-idl (ranks binary64 rs)) a in
       off-le (enough (length rs) (length xs) (2 ^ j) edgeOff (2 ^ 1052) L n (lit≤ tt)) (off-trans b (edges-off edgeOff xs ps (le-refl edgeOff)))
     where
       small : (z m n b v u : ℕ) → z ≡ 0 → m ≤ n * b → n ≤ 512 → 512 * b + 512 * v < u → z + m + n * v < u

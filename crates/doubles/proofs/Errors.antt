@@ -3,7 +3,9 @@
 use mathlib.Core.Path.{_≡_, sym, ap, _∙_, subst}
 use mathlib.Core.List.{List, [], _∷_}
 use Prim.Native.Nat.{ℕ, zero, suc, _+_, _-_, _*_, _/_, _%_, _^_, _≤_, _<_, compare, Ordering, Ordering·lt, Ordering·eq, Ordering·gt}
-use native.Mathlib.Nat.{le-trans, le-of-eq, lt-of-le-of-lt, lt-of-lt-of-le, mul-comm, mul-assoc, mul-pos, mul-le-mul-left, mul-le-mul-right, mul-lt-mul-of-pos-right, le-of-mul-le-mul-right, lt-of-mul-lt-mul-right, div-add-mod', mod-lt, div-lt-iff-lt-mul, suc-mul, two-pow-succ, lt-irrefl, lt-of-not-le, not-le-of-lt, mul-div-cancel, sub-add-cancel}
+use native.Mathlib.Nat.{le-trans, le-of-eq, lt-of-le-of-lt, lt-of-lt-of-le, mul-comm, mul-assoc, mul-pos, mul-le-mul-left}
+use native.Mathlib.Nat.{mul-le-mul-right, mul-lt-mul-of-pos-right, le-of-mul-le-mul-right, lt-of-mul-lt-mul-right, div-add-mod', mod-lt, div-lt-iff-lt-mul, suc-mul}
+use native.Mathlib.Nat.{two-pow-succ, lt-irrefl, lt-of-not-le, not-le-of-lt, mul-div-cancel, sub-add-cancel}
 use native.Mathlib.Omega.{arith}
 use mathlib.Core.Bool.{Bool, true, false, not}
 use lib.IntN.{ℤ, pos, _+ℤ_, +ℤ-assoc, +ℤ-idr}
@@ -66,7 +68,9 @@ module _ (f : Format) (a c j : ℕ) (C : 0 < c) (small : a * 2 ^ low f < 2 ^ (pr
   grid-under : Room f j → grid f a c < overflow f
   grid-under r =
       let tail : j ≤ prec f + j = omega arith in
-      lt-of-lt-of-le (lt-of-mul-lt-mul-right c (step (grid f a c * c) (a * 2 ^ low f) (2 ^ j * c) (2 ^ (prec f + j)) (2 ^ suc (prec f + j)) c small (mul-le-mul-right c (pow-mono tail)) (two-pow-succ (prec f + j)) (grid-near .0))) (pow-mono r)
+      lt-of-lt-of-le (lt-of-mul-lt-mul-right c
+      (step (grid f a c * c) (a * 2 ^ low f) (2 ^ j * c) (2 ^ (prec f + j)) (2 ^ suc (prec f + j)) c small (mul-le-mul-right c (pow-mono tail))
+      (two-pow-succ (prec f + j)) (grid-near .0))) (pow-mono r)
     where
       step : (g n v w u c : ℕ) → n < w * c → v ≤ w * c → u ≡ w + w → 2 * g ≤ 2 * n + v → g < u * c
       step g n v w u c h k e l = rw e (omega arith)
@@ -97,7 +101,11 @@ off-le h p = record { over = omega arith; under = omega arith }
 
 pub off-signed : (s : Bool) (a b d : ℕ) → 2 * a ≤ 2 * b + d → 2 * b ≤ 2 * a + d → Off (signed s a) (signed s b) d
 off-signed false a b d h k = record { over = omega arith; under = omega arith }
-off-signed true a b d h k = record { over = omega (arith, neg-plus (pos a), neg-less (pos a), neg-plus (pos b), neg-less (pos b)); under = omega (arith, neg-plus (pos a), neg-less (pos a), neg-plus (pos b), neg-less (pos b)) }
+off-signed true a b d h k = record {
+  over = omega (arith, neg-plus (pos a), neg-less (pos a), neg-plus (pos b), neg-less (pos b));
+  under = omega
+      (arith, neg-plus (pos a), neg-less (pos a), neg-plus (pos b), neg-less (pos b));
+}
 
 -- ---- one addition
 -- a number below the infinities is finite

@@ -53,7 +53,8 @@ held-half f w h = go (h .j) (h .is)
 pub half-exact : (f : Format) (x : Float) (w : ℕ) → T (fits f x) → T (finite x) → mag f x ≡ 2 * w → Rounds f (sign x) w (div f x two)
 half-exact f x w p n e =
     let L = 2 ^ low f in
-    subst (Rounds f (sign x) w) (sym (half-is f x p n ∙ ap (λ (z : ℕ). round f (sign x) z (2 * L)) e ∙ round-same f (sign x) (2 * w) (2 * L) w L (mul-pos (lit< tt) (pow-pos (low f))) (pow-pos (low f)) (mul-assoc 2 w L ∙ mul-left-comm 2 w L)))
+    subst (Rounds f (sign x) w) (sym (half-is f x p n ∙ ap (λ (z : ℕ). round f (sign x) z (2 * L)) e
+    ∙ round-same f (sign x) (2 * w) (2 * L) w L (mul-pos (lit< tt) (pow-pos (low f))) (pow-pos (low f)) (mul-assoc 2 w L ∙ mul-left-comm 2 w L)))
     (round-held f (sign x) w (held-half f w (subst (Representable f) e (mag-held f x p n))))
 
 -- any number of units: half of it, to within half a unit
@@ -86,7 +87,10 @@ half-near f x p n = go (mag-held f x p n)
         let a : 2 * snap f q (2 * L) ≤ q + 1 = le-of-mul-le-mul-right (step (snap f q (2 * L)) q L (s .0)) Lp in
         let b : q ≤ 2 * snap f q (2 * L) + 1 = le-of-mul-le-mul-right (back (snap f q (2 * L)) q L (s .1)) Lp in
         record {
-          isFinite = subst (λ (z : Float). T (finite z)) (sym e) (under-finite f (round f (sign x) q (2 * L)) (round-num f (sign x) q (2 * L) .1) (subst (λ (z : ℕ). z < overflow f) (sym (snap-is f (sign x) q (2 * L))) (half-under (snap f q (2 * L)) q (overflow f) a (mag-held f x p n .under) (pow-lt {i = 0} (zero-lt (low f) (emax f))))));
+          isFinite = subst (λ (z : Float). T (finite z)) (sym e)
+              (under-finite f (round f (sign x) q (2 * L)) (round-num f (sign x) q (2 * L) .1)
+              (subst (λ (z : ℕ). z < overflow f) (sym (snap-is f (sign x) q (2 * L)))
+              (half-under (snap f q (2 * L)) q (overflow f) a (mag-held f x p n .under) (pow-lt {i = 0} (zero-lt (low f) (emax f))))));
           signIs = ap sign e ∙ round-sign f (sign x) q (2 * L);
           over = le-trans (le-of-eq (ap (λ (z : ℕ). 2 * z) m)) a;
           under = le-trans b (le-of-eq (ap (λ (z : ℕ). 2 * z + 1) (sym m)));

@@ -96,14 +96,34 @@ mul-addℤ a b c = rw (*ℤ-comm a (b +ℤ c), *ℤ-comm a b, *ℤ-comm a c) (ad
 
 pub neg-mulℤ : (a b : ℤ) → negℤ a *ℤ b ≡ negℤ (a *ℤ b)
 neg-mulℤ a b =
-    omega (ints, mul-is (negℤ a) b, mul-is a b, neg-plus (a *ℤ b), neg-less (a *ℤ b), ap (λ (z : ℕ). z * plus b) (neg-plus a), ap (λ (z : ℕ). z * less b) (neg-plus a), ap (λ (z : ℕ). z * plus b) (neg-less a), ap (λ (z : ℕ). z * less b) (neg-less a))
+    omega (
+      ints,
+      mul-is (negℤ a) b,
+      mul-is a b,
+      neg-plus (a *ℤ b),
+      neg-less (a *ℤ b),
+      ap (λ (z : ℕ). z * plus b) (neg-plus a),
+      ap (λ (z : ℕ). z * less b)
+          (neg-plus a),
+      ap (λ (z : ℕ). z * plus b) (neg-less a),
+      ap (λ (z : ℕ). z * less b) (neg-less a),
+    )
 
 pub mul-negℤ : (a b : ℤ) → a *ℤ negℤ b ≡ negℤ (a *ℤ b)
 mul-negℤ a b = rw (*ℤ-comm a (negℤ b), *ℤ-comm a b) (neg-mulℤ b a)
 
 pub mul-assocℤ : (a b c : ℤ) → (a *ℤ b) *ℤ c ≡ a *ℤ (b *ℤ c)
 mul-assocℤ a b c =
-    omega (ints, mul-is (a *ℤ b) c, mul-is a (b *ℤ c), ap (λ (z : ℕ). z * plus c) (mul-is a b), ap (λ (z : ℕ). z * less c) (mul-is a b), ap (λ (z : ℕ). plus a * z) (mul-is b c), ap (λ (z : ℕ). less a * z) (mul-is b c))
+    omega (
+      ints,
+      mul-is (a *ℤ b) c,
+      mul-is a (b *ℤ c),
+      ap (λ (z : ℕ). z * plus c) (mul-is a b),
+      ap (λ (z : ℕ). z * less c) (mul-is a b),
+      ap
+          (λ (z : ℕ). plus a * z) (mul-is b c),
+      ap (λ (z : ℕ). less a * z) (mul-is b c),
+    )
 
 pub swap-addℤ : (a b c : ℤ) → a +ℤ (b +ℤ c) ≡ b +ℤ (a +ℤ c)
 swap-addℤ a b c = omega (ints, sum-is a (b +ℤ c), sum-is b c, sum-is b (a +ℤ c), sum-is a c)

@@ -51,7 +51,8 @@ pub add-mono : (f : Format) (x x' y y' : Float) → T (fits f x) → T (fits f x
 add-mono f x x' y y' p p' q q' n n' k k' h l =
     Z→le f (add f x y) (add f x' y') (add-num f x y p q n k) (add-num f x' y' p' q' n' k')
     (rw (add-rank-snap f x y p q n k, add-rank-snap f x' y' p' q' n' k')
-    (snap-over f (2 ^ low f) (pow-pos (low f)) (addSign (sign x) (mag f x) (sign y) (mag f y)) (addSign (sign x') (mag f x') (sign y') (mag f y')) (addMag (sign x) (mag f x) (sign y) (mag f y)) (addMag (sign x') (mag f x') (sign y') (mag f y'))
+    (snap-over f (2 ^ low f) (pow-pos (low f)) (addSign (sign x) (mag f x) (sign y) (mag f y)) (addSign (sign x') (mag f x') (sign y') (mag f y'))
+    (addMag (sign x) (mag f x) (sign y) (mag f y)) (addMag (sign x') (mag f x') (sign y') (mag f y'))
     (rw (add-signed (sign x) (mag f x) (sign y) (mag f y), add-signed (sign x') (mag f x') (sign y') (mag f y'))
     (leZ-add (rank f x) (rank f x') (rank f y) (rank f y') (le→Z f x x' (p, finite-number x n) (p', finite-number x' n') h) (le→Z f y y' (q, finite-number y k) (q', finite-number y' k') l)))))
 
@@ -146,7 +147,8 @@ raised-in-order f a b y p q d t =
     let na = raised-num f a p in
     let nb = raised-num f b q in
     let nn = neg-num f (raised a) na in
-    let below : T (le (neg (raised a)) zero+) = le-trans-num f (neg (raised a)) (neg zero+) zero+ nn (neg-num f zero+ (zero-num f)) (zero-num f) (subst T (sym (le-neg f zero+ (raised a) (zero-num f) na)) (raised-above f a p)) minus-zero-le in
+    let below : T (le (neg (raised a)) zero+) = le-trans-num f (neg (raised a)) (neg zero+) zero+ nn (neg-num f zero+ (zero-num f)) (zero-num f)
+    (subst T (sym (le-neg f zero+ (raised a) (zero-num f) na)) (raised-above f a p)) minus-zero-le in
     le-trans-num f (div f (neg (raised a)) y) zero+ (div f (raised b) y) (div-num f (neg (raised a)) y nn d t) (zero-num f) (div-num f (raised b) y nb d t)
     (div-below f (neg (raised a)) y nn d t below) (div-above f (raised b) y nb d t (raised-above f b q))
 

@@ -34,7 +34,8 @@ mul-is f (inf s) y p q n k = absurd n
 mul-is f (fin s m e) nan p q n k = absurd k
 mul-is f (fin s m e) (inf t) p q n k = absurd k
 mul-is f (fin s m e) (fin t n d) p q _ _ =
-    round-same f (unlike s t) (m * up e * (n * up d)) (down e * down d) (mag f (fin s m e) * mag f (fin t n d)) (2 ^ low f * 2 ^ low f) (mul-pos (down-pos e) (down-pos d)) (mul-pos (pow-pos (low f)) (pow-pos (low f)))
+    round-same f (unlike s t) (m * up e * (n * up d)) (down e * down d) (mag f (fin s m e) * mag f (fin t n d)) (2 ^ low f * 2 ^ low f)
+    (mul-pos (down-pos e) (down-pos d)) (mul-pos (pow-pos (low f)) (pow-pos (low f)))
     (product-units (m * up e) (n * up d) (mag f (fin s m e)) (mag f (fin t n d)) (2 ^ low f) (down e) (down d) (mag-is f s m e p) (mag-is f t n d q))
 
 pub mag-zero : (f : Format) (s : Bool) (m : ℕ) (e : ℤ) → 0 < mag f (fin s m e) → 0 < m
@@ -94,7 +95,8 @@ mul-plusOne f x p n = let r = mul-one-of f x false p n in same-value f (mul f x 
 pub mul-minusOne : (f : Format) (x : Float) → T (fits f x) → T (finite x) → mul f x (oneOf true) ≡ neg x
 mul-minusOne f x p n =
     let r = mul-one-of f x true p n in
-    same-value f (mul f x (oneOf true)) (neg x) (r .fit) (neg-fits f x p) (r .isFinite) (rw (neg-finite x) n) (r .signIs ∙ unlike-true (sign x) ∙ sym (neg-sign x (finite-number x n))) (r .magIs ∙ sym (neg-mag f x))
+    same-value f (mul f x (oneOf true)) (neg x) (r .fit) (neg-fits f x p) (r .isFinite) (rw (neg-finite x) n)
+    (r .signIs ∙ unlike-true (sign x) ∙ sym (neg-sign x (finite-number x n))) (r .magIs ∙ sym (neg-mag f x))
 
 -- ---- a quotient by a finite value above 0.0 has the numerator's sign
 

@@ -168,9 +168,11 @@ addMag-le s a t b =
 -- ---- an exact sum
 pub add-exact : (f : Format) (x y : Float) → T (fits f x) → T (fits f y) → T (finite x) → T (finite y) → Representable f (addMag (sign x) (mag f x) (sign y) (mag f y))
     → Rounds f (addSign (sign x) (mag f x) (sign y) (mag f y)) (addMag (sign x) (mag f x) (sign y) (mag f y)) (add f x y)
-add-exact f x y p q n k h = subst (Rounds f (addSign (sign x) (mag f x) (sign y) (mag f y)) (addMag (sign x) (mag f x) (sign y) (mag f y))) (sym (add-is f x y p q n k)) (round-held f (addSign (sign x) (mag f x) (sign y) (mag f y)) (addMag (sign x) (mag f x) (sign y) (mag f y)) h)
+add-exact f x y p q n k h = subst (Rounds f (addSign (sign x) (mag f x) (sign y) (mag f y)) (addMag (sign x) (mag f x) (sign y) (mag f y)))
+    (sym (add-is f x y p q n k)) (round-held f (addSign (sign x) (mag f x) (sign y) (mag f y)) (addMag (sign x) (mag f x) (sign y) (mag f y)) h)
 
-pub add-rank : (f : Format) (x y : Float) → T (fits f x) → T (fits f y) → T (finite x) → T (finite y) → Representable f (addMag (sign x) (mag f x) (sign y) (mag f y)) → rank f (add f x y) ≡ rank f x +ℤ rank f y
+pub add-rank : (f : Format) (x y : Float) → T (fits f x) → T (fits f y) → T (finite x) → T (finite y)
+    → Representable f (addMag (sign x) (mag f x) (sign y) (mag f y)) → rank f (add f x y) ≡ rank f x +ℤ rank f y
 add-rank f x y p q n k h =
     let r = add-exact f x y p q n k h in
     ap₂ (λ (u : Bool) (w : ℕ). signed u w) (r .signIs) (r .magIs) ∙ add-signed (sign x) (mag f x) (sign y) (mag f y)

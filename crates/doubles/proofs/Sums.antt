@@ -4,7 +4,8 @@ use mathlib.Core.Path.{_≡_, refl, sym, ap, ap₂, _∙_, subst}
 use mathlib.Core.Logic.{_⊎_, inl, inr}
 use mathlib.Core.List.{List, [], _∷_, _++_}
 use Prim.Native.Nat.{ℕ, zero, suc, _+_, _-_, _*_, _/_, _%_, _^_, _≤_, _<_}
-use native.Mathlib.Nat.{le-trans, le-of-eq, lt-of-le-of-lt, lt-of-lt-of-le, mul-comm, mul-sub, add-mul, one-mul, eq-or-lt-of-le, le-of-mul-le-mul-right, mul-le-mul-right, suc-mul, zero-mul, zero-add, add-zero, mul-right-comm, div-add-mod', eq-of-mul-eq-mul-right, mul-one, not-suc-le-zero, le-of-suc-le-suc}
+use native.Mathlib.Nat.{le-trans, le-of-eq, lt-of-le-of-lt, lt-of-lt-of-le, mul-comm, mul-sub, add-mul, one-mul, eq-or-lt-of-le, le-of-mul-le-mul-right, mul-le-mul-right}
+use native.Mathlib.Nat.{suc-mul, zero-mul, zero-add, add-zero, mul-right-comm, div-add-mod', eq-of-mul-eq-mul-right, mul-one, not-suc-le-zero, le-of-suc-le-suc}
 use native.Mathlib.Omega.{arith}
 use mathlib.Core.Bool.{Bool, true, false, not, _&&_, Bool·beq, cond}
 use lib.IntN.{ℤ, pos, negsuc, _+ℤ_, _*ℤ_, natAbs, +ℤ-assoc, +ℤ-idl, +ℤ-idr}
@@ -70,7 +71,8 @@ module _ (f : Format) (g : ℕ) (x y : Float) (r : Room f g) (p : Grain f g x) (
   add-here : Rounds f (addSign (sign x) (mag f x) (sign y) (mag f y)) (addMag (sign x) (mag f x) (sign y) (mag f y)) (add f x y)
   add-here =
       let m = addMag-grain (sign x) (sign y) (mag f x) (mag f y) (p .count) (q .count) (2 ^ g) (p .is) (q .is) in
-      add-exact f x y (p .fit) (q .fit) (p .isFinite) (q .isFinite) (grain-held f g (addMag (sign x) (mag f x) (sign y) (mag f y)) (m .0) r (m .1) (le-trans (addMag-le (sign x) (mag f x) (sign y) (mag f y)) h))
+      add-exact f x y (p .fit) (q .fit) (p .isFinite) (q .isFinite)
+      (grain-held f g (addMag (sign x) (mag f x) (sign y) (mag f y)) (m .0) r (m .1) (le-trans (addMag-le (sign x) (mag f x) (sign y) (mag f y)) h))
 
   pub add-grains : Summed f g (rank f x +ℤ rank f y) (mag f x + mag f y) (add f x y)
   add-grains =
@@ -150,7 +152,8 @@ pub same-sum : (f : Format) (g : ℕ) → Room f g → (xs ys : List Float) → 
 same-sum f g r xs ys ps qs h k e =
     let a = sum-all f g r xs ps h in
     let b = sum-all f g r ys qs k in
-    same-bits f (addAll f zero+ xs) (addAll f zero+ ys) (a .grain .fit) (b .grain .fit) (a .grain .isFinite) (b .grain .isFinite) (sum-plain-all f g r xs ps h) (sum-plain-all f g r ys qs k) (a .total ∙ e ∙ sym (b .total))
+    same-bits f (addAll f zero+ xs) (addAll f zero+ ys) (a .grain .fit) (b .grain .fit) (a .grain .isFinite) (b .grain .isFinite) (sum-plain-all f g r xs ps h)
+    (sum-plain-all f g r ys qs k) (a .total ∙ e ∙ sym (b .total))
 
 -- n values of at most B units each
 pub mags-le : (f : Format) (B : ℕ) (xs : List Float) → Each (λ x. mag f x ≤ B) xs → mags f xs ≤ length xs * B

@@ -87,7 +87,8 @@ lt-at x k p = lt-rank binary64 (thousandths false k) x (round-num binary64 false
 eq-at : (x : Float) (k : ℕ) → Num binary64 x → T (eq (thousandths false k) x) → pos (snap binary64 k 1000) ≡ rank binary64 x
 eq-at x k p t =
     sym (round-rank binary64 false k 1000)
-    ∙ eqZ→eq (rank binary64 (thousandths false k)) (rank binary64 x) (subst T (eq-is binary64 (thousandths false k) x (round-num binary64 false k 1000 .0) (p .0) (round-num binary64 false k 1000 .1) (p .1)) t)
+    ∙ eqZ→eq (rank binary64 (thousandths false k)) (rank binary64 x)
+    (subst T (eq-is binary64 (thousandths false k) x (round-num binary64 false k 1000 .0) (p .0) (round-num binary64 false k 1000 .1) (p .1)) t)
 
 pub search-only : (x : Float) (lo : ℕ) → Num binary64 x → ((k : ℕ) → k < lo → T (lt (thousandths false k) x)) → (lo ≤ most → T (not (lt (thousandths false lo) x)))
     → (k : ℕ) → k ≤ most → T (eq (thousandths false k) x) → k ≡ lo
@@ -100,7 +101,8 @@ search-only x lo p small big k h t =
     (λ (w : T (ltb lo k)).
     let l = ltb→lt lo k w in
     let s = thousandths-strict lo k l h in
-    absurd (T-not (lt (thousandths false lo) x) (big (le-trans (le-of-lt l) h)) (subst T (sym (lt-at x lo p)) (subst (λ (z : ℤ). T (ltZ (pos (snap binary64 lo 1000)) z)) e (lt→ltb (snap binary64 lo 1000) (snap binary64 k 1000) s)))))
+    absurd (T-not (lt (thousandths false lo) x) (big (le-trans (le-of-lt l) h))
+    (subst T (sym (lt-at x lo p)) (subst (λ (z : ℤ). T (ltZ (pos (snap binary64 lo 1000)) z)) e (lt→ltb (snap binary64 lo 1000) (snap binary64 k 1000) s)))))
     (λ (w : T (not (ltb lo k))). omega tests))
   where
     below : (n : ℕ) (z : ℤ) → T (ltZ (pos n) z) → pos n ≡ z → ⊥

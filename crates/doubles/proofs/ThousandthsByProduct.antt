@@ -70,7 +70,9 @@ times-thousand k h =
     let over : 2 * mag binary64 y ≤ 2 * (k * 2 ^ 1074) + 2 ^ 1056 = widen (mag binary64 y) (snap binary64 (m * 1000) L) (k * 2 ^ 1074) (2 ^ 1045 * 1000 + 2 ^ 1055) (2 ^ 1056) z o (lit≤ tt) in
     record {
       fit = mul-fits binary64 x thousand;
-      isFinite = subst (λ (v : Float). T (finite v)) (sym e) (under-finite binary64 (round binary64 false (m * (1000 * L)) (L * L)) (round-num binary64 false (m * (1000 * L)) (L * L) .1) (subst (λ (v : Float). mag binary64 v < overflow binary64) e (below-top (mag binary64 y) (k * 2 ^ 1074) (2 ^ 1056) (most * 2 ^ 1074) (overflow binary64) over kl (lit< tt))));
+      isFinite = subst (λ (v : Float). T (finite v)) (sym e)
+          (under-finite binary64 (round binary64 false (m * (1000 * L)) (L * L)) (round-num binary64 false (m * (1000 * L)) (L * L) .1)
+          (subst (λ (v : Float). mag binary64 v < overflow binary64) e (below-top (mag binary64 y) (k * 2 ^ 1074) (2 ^ 1056) (most * 2 ^ 1074) (overflow binary64) over kl (lit< tt))));
       signIs = ap sign e ∙ round-sign binary64 false (m * (1000 * L)) (L * L);
       over = over;
       under = narrow (mag binary64 y) (snap binary64 (m * 1000) L) (k * 2 ^ 1074) (2 ^ 1045 * 1000 + 2 ^ 1055) (2 ^ 1056) z u (lit≤ tt);
@@ -89,13 +91,15 @@ times-thousand k h =
     x-finite k h =
         let n = snap-near binary64 k 1000 1045 (lit< tt) (small k h) room in
         under-finite binary64 (thousandths false k) (round-num binary64 false k 1000 .1)
-        (subst (λ (v : ℕ). v < overflow binary64) (sym (snap-is binary64 false k 1000)) (under (snap binary64 k 1000) k (2 ^ 1074) (2 ^ 1045 * 1000) (most * 2 ^ 1074) (overflow binary64) (n .0) (mul-le-mul-right (2 ^ 1074) h) (lit< tt)))
+        (subst (λ (v : ℕ). v < overflow binary64) (sym (snap-is binary64 false k 1000))
+        (under (snap binary64 k 1000) k (2 ^ 1074) (2 ^ 1045 * 1000) (most * 2 ^ 1074) (overflow binary64) (n .0) (mul-le-mul-right (2 ^ 1074) h) (lit< tt)))
       where
         under : (m k l v u o : ℕ) → 2 * (m * 1000) ≤ 2 * (k * l) + v → k * l ≤ u → u + v < o → m < o
         under m k l v u o h p q = omega arith
 
 -- ---- 2 ^ 52 added: a whole number, the nearest
-exactly : (c k s l v y : ℕ) → 2 * (c * l) ≤ 2 * (y + s * l) + l → 2 * (y + s * l) ≤ 2 * (c * l) + l → 2 * y ≤ 2 * (k * l) + v → 2 * (k * l) ≤ 2 * y + v → v < l → (c * l < suc (k + s) * l) × ((k + s) * l < suc c * l)
+exactly : (c k s l v y : ℕ) → 2 * (c * l) ≤ 2 * (y + s * l) + l → 2 * (y + s * l) ≤ 2 * (c * l) + l → 2 * y ≤ 2 * (k * l) + v → 2 * (k * l) ≤ 2 * y + v → v < l
+    → (c * l < suc (k + s) * l) × ((k + s) * l < suc c * l)
 exactly c k s l v y a b p q r = omega arith
 
 pub shifted : (k : ℕ) (y : Float) → k ≤ most → Around binary64 y (k * 2 ^ 1074) (2 ^ 1056) → Rounds binary64 false ((k + 2 ^ 52) * 2 ^ 1074) (add binary64 y shifter)
@@ -116,7 +120,10 @@ shifted k y h a =
     let w : mag binary64 (add binary64 y shifter) ≡ (k + s) * 2 ^ 1074 = z ∙ ap (λ (u : ℕ). u * 2 ^ 1074) c in
     record {
       fit = add-fits binary64 y shifter;
-      isFinite = subst (λ (u : Float). T (finite u)) (sym e) (under-finite binary64 (round binary64 false v L) (round-num binary64 false v L .1) (subst (λ (u : Float). mag binary64 u < overflow binary64) e (subst (λ (u : ℕ). u < overflow binary64) (sym w) (lt-of-le-of-lt (mul-le-mul-right (2 ^ 1074) (plus-le k most s h)) (lit< tt)))));
+      isFinite = subst (λ (u : Float). T (finite u)) (sym e)
+          (under-finite binary64 (round binary64 false v L) (round-num binary64 false v L .1)
+          (subst (λ (u : Float). mag binary64 u < overflow binary64) e
+          (subst (λ (u : ℕ). u < overflow binary64) (sym w) (lt-of-le-of-lt (mul-le-mul-right (2 ^ 1074) (plus-le k most s h)) (lit< tt)))));
       signIs = ap sign e ∙ round-sign binary64 false v L;
       magIs = w;
     }

@@ -3,7 +3,8 @@
 use mathlib.Core.Path.{_≡_, refl, sym, ap, ap₂, _∙_, subst}
 use mathlib.Core.Logic.{_⊎_, inl, inr}
 use Prim.Native.Nat.{ℕ, zero, suc, _+_, _-_, _*_, _/_, _^_, _≤_, _<_}
-use native.Mathlib.Nat.{le-of-suc-le-suc, lt-of-not-le, not-le-of-lt, zero-mul, mul-one, mul-assoc, mul-comm, mul-right-comm, add-mul, mul-pos, mul-div-cancel, mul-lt-mul-of-pos-right, lt-of-mul-lt-mul-right, sub-add-cancel}
+use native.Mathlib.Nat.{le-of-suc-le-suc, lt-of-not-le, not-le-of-lt, zero-mul, mul-one, mul-assoc, mul-comm}
+use native.Mathlib.Nat.{mul-right-comm, add-mul, mul-pos, mul-div-cancel, mul-lt-mul-of-pos-right, lt-of-mul-lt-mul-right, sub-add-cancel}
 use native.Mathlib.Omega.{arith}
 use mathlib.Core.Bool.{Bool, true, false, not, _&&_, _||_, Bool·beq, cond, and-true}
 use lib.IntN.{ℤ, pos, negsuc, negℤ, negℤ-negℤ, _*ℤ_, *ℤ-comm, natAbs, pos-ne-negsuc}
@@ -90,7 +91,8 @@ mag-under f (inf s) t u = absurd u
 mag-under f (fin s m e) t u =
     lt-of-mul-lt-mul-right (down e)
     (subst (λ (z : ℕ). z < overflow f * down e) (mag-is f s m e t)
-    (subst (λ (z : ℕ). m * up e * 2 ^ low f < z) (mul-right-comm (2 ^ suc (emax f)) (down e) (2 ^ low f) ∙ ap (λ (z : ℕ). z * down e) (mul-comm (2 ^ suc (emax f)) (2 ^ low f) ∙ sym (pow-add 2 (low f) (suc (emax f)))))
+    (subst (λ (z : ℕ). m * up e * 2 ^ low f < z)
+    (mul-right-comm (2 ^ suc (emax f)) (down e) (2 ^ low f) ∙ ap (λ (z : ℕ). z * down e) (mul-comm (2 ^ suc (emax f)) (2 ^ low f) ∙ sym (pow-add 2 (low f) (suc (emax f)))))
     (mul-lt-mul-of-pos-right (top-fits f s m e t) (pow-pos (low f)))))
 
 pub inf-mag : (f : Format) (s : Bool) → mag f (inf s) ≡ overflow f
@@ -127,8 +129,11 @@ level-is : (s t : Bool) (a b : ℕ) → level s a t b ≡ eqZ (signed s a) (sign
 level-is false false a b = and-true (eqb a b)
 level-is true true a b =
     and-true (eqb a b)
-    ∙ same-test (eqb a b) (eqZ (negℤ (pos a)) (negℤ (pos b)))
-    (λ h. eq→eqZ (negℤ (pos a)) (negℤ (pos b)) (ap (λ (n : ℕ). negℤ (pos n)) (eqb→eq a b h)), λ h. let e = eqZ→eq (negℤ (pos a)) (negℤ (pos b)) h in omega (tests, ints, neg-plus (pos a), neg-less (pos a), neg-plus (pos b), neg-less (pos b)))
+    ∙ same-test (eqb a b) (eqZ (negℤ (pos a)) (negℤ (pos b))) (
+      λ h. eq→eqZ (negℤ (pos a)) (negℤ (pos b)) (ap (λ (n : ℕ). negℤ (pos n)) (eqb→eq a b h)),
+      λ h. let e = eqZ→eq (negℤ (pos a)) (negℤ (pos b)) h in omega
+          (tests, ints, neg-plus (pos a), neg-less (pos a), neg-plus (pos b), neg-less (pos b)),
+    )
 level-is false true a b = zeros a b (pos a) (negℤ (pos b)) (λ p q. omega (ints, neg-plus (pos b), neg-less (pos b))) (λ e. omega (ints, neg-plus (pos b), neg-less (pos b)))
 level-is true false a b = zeros a b (negℤ (pos a)) (pos b) (λ p q. omega (ints, neg-plus (pos a), neg-less (pos a))) (λ e. omega (ints, neg-plus (pos a), neg-less (pos a)))
 
@@ -196,7 +201,8 @@ module _ (f : Format) where
   lt-is (fin s m e) nan p q n k = absurd k
   lt-is (fin s m e) (inf t) p q n k = sym (over t s (mag f (fin s m e)) (overflow f) (mag-under f (fin s m e) p tt))
   lt-is (fin s m e) (fin t n d) p q _ _ =
-      unit-below (m * up e * down d) (n * up d * down e) (mag f (fin s m e)) (mag f (fin t n d)) (2 ^ low f) (down e * down d) (pow-pos (low f)) (mul-pos (down-pos e) (down-pos d)) (side f s m e d p) (other-side f t n d e q) s t
+      unit-below (m * up e * down d) (n * up d * down e) (mag f (fin s m e)) (mag f (fin t n d)) (2 ^ low f) (down e * down d) (pow-pos (low f))
+      (mul-pos (down-pos e) (down-pos d)) (side f s m e d p) (other-side f t n d e q) s t
       ∙ below-is s t (mag f (fin s m e)) (mag f (fin t n d))
 
   pub eq-is : (x y : Float) → T (fits f x) → T (fits f y) → T (number x) → T (number y) → eq x y ≡ eqZ (rank f x) (rank f y)
@@ -208,7 +214,8 @@ module _ (f : Format) where
   eq-is (fin s m e) nan p q n k = absurd k
   eq-is (fin s m e) (inf t) p q n k = sym (apart (rank f (fin s m e)) (signed t (overflow f)) (far t s (mag f (fin s m e)) (overflow f) (mag-under f (fin s m e) p tt)))
   eq-is (fin s m e) (fin t n d) p q _ _ =
-      unit-level (m * up e * down d) (n * up d * down e) (mag f (fin s m e)) (mag f (fin t n d)) (2 ^ low f) (down e * down d) (pow-pos (low f)) (mul-pos (down-pos e) (down-pos d)) (side f s m e d p) (other-side f t n d e q) s t
+      unit-level (m * up e * down d) (n * up d * down e) (mag f (fin s m e)) (mag f (fin t n d)) (2 ^ low f) (down e * down d) (pow-pos (low f))
+      (mul-pos (down-pos e) (down-pos d)) (side f s m e d p) (other-side f t n d e q) s t
       ∙ level-is s t (mag f (fin s m e)) (mag f (fin t n d))
 
   pub le-is : (x y : Float) → T (fits f x) → T (fits f y) → T (number x) → T (number y) → le x y ≡ leZ (rank f x) (rank f y)

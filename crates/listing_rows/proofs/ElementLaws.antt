@@ -29,7 +29,8 @@ pub bytes-more : (columns : List ℕ) (elements : List Float) (i end column : �
     → bytesFrom columns elements i end ≡ length (elementLine column (getD elements i nan)) + bytesFrom columns elements (i + 1) end
 unfolding elementText elementsText elementsOf
 bytes-more columns elements i end column h hc he e =
-    rw (e, add-one i, slice-cons i end columns 0 h hc, slice-cons i end elements nan h he) (length-append (elementLine (getD columns i 0) (getD elements i nan)) (elementsText (elementsFrom columns elements (suc i) end)))
+    rw (e, add-one i, slice-cons i end columns 0 h hc, slice-cons i end elements nan h he)
+    (length-append (elementLine (getD columns i 0) (getD elements i nan)) (elementsText (elementsFrom columns elements (suc i) end)))
 
 -- ---- clipping to what the runs hold
 

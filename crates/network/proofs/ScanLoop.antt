@@ -145,7 +145,8 @@ module _ (file : List ℕ) (at stage n e a v place : ℕ) (h : ScanInvariant fil
       record {
         left = h .left - 1;
         enough = omega (arith, h .enough, d);
-        from = read-on _ x 0 lt (ap (after (networkAt file n e a v) file at) q) ∙ ap (λ (net : Network). readRecords (h .left - 1) file (record { network = net; at = x; stage = 0 })) (with-node file n e a v at x qe qa qv w);
+        from = read-on _ x 0 lt (ap (after (networkAt file n e a v) file at) q)
+            ∙ ap (λ (net : Network). readRecords (h .left - 1) file (record { network = net; at = x; stage = 0 })) (with-node file n e a v at x qe qa qv w);
         virtualStorages = s ∙ sym (end-none (aggregateEnd file) a (20 * (n + 1) + 6 * e) qa);
         stands = sym (end-none (virtualStorageEnd file) v x qv);
         no-edges = λ _. qe;
@@ -173,7 +174,8 @@ module _ (file : List ℕ) (at stage n e a v place : ℕ) (h : ScanInvariant fil
       record {
         left = h .left - 1;
         enough = omega (arith, h .enough, d);
-        from = read-on _ x 1 lt (ap (after (networkAt file n e a v) file at) q) ∙ ap (λ (net : Network). readRecords (h .left - 1) file (record { network = net; at = x; stage = 1 })) (with-edge file n e a v at x qa qv f);
+        from = read-on _ x 1 lt (ap (after (networkAt file n e a v) file at) q)
+            ∙ ap (λ (net : Network). readRecords (h .left - 1) file (record { network = net; at = x; stage = 1 })) (with-edge file n e a v at x qa qv f);
         virtualStorages = s ∙ sym (end-none (aggregateEnd file) a (20 * n + 6 * (e + 1)) qa);
         stands = sym (end-none (virtualStorageEnd file) v x qv);
         no-edges = λ l. absurd (omega (arith, l));
@@ -190,7 +192,8 @@ module _ (file : List ℕ) (at stage n e a v place : ℕ) (h : ScanInvariant fil
         virtual-storages-pass = none-pass (λ i. checkVirtualStorage file n) (virtualStorageEnd file) v _ qv;
       }
 
-  pub aggregate-more : (x : ℕ) → at < length file → checkRecord file at n e a v stage ≡ Record.Aggregate x → RecordPassed file at n e a v stage (Record.Aggregate x) → ScanInvariant file x 2 n e (a + 1) v x
+  pub aggregate-more : (x : ℕ) → at < length file → checkRecord file at n e a v stage ≡ Record.Aggregate x
+      → RecordPassed file at n e a v stage (Record.Aggregate x) → ScanInvariant file x 2 n e (a + 1) v x
   aggregate-more x lt q t =
       let qv = h .no-virtual-storages (omega (arith, t .0)) in
       let w : at ≡ recordsEnd (aggregateEnd file) a (20 * n + 6 * e) = h .stands ∙ end-none (virtualStorageEnd file) v place qv ∙ h .virtualStorages in
@@ -199,7 +202,8 @@ module _ (file : List ℕ) (at stage n e a v place : ℕ) (h : ScanInvariant fil
       record {
         left = h .left - 1;
         enough = omega (arith, h .enough, d, g);
-        from = read-on _ x 2 lt (ap (after (networkAt file n e a v) file at) q) ∙ ap (λ (net : Network). readRecords (h .left - 1) file (record { network = net; at = x; stage = 2 })) (with-aggregate file n e a v at x qv w);
+        from = read-on _ x 2 lt (ap (after (networkAt file n e a v) file at) q)
+            ∙ ap (λ (net : Network). readRecords (h .left - 1) file (record { network = net; at = x; stage = 2 })) (with-aggregate file n e a v at x qv w);
         virtualStorages = d ∙ ap (aggregateEnd file) w ∙ sym (end-more (aggregateEnd file) a (20 * n + 6 * e));
         stands = sym (end-none (virtualStorageEnd file) v x qv);
         no-edges = λ l. absurd (omega (arith, l));
@@ -216,14 +220,16 @@ module _ (file : List ℕ) (at stage n e a v place : ℕ) (h : ScanInvariant fil
         virtual-storages-pass = none-pass (λ i. checkVirtualStorage file n) (virtualStorageEnd file) v _ qv;
       }
 
-  pub virtual-storage-more : (x : ℕ) → at < length file → checkRecord file at n e a v stage ≡ Record.VirtualStorage x → RecordPassed file at n e a v stage (Record.VirtualStorage x) → ScanInvariant file x 3 n e a (v + 1) place
+  pub virtual-storage-more : (x : ℕ) → at < length file → checkRecord file at n e a v stage ≡ Record.VirtualStorage x
+      → RecordPassed file at n e a v stage (Record.VirtualStorage x) → ScanInvariant file x 3 n e a (v + 1) place
   virtual-storage-more x lt q t =
       let w : at ≡ recordsEnd (virtualStorageEnd file) v (aggregateStart file n e a) = h .stands ∙ ap (recordsEnd (virtualStorageEnd file) v) (h .virtualStorages) in
       let d = virtual-storage-end file n at x (t .2) in
       record {
         left = h .left - 1;
         enough = omega (arith, h .enough, d);
-        from = read-on _ x 3 lt (ap (after (networkAt file n e a v) file at) q) ∙ ap (λ (net : Network). readRecords (h .left - 1) file (record { network = net; at = x; stage = 3 })) (with-virtual-storage file n e a v at x w);
+        from = read-on _ x 3 lt (ap (after (networkAt file n e a v) file at) q)
+            ∙ ap (λ (net : Network). readRecords (h .left - 1) file (record { network = net; at = x; stage = 3 })) (with-virtual-storage file n e a v at x w);
         virtualStorages = h .virtualStorages;
         stands = d ∙ ap (virtualStorageEnd file) (h .stands) ∙ sym (end-more (virtualStorageEnd file) v place);
         no-edges = λ l. absurd (omega (arith, l));

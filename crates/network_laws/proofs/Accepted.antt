@@ -27,4 +27,5 @@ module _ (file : List ℕ) (n e a v place : ℕ) (h : Sections file n e a v plac
   aggregate-accepted k lt = aggregate-passed file n _ _ (h .aggregates-pass k lt)
 
   pub virtual-storage-accepted : (k : ℕ) → k < v → VirtualStoragePassed file n (virtualStorageStart file n e a k)
-  virtual-storage-accepted k lt = subst (λ (at : ℕ). VirtualStoragePassed file n (recordsEnd (virtualStorageEnd file) k at)) (h .virtualStorages) (virtual-storage-passed file n _ _ (h .virtual-storages-pass k lt))
+  virtual-storage-accepted k lt = subst (λ (at : ℕ). VirtualStoragePassed file n (recordsEnd (virtualStorageEnd file) k at)) (h .virtualStorages)
+      (virtual-storage-passed file n _ _ (h .virtual-storages-pass k lt))

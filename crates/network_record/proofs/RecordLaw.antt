@@ -74,22 +74,27 @@ module _ (net : Network) (file : List ℕ) (at stage : ℕ) where
   unfolding inOrder
   in-order m t K h = in-order-at (leb stage (rank m)) m t K refl h
 
-  node-last : (st : Checked) → ((answer (nodeAt file at) st >>= λ r. value (withNode net r)) >>= λ read. value (record { network = read .item; at = read .next; stage = 0 })) ≡ after net file at (recordOf 0 st)
+  node-last : (st : Checked) → ((answer (nodeAt file at) st >>= λ r. value (withNode net r)) >>= λ read. value
+      (record { network = read .item; at = read .next; stage = 0 })) ≡ after net file at (recordOf 0 st)
   unfolding _>>=_ withNode
   node-last (Checked.Next x) = refl
   node-last (Checked.Refused n p) = refl
 
-  edge-last : (st : Checked) → ((answer (edgeAt file at) st >>= λ r. value (withEdge net r)) >>= λ read. value (record { network = read .item; at = read .next; stage = 1 })) ≡ after net file at (recordOf 1 st)
+  edge-last : (st : Checked) → ((answer (edgeAt file at) st >>= λ r. value (withEdge net r)) >>= λ read. value
+      (record { network = read .item; at = read .next; stage = 1 })) ≡ after net file at (recordOf 1 st)
   unfolding _>>=_ withEdge
   edge-last (Checked.Next x) = refl
   edge-last (Checked.Refused n p) = refl
 
-  aggregate-last : (st : Checked) → ((answer (aggregateAt file at) st >>= λ r. value (withAggregate net r)) >>= λ read. value (record { network = read .item; at = read .next; stage = 2 })) ≡ after net file at (recordOf 2 st)
+  aggregate-last : (st : Checked) → ((answer (aggregateAt file at) st >>= λ r. value (withAggregate net r)) >>= λ read. value
+      (record { network = read .item; at = read .next; stage = 2 })) ≡ after net file at (recordOf 2 st)
   unfolding _>>=_ withAggregate
   aggregate-last (Checked.Next x) = refl
   aggregate-last (Checked.Refused n p) = refl
 
-  virtual-storage-last : (st : Checked) → ((answer (virtualStorageAt file at) st >>= λ r. value (withVirtualStorage net r)) >>= λ read. value (record { network = read .item; at = read .next; stage = 3 })) ≡ after net file at (recordOf 3 st)
+  virtual-storage-last : (st : Checked) →
+      ((answer (virtualStorageAt file at) st >>= λ r. value (withVirtualStorage net r)) >>= λ read. value
+      (record { network = read .item; at = read .next; stage = 3 })) ≡ after net file at (recordOf 3 st)
   unfolding _>>=_ withVirtualStorage
   virtual-storage-last (Checked.Next x) = refl
   virtual-storage-last (Checked.Refused n p) = refl

@@ -22,9 +22,12 @@ use Rattle.pywr.specs.Build.{assemble, programmeOf}
 use Rattle.pywr.specs.StepFile.{StepFile, readStep}
 use Rattle.pywr.specs.StepIntervals.{intervals, Intervals, ordered}
 use Rattle.pywr.specs.Step.{periods, stepped}
-use Rattle.pywr.specs.Store.{Store, storeHasRoom, sentinelCode, nodeCount, edgeCount, nodeRowCount, aggregateCount, virtualStorageCount, rowCount, nodesAt, edgesAt, nodeRowsAt, aggregatesAt, virtualStoragesAt, nodeEntry, edgeEntry, nodeRowEntry, virtualStorageEntry, shapeOf, startOf, columnsOfRow, programmeIn}
+use Rattle.pywr.specs.Store.{Store, storeHasRoom, sentinelCode, nodeCount, edgeCount, nodeRowCount, aggregateCount, virtualStorageCount}
+use Rattle.pywr.specs.Store.{rowCount, nodesAt, edgesAt, nodeRowsAt, aggregatesAt, virtualStoragesAt, nodeEntry, edgeEntry}
+use Rattle.pywr.specs.Store.{nodeRowEntry, virtualStorageEntry, shapeOf, startOf, columnsOfRow, programmeIn}
 use Rattle.pywr.specs.Misshapen.{countsFit, startsRise, rowColumnsRise, nodeFits, edgeFits, nodeRowFits, aggregateFits, virtualStorageFits, allEntries, wellShaped}
-use Rattle.pywr.specs.Written.{nodeWords, edgeWords, nodeRowWords, virtualStorageWords, countWords, shapeAfter, startsFrom, columnsIn, valuesIn, lowerOf, upperOf, rowsOf, builtStore, steppedStore}
+use Rattle.pywr.specs.Written.{nodeWords, edgeWords, nodeRowWords, virtualStorageWords, countWords, shapeAfter, startsFrom}
+use Rattle.pywr.specs.Written.{columnsIn, valuesIn, lowerOf, upperOf, rowsOf, builtStore, steppedStore}
 use Rattle.pywr.specs.Calls.{buildAnswer, buildStore, workNeeded, stepRoom, stepRead, stepIntervals, stepAnswer, storeOfStep, stepStore, isAccepted, rowAnswer}
 use Rattle.pywr.specs.Correspondence.{Call, storeAfter, periodsOf, readBy}
 use Rattle.pywr.proofs.ReadLaws.{Sound, read-sound}
@@ -108,7 +111,15 @@ steps-keep [] s = record { shaped = refl; room = refl; shape = refl; sentinel = 
 steps-keep (c ∷ cs) s =
     let a = step-keeps s (stepAnswer s (c .file) (c .work)) in
     let b = steps-keep cs (stepStore s (c .file) (c .work)) in
-    record { shaped = b .shaped ∙ a .shaped; room = b .room ∙ a .room; shape = b .shape ∙ a .shape; sentinel = b .sentinel ∙ a .sentinel; count = b .count ∙ a .count; part = λ r. b .part r ∙ a .part r }
+    record {
+      shaped = b .shaped ∙ a .shaped;
+      room = b .room ∙ a .room;
+      shape = b .shape ∙ a .shape;
+      sentinel = b .sentinel ∙ a .sentinel;
+      count = b .count
+          ∙ a .count;
+      part = λ r. b .part r ∙ a .part r;
+    }
 
 -- ---- when a step is accepted
 
@@ -182,28 +193,34 @@ module _ (networkFile : List ℕ) (w : Sentinel) (old : Store) (words : List ℕ
   -- no step on it, and no reading of a row, is refused with 17
   pub build-shaped : (calls : List Call) → wellShaped (after calls) ≡ true
   build-shaped calls =
-      steps-keep calls (buildStore w networkFile old words numbers) .shaped ∙ ap wellShaped (built .store) ∙ to-true (wellShaped (builtStore old (programmeOf w net))) (shaped w net sound old (built .room) (built .under))
+      steps-keep calls (buildStore w networkFile old words numbers) .shaped ∙ ap wellShaped (built .store)
+      ∙ to-true (wellShaped (builtStore old (programmeOf w net))) (shaped w net sound old (built .room) (built .under))
 
   pub build-roomy : (calls : List Call) → storeHasRoom (after calls) ≡ true
-  build-roomy calls = steps-keep calls (buildStore w networkFile old words numbers) .room ∙ ap storeHasRoom (built .store) ∙ built-room old (programmeOf w net) ∙ to-true (storeHasRoom old) (built .fits)
+  build-roomy calls = steps-keep calls (buildStore w networkFile old words numbers) .room ∙ ap storeHasRoom (built .store) ∙ built-room old (programmeOf w net)
+      ∙ to-true (storeHasRoom old) (built .fits)
 
   shape-is : (calls : List Call) → shapeOf (after calls) ≡ programmeOf w net .shape
   shape-is calls = steps-keep calls (buildStore w networkFile old words numbers) .shape ∙ ap shapeOf (built .store) ∙ held w net sound old (built .room) (built .under) .shape
 
   sentinel-is : (calls : List Call) → programmeIn (after calls) .sentinel ≡ w
   unfolding programmeIn programmeOf assemble
-  sentinel-is calls = steps-keep calls (buildStore w networkFile old words numbers) .sentinel ∙ ap (λ (s : Store). programmeIn s .sentinel) (built .store) ∙ held w net sound old (built .room) (built .under) .sentinel
+  sentinel-is calls = steps-keep calls (buildStore w networkFile old words numbers) .sentinel ∙ ap (λ (s : Store). programmeIn s .sentinel) (built .store)
+      ∙ held w net sound old (built .room) (built .under) .sentinel
 
   -- "Order .. Step: 16, 17, file left to right, 14, 15": here 16 and 17 never come, so the answer is the file's alone, refusals and places too, as the network reads it
-  pub file-answers : (calls : List Call) (file : List ℕ) (work : List Float) → workNeeded ≤ length work → stepAnswer (after calls) file work ≡ afterReading (intervals w (periodsOf net)) (readBy net file)
+  pub file-answers : (calls : List Call) (file : List ℕ) (work : List Float) → workNeeded ≤ length work
+      → stepAnswer (after calls) file work ≡ afterReading (intervals w (periodsOf net)) (readBy net file)
   unfolding stepIntervals
   file-answers calls file work long =
       step-answers (after calls) file work (of-true (storeHasRoom (after calls)) (build-roomy calls)) long (of-true (wellShaped (after calls)) (build-shaped calls))
-      ∙ ap₂ (λ (s : Sentinel) (q : Shape). afterReading (intervals s (periods q)) (readStep (q .nodes) (length (q .aggregates)) (length (q .virtualStorages)) file)) (sentinel-is calls) (shape-is calls)
+      ∙ ap₂ (λ (s : Sentinel) (q : Shape). afterReading (intervals s (periods q))
+      (readStep (q .nodes) (length (q .aggregates)) (length (q .virtualStorages)) file)) (sentinel-is calls) (shape-is calls)
       ∙ ap₂ (λ (ps : List Period) (r : Result StepFile). afterReading (intervals w ps) r) (periods-are w net idle) (read-alike w net idle file)
 
   -- so a step file that reads well with ordered intervals is accepted
-  pub file-accepted : (calls : List Call) (file : List ℕ) (work : List Float) (f : StepFile) (i : Intervals) → workNeeded ≤ length work → readBy net file ≡ value f → ordered (intervals w (periodsOf net) f) ≡ value i
+  pub file-accepted : (calls : List Call) (file : List ℕ) (work : List Float) (f : StepFile) (i : Intervals) → workNeeded ≤ length work
+      → readBy net file ≡ value f → ordered (intervals w (periodsOf net) f) ≡ value i
       → stepAnswer (after calls) file work ≡ value f
   unfolding afterReading
   file-accepted calls file work f i long read order = file-answers calls file work long ∙ bind-is _ _ f (value f) read (bind-is _ _ i (value f) order refl)

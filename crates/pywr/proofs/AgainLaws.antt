@@ -161,9 +161,11 @@ module _ (w : Sentinel) (e : ℕ) (is : List Interval) where
       (adjust-twice (byNode n) (withCoefficient (e + n .set) y) (n .row) rows
       ∙ adjust-alike (λ r. byNode n (withCoefficient (e + n .set) y r)) (byNode n) (assign-again (n .rowType) (e + n .set) (getD is (n .node) (sentinels w)) y b) (n .row) rows))
   node-rows-forget n y b (m ∷ ns) (List·Memᴰ·tail k) rows =
-      go (rows-either (byNode m) (withCoefficient (e + n .set) y) (m .row) (n .row) (assign-either (m .rowType) (e + m .set) (e + n .set) (getD is (m .node) (sentinels w)) y)) (λ a. node-rows-forget n y b ns k a)
+      go (rows-either (byNode m) (withCoefficient (e + n .set) y) (m .row) (n .row)
+      (assign-either (m .rowType) (e + m .set) (e + n .set) (getD is (m .node) (sentinels w)) y)) (λ a. node-rows-forget n y b ns k a)
     where
-      go : Either (adjust (byNode m) (m .row)) (adjust (withCoefficient (e + n .set) y) (n .row)) → ((a : List Row) → applyNodeRows w e is ns (adjust (withCoefficient (e + n .set) y) (n .row) a) ≡ applyNodeRows w e is ns a)
+      go : Either (adjust (byNode m) (m .row)) (adjust (withCoefficient (e + n .set) y) (n .row))
+          → ((a : List Row) → applyNodeRows w e is ns (adjust (withCoefficient (e + n .set) y) (n .row) a) ≡ applyNodeRows w e is ns a)
           → applyNodeRows w e is ns (adjust (byNode m) (m .row) (adjust (withCoefficient (e + n .set) y) (n .row) rows)) ≡ applyNodeRows w e is ns (adjust (byNode m) (m .row) rows)
       go (inl q) ih = ap (applyNodeRows w e is ns) (q rows)
       go (inr q) ih = ap (applyNodeRows w e is ns) (q rows) ∙ ih (adjust (byNode m) (m .row) rows)
@@ -215,7 +217,8 @@ module _ (w : Sentinel) (e : ℕ) (is js : List Interval) (ns : List NodeRow) wh
 pub step-again : (w : Sentinel) (shape : Shape) (i j : Intervals) (rows : List Row) → stepRows w shape i (stepRows w shape j rows) ≡ stepRows w shape i rows
 unfolding stepRows
 step-again w shape i j rows =
-    let rest : List Row → List Row = (λ (a : List Row). applyIntervals (map rowOf (shape .virtualStorages)) (i .virtualStorages) (applyIntervals (shape .aggregates) (i .aggregates) (applyNodeRows w (shape .edgeColumns) (i .nodes) (shape .nodeRows) a))) in
+    let rest : List Row → List Row = (λ (a : List Row). applyIntervals (map rowOf (shape .virtualStorages)) (i .virtualStorages)
+    (applyIntervals (shape .aggregates) (i .aggregates) (applyNodeRows w (shape .edgeColumns) (i .nodes) (shape .nodeRows) a))) in
     ap rest (reset-intervals (sentinels w) _ _ _ ∙ reset-intervals (sentinels w) _ _ _)
     ∙ ap (λ (a : List Row). applyIntervals (map rowOf (shape .virtualStorages)) (i .virtualStorages) (applyIntervals (shape .aggregates) (i .aggregates) a))
     (all-forgotten w (shape .edgeColumns) (i .nodes) (j .nodes) (shape .nodeRows) (shape .nodeRows) (λ n m. m) (map (withBounds (sentinels w)) rows))

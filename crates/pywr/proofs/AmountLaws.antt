@@ -17,7 +17,8 @@ use Rattle.doubles.proofs.Sums.{neg-grain, one-grain}
 use Rattle.pywr.specs.Numbers.{one64}
 use Rattle.pywr.specs.Network.{output, storage, Edge, Aggregate, Part, VirtualStorage, Network, kindOf, keepIf, source, target}
 use Rattle.pywr.specs.ColEdgeMap.{columns, MappedEdge, withColumns, mappedEdges}
-use Rattle.pywr.specs.Rows.{Element, addOn, ColumnMap, columnMap, columnsWith, columnsInto, columnsOutOf, addNode, nodeRow, massRow, addNodes, addSetsOf, aggregateRow, addParts, virtualStorageRow}
+use Rattle.pywr.specs.Rows.{Element, addOn, ColumnMap, columnMap, columnsWith, columnsInto, columnsOutOf, addNode}
+use Rattle.pywr.specs.Rows.{nodeRow, massRow, addNodes, addSetsOf, aggregateRow, addParts, virtualStorageRow}
 use Rattle.pywr.specs.Plans.{exact, Plan, unitsInOne, signed, timesOne}
 use Rattle.pywr.specs.Allows.{flowWith, inflow, outflow, nodeAmount, nodesAmount, setsAmount, partsSum}
 use Rattle.pywr.specs.Admits.{onColumn, rowSum}
@@ -166,7 +167,8 @@ module _ (net : Network) (plan : Plan) (long : length (net .edges) ≡ length (c
         us-out : AllUpto g (b + length (columnsOutOf n (mappedEdges net)) * m) (addOn (columnsOutOf n (mappedEdges net)) x row)
         us-out = add-on-upto f plan (columnsOutOf n (mappedEdges net)) x m u b row us out-room
 
-        us-both : AllUpto g (b + length (columnsInto n (mappedEdges net)) * m + length (columnsOutOf n (mappedEdges net)) * m) (addOn (columnsOutOf n (mappedEdges net)) (neg x) (addOn (columnsInto n (mappedEdges net)) x row))
+        us-both : AllUpto g (b + length (columnsInto n (mappedEdges net)) * m + length (columnsOutOf n (mappedEdges net)) * m)
+            (addOn (columnsOutOf n (mappedEdges net)) (neg x) (addOn (columnsInto n (mappedEdges net)) x row))
         us-both =
             add-on-upto f plan (columnsOutOf n (mappedEdges net)) (neg x) m (neg-upto m x u) (b + length (columnsInto n (mappedEdges net)) * m) (addOn (columnsInto n (mappedEdges net)) x row) us-in
             (let h = out-few n m in let k = into-few n m in omega arith)
@@ -179,7 +181,8 @@ module _ (net : Network) (plan : Plan) (long : length (net .edges) ≡ length (c
         go false true =
             all-wider (b + length (columnsInto n (mappedEdges net)) * m + length (columnsOutOf n (mappedEdges net)) * m) (b + (E * m + E * m))
             (addOn (columnsOutOf n (mappedEdges net)) (neg x) (addOn (columnsInto n (mappedEdges net)) x row)) (let h = into-few n m in let k = out-few n m in omega arith) us-both
-        go false false = all-wider (b + length (columnsOutOf n (mappedEdges net)) * m) (b + (E * m + E * m)) (addOn (columnsOutOf n (mappedEdges net)) x row) (let h = out-few n m in omega arith) us-out
+        go false false = all-wider (b + length (columnsOutOf n (mappedEdges net)) * m) (b + (E * m + E * m)) (addOn (columnsOutOf n (mappedEdges net)) x row)
+            (let h = out-few n m in omega arith) us-out
 
   -- the room that one node takes at most
   abbrev share : ℕ → ℕ

@@ -10,7 +10,8 @@ use Rattle.pywr.specs.Result.{refused}
 use Rattle.pywr.specs.Store.{Store}
 use Rattle.pywr.specs.Calls.{cleared, buildAnswer, storeOfBuild, buildStore, stepAnswer, storeOfStep, stepStore}
 
-pub build-refused : (s : Sentinel) (file : List ℕ) (old : Store) (words : List ℕ) (numbers : List Float) (n p : ℕ) → buildAnswer s file old words numbers ≡ refused n p → buildStore s file old words numbers ≡ old
+pub build-refused : (s : Sentinel) (file : List ℕ) (old : Store) (words : List ℕ) (numbers : List Float) (n p : ℕ)
+    → buildAnswer s file old words numbers ≡ refused n p → buildStore s file old words numbers ≡ old
 unfolding buildStore storeOfBuild
 build-refused s file old words numbers n p e = ap (storeOfBuild old) e
 

@@ -43,7 +43,8 @@ nonneg-times-one z = ap₂ (λ (a b : ℤ). leZ a b) (sym (*ℤ-zero (pos unitsI
 pub times-one-less : (a b : ℤ) → timesOne a +ℤ (negℤ (pos unitsInOne) *ℤ b +ℤ pos 0) ≡ timesOne (a -ℤ b)
 unfolding timesOne
 times-one-less a b =
-    ap (λ (y : ℤ). a *ℤ pos unitsInOne +ℤ y) (+ℤ-idr (negℤ (pos unitsInOne) *ℤ b) ∙ *ℤ-comm (negℤ (pos unitsInOne)) b ∙ mul-negℤ b (pos unitsInOne) ∙ sym (neg-mulℤ b (pos unitsInOne))) ∙ sym (add-mulℤ a (negℤ b) (pos unitsInOne))
+    ap (λ (y : ℤ). a *ℤ pos unitsInOne +ℤ y) (+ℤ-idr (negℤ (pos unitsInOne) *ℤ b) ∙ *ℤ-comm (negℤ (pos unitsInOne)) b ∙ mul-negℤ b (pos unitsInOne)
+    ∙ sym (neg-mulℤ b (pos unitsInOne))) ∙ sym (add-mulℤ a (negℤ b) (pos unitsInOne))
 
 pub less-times-one : (a b : ℤ) → timesOne (negℤ a) +ℤ (pos unitsInOne *ℤ b +ℤ pos 0) ≡ timesOne (b -ℤ a)
 unfolding timesOne
@@ -157,13 +158,15 @@ module _ (n : ℕ) (h : n ≤ 2 ^ 53) where
   unfolding low
   not-low w t =
       let b : IsBound (high w) = high-bound w in
-      let k : T (leZ (pos (n * unitsInOne)) (negℤ (pos (mag binary64 (high w))))) = subst T (ap₂ (λ (y z : ℤ). leZ y z) whole-rank (neg-rank binary64 (high w) (b .1) ∙ ap negℤ (high-rank w))) (le→Z binary64 (double n) (neg (high w)) (double-bound n) (neg-num binary64 (high w) b) t) in
+      let k : T (leZ (pos (n * unitsInOne)) (negℤ (pos (mag binary64 (high w))))) = subst T
+      (ap₂ (λ (y z : ℤ). leZ y z) whole-rank (neg-rank binary64 (high w) (b .1) ∙ ap negℤ (high-rank w))) (le→Z binary64 (double n) (neg (high w)) (double-bound n) (neg-num binary64 (high w) b) t) in
       let m : ℕ = mag binary64 (high w) in
       omega (ints, high-far w, neg-plus (pos m), neg-less (pos m))
 
   not-high : (w : Sentinel) → n ≤ 1000 → T (le (high w) (double n)) → ⊥
   not-high w l t =
-      let k : T (leZ (pos (mag binary64 (high w))) (pos (n * unitsInOne))) = subst T (ap₂ (λ (y z : ℤ). leZ y z) (high-rank w) whole-rank) (le→Z binary64 (high w) (double n) (high-bound w) (double-bound n) t) in
+      let k : T (leZ (pos (mag binary64 (high w))) (pos (n * unitsInOne))) = subst T (ap₂ (λ (y z : ℤ). leZ y z) (high-rank w) whole-rank)
+      (le→Z binary64 (high w) (double n) (high-bound w) (double-bound n) t) in
       omega (tests, high-far w, mul-le-mul-right unitsInOne l)
 
 -- "min_active..max_active": a bound that is the double of a whole number, against a count
@@ -173,8 +176,11 @@ module _ (w : Sentinel) (k : ℕ) (small : k ≤ 100) where
 
   times-one-le : (a b : ℕ) → T (leZ (timesOne (pos (a * unitsInOne))) (timesOne (pos (b * unitsInOne)))) ↔ (a ≤ b)
   unfolding timesOne
-  times-one-le a b =
-      (λ h. le-of-mul-le-mul-right (le-of-mul-le-mul-right (leb→le (a * unitsInOne * unitsInOne) (b * unitsInOne * unitsInOne) h) units-pos) units-pos, λ h. le→leb (a * unitsInOne * unitsInOne) (b * unitsInOne * unitsInOne) (mul-le-mul-right unitsInOne (mul-le-mul-right unitsInOne h)))
+  times-one-le a b = (
+    λ h. le-of-mul-le-mul-right (le-of-mul-le-mul-right (leb→le (a * unitsInOne * unitsInOne) (b * unitsInOne * unitsInOne) h) units-pos) units-pos,
+    λ h.
+        le→leb (a * unitsInOne * unitsInOne) (b * unitsInOne * unitsInOne) (mul-le-mul-right unitsInOne (mul-le-mul-right unitsInOne h)),
+  )
 
   lower-at : (n : ℕ) → n ≤ 101 → T (lowerMet w (double n) v) ↔ (n ≤ k)
   unfolding lowerMet
@@ -210,8 +216,11 @@ module _ (w : Sentinel) (k : ℕ) (small : k ≤ 100) where
           omega arith
 
   upper-count : (m : ℕ) → T (upperMet w (double m) v) ↔ T (leb k m)
-  upper-count m =
-      (λ h. by-cases (leb k m) (λ t. t) (λ t. absurd (under (nleb→lt k m t) h)), λ t. upper-mono w (double k) (double m) v (double-bound k) (double-bound m) (double-order k m (leb→le k m t)) (upper-at k small .1 (le-refl k)))
+  upper-count m = (
+    λ h. by-cases (leb k m) (λ t. t) (λ t. absurd (under (nleb→lt k m t) h)),
+    λ t. upper-mono w (double k) (double m) v (double-bound k) (double-bound m)
+        (double-order k m (leb→le k m t)) (upper-at k small .1 (le-refl k)),
+  )
     where
       under : suc m ≤ k → T (upperMet w (double m) v) → ⊥
       under l h = let g : k ≤ m = upper-at m (omega arith) .0 h in omega arith

@@ -95,7 +95,8 @@ membership-total : (k a m : ℕ) (ss : List (List ℕ)) → sumFrom (λ n. lengt
 unfolding memberships
 membership-total k a m [] = subst (λ (j : ℕ). j ≤ 0) (sym (sum-same (λ n. length (setsWithNode n k [])) (λ n. 0) (λ n. membership-none n k) a m ∙ sum-none a m)) zero-le
 membership-total k a m (s ∷ ss) =
-    let e = sum-same (λ n. length (setsWithNode n k (s ∷ ss))) (λ n. length (timesIn n k s) + length (setsWithNode n (suc k) ss)) (λ n. membership-length n k s ss) a m ∙ sum-two (λ n. length (timesIn n k s)) (λ n. length (setsWithNode n (suc k) ss)) a m in
+    let e = sum-same (λ n. length (setsWithNode n k (s ∷ ss))) (λ n. length (timesIn n k s) + length (setsWithNode n (suc k) ss))
+    (λ n. membership-length n k s ss) a m ∙ sum-two (λ n. length (timesIn n k s)) (λ n. length (setsWithNode n (suc k) ss)) a m in
     let h = times-total k a m s in
     let ih = membership-total (suc k) a m ss in
     subst (λ (j : ℕ). j ≤ length s + memberships ss) (sym e) (omega arith)
@@ -133,7 +134,8 @@ pub sets-under : (net : Network) (p : Programme) → T (underCeilings (columnMap
 unfolding underCeilings columnMap
 sets-under net p under =
     let sets : ℕ = length (exclusiveSets net) in
-    leb→le sets 128 (and-l (leb sets 128) (leb (length (p .varying) + length (p .fixed)) 1024) (and-l (leb sets 128 && leb (length (p .varying) + length (p .fixed)) 1024) (leb (elementCount (p .varying) + elementCount (p .fixed)) 4096) under))
+    leb→le sets 128 (and-l (leb sets 128) (leb (length (p .varying) + length (p .fixed)) 1024)
+    (and-l (leb sets 128 && leb (length (p .varying) + length (p .fixed)) 1024) (leb (elementCount (p .varying) + elementCount (p .fixed)) 4096) under))
 
 pub requests-few : (net : Network) → Good net → length (exclusiveSets net) ≤ 128 → length (requestsFrom (columnMap net) 0 (net .nodes)) ≤ nodeRowCeiling
 unfolding columnMap

@@ -28,7 +28,8 @@ use Rattle.pywr.specs.Calls.{wordsNeeded, numbersNeeded, buildRoom, buil
 use Rattle.pywr.specs.Plans.{Plan}
 use Rattle.pywr.specs.Allows.{allows}
 use Rattle.pywr.specs.Admits.{admits}
-use Rattle.pywr.specs.Correspondence.{storeAfter, Report, reports, lastAccepted, periodsOf, readBy, allowsRead, allowsUnder, networkAllows, programmeAdmits, exclusiveConstant, factorsWhole, anyAccepted, Correspondence}
+use Rattle.pywr.specs.Correspondence.{storeAfter, Report, reports, lastAccepted, periodsOf, readBy, allowsRead}
+use Rattle.pywr.specs.Correspondence.{allowsUnder, networkAllows, programmeAdmits, exclusiveConstant, factorsWhole, anyAccepted, Correspondence}
 use Rattle.pywr.proofs.Represents.{Represents, Roomy, programme-back}
 use Rattle.pywr.proofs.RunLaws.{stepped-lowers, stepped-uppers, after, after-held, bind-value, need-value, Reached, run}
 use Rattle.pywr.proofs.ListLaws.{all-at}
@@ -82,7 +83,8 @@ pub record BuildAccepted (s : Sentinel) (net : Network) (old : Store) (file : Li
   pub under : T (underCeilings (columnMap net) (programmeOf s net .programme))
   pub store : buildStore s file old words numbers ≡ builtStore old (programmeOf s net)
 
-pub build-accepted : (s : Sentinel) (net : Network) (old : Store) (file : List ℕ) (words : List ℕ) (numbers : List Float) → parseNetwork file ≡ value net → isAccepted (buildAnswer s file old words numbers) ≡ true → BuildAccepted s net old file words numbers
+pub build-accepted : (s : Sentinel) (net : Network) (old : Store) (file : List ℕ) (words : List ℕ) (numbers : List Float) → parseNetwork file ≡ value net
+    → isAccepted (buildAnswer s file old words numbers) ≡ true → BuildAccepted s net old file words numbers
 unfolding buildRoom buildAnswer build buildStore storeOfBuild
 build-accepted s net old file words numbers parsed e =
     let v = accepted-value (buildAnswer s file old words numbers) e in
@@ -122,7 +124,8 @@ unfolding lastAccepted anyAccepted
 last-some [] o h = absurd h
 last-some (t ∷ ts) o h = go (t .accepted) h (λ k q. last-some ts k q)
   where
-    go : (b : Bool) → T (b || anyAccepted ts) → ((k : Option (List ℕ)) → T (anyAccepted ts) → (g : List ℕ) × (lastAccepted k ts ≡ some g)) → (g : List ℕ) × (lastAccepted (cond b (some (t .file)) o) ts ≡ some g)
+    go : (b : Bool) → T (b || anyAccepted ts) → ((k : Option (List ℕ)) → T (anyAccepted ts) → (g : List ℕ) × (lastAccepted k ts ≡ some g)) → (g : List ℕ)
+        × (lastAccepted (cond b (some (t .file)) o) ts ≡ some g)
     go true q ih = last-kept ts (t .file)
     go false q ih = ih o q
 
@@ -174,7 +177,8 @@ module _ (s : Sentinel) (net : Network) (sound : Sound net) (only : OnlyConstant
       let long : length (periodsOf net) ≡ length (net .virtualStorages) = periods-length net in
       let ok : IntervalsOk (length (net .aggregates)) (length (net .virtualStorages)) i =
       subst (λ (k : ℕ). IntervalsOk (length (net .aggregates)) k i) long
-      (intervals-sound s (periodsOf net) (length (net .aggregates)) f (subst (λ (k : ℕ). StepSound (length (net .aggregates)) k f) (sym long) (step-sound _ (length (net .aggregates)) (length (net .virtualStorages)) file f read))) in
+      (intervals-sound s (periodsOf net) (length (net .aggregates)) f
+      (subst (λ (k : ℕ). StepSound (length (net .aggregates)) k f) (sym long) (step-sound _ (length (net .aggregates)) (length (net .virtualStorages)) file f read))) in
       same-test (admits (columnMap net) p plan) (allows s net i plan)
       (step-meets s net sound only whole plan i ok p refl (stepped-lowers (b .shape) f (b .programme)) (stepped-uppers (b .shape) f (b .programme))
       (ap (λ (q : List Period). stepRows s (b .shape) (intervals s q f) (b .programme .varying)) (periods-are s net plan)) refl)
@@ -191,7 +195,8 @@ correspondence networkFile s old words numbers net parsed accepted constant whol
     let held : Represents store b = build-represents s net old networkFile words numbers sound built in
     let ts : List Report = reports store calls in
     let file = last-some ts none (of-true (anyAccepted ts) any) in
-    let u : Reached store b held (some (file .0)) (storeAfter store calls) = subst (λ (o : Option (List ℕ)). Reached store b held o (storeAfter store calls)) (file .1) (run store b held calls store none refl) in
+    let u : Reached store b held (some (file .0)) (storeAfter store calls) = subst (λ (o : Option (List ℕ)). Reached store b held o (storeAfter store calls))
+    (file .1) (run store b held calls store none refl) in
     let read : readBy net (file .0) ≡ value (u .0) = sym (read-alike s net plan (file .0)) ∙ u .1 in
     ap₂ (λ (r : Result Network) (q : Store). programmeAdmits r q plan) parsed (u .2)
     ∙ ap (λ (p : Programme). admits (columnMap net) p plan) (programme-back (storeOfStep store (value (u .0))) (after store b held (u .0)) (after-held store b held (u .0)))

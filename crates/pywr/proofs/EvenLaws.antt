@@ -177,7 +177,8 @@ carried-is plan c a (x ∷ xs) k all i p h q = go (eqb (x .column) c) refl (λ a
     go false e ih (suc j) h′ = ih (λ i y r s. ap (plan .amount) (suc-add k i ∙ sym (add-suc k i)) ∙ all (suc i) y r s) j h′ q
 
 -- balanced links: every edge carries what its column's first edge does
-pub balanced-even : (net : Network) (plan : Plan) → NoSelf net → Balanced net plan → (e : ℕ) (p : MappedEdge) → getElem? (mappedEdges net) e ≡ some p → plan .amount e ≡ carried plan (p .column) 0 (mappedEdges net)
+pub balanced-even : (net : Network) (plan : Plan) → NoSelf net → Balanced net plan → (e : ℕ) (p : MappedEdge) → getElem? (mappedEdges net) e ≡ some p
+    → plan .amount e ≡ carried plan (p .column) 0 (mappedEdges net)
 balanced-even net plan noself bal e p h =
     let ev : Even (plan .amount) (columns net) = columns-even net noself (plan .amount) (passes net plan bal) in
     let pe = mapped-edge-of net noself e p h in
@@ -186,7 +187,8 @@ balanced-even net plan noself bal e p h =
     e p h refl)
 
 -- and then its column carries its amount
-pub carries : (net : Network) (plan : Plan) → NoSelf net → ((e : ℕ) (p : MappedEdge) → getElem? (mappedEdges net) e ≡ some p → plan .amount e ≡ carried plan (p .column) 0 (mappedEdges net)) → Carries net plan
+pub carries : (net : Network) (plan : Plan) → NoSelf net
+    → ((e : ℕ) (p : MappedEdge) → getElem? (mappedEdges net) e ≡ some p → plan .amount e ≡ carried plan (p .column) 0 (mappedEdges net)) → Carries net plan
 unfolding onColumn columnMap
 carries net plan noself even e p h =
     let pe = mapped-edge-of net noself e p h in

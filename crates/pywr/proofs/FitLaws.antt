@@ -115,7 +115,8 @@ node-fit f n x row h = go (kindIs output) (kindIs storage)
     kindIs k = eqb (kindOf (f .nodes) n) k
 
     go : (a b : Bool)
-        → AllFit (cond a (addOn (columnsInto n (f .mappedEdges)) x row) (cond b (addOn (columnsOutOf n (f .mappedEdges)) (neg x) (addOn (columnsInto n (f .mappedEdges)) x row)) (addOn (columnsOutOf n (f .mappedEdges)) x row)))
+        → AllFit (cond a (addOn (columnsInto n (f .mappedEdges)) x row)
+        (cond b (addOn (columnsOutOf n (f .mappedEdges)) (neg x) (addOn (columnsInto n (f .mappedEdges)) x row)) (addOn (columnsOutOf n (f .mappedEdges)) x row)))
     go true b = add-on-fit (columnsInto n (f .mappedEdges)) x row h
     go false true = add-on-fit (columnsOutOf n (f .mappedEdges)) (neg x) _ (add-on-fit (columnsInto n (f .mappedEdges)) x row h)
     go false false = add-on-fit (columnsOutOf n (f .mappedEdges)) x row h
@@ -202,7 +203,9 @@ module _ (net : Network) (only : OnlyConstant net) where
   by-flag false y n = n tt
 
   -- what holds of the varying nodes' rows holds of all that is asked for
-  pub requests-are : (P : RowRequest → Type 0) → Every P (requestsFrom f 0 (net .nodes)) ↔ ((i : ℕ) (x : Node) → getElem? (net .nodes) i ≡ some x → T (not (x .constant)) → P (record { node = i; rowType = continuous; set = 0; row = nodeRow f i }))
+  pub requests-are : (P : RowRequest → Type 0)
+      → Every P (requestsFrom f 0 (net .nodes)) ↔
+      ((i : ℕ) (x : Node) → getElem? (net .nodes) i ≡ some x → T (not (x .constant)) → P (record { node = i; rowType = continuous; set = 0; row = nodeRow f i }))
   requests-are P =
       let each = each-ask f P (net .nodes) 0 in (
         λ h i x e t. subst (Every P) (varying-asks i x e t) (subst (λ (m : ℕ). Every P (asksOf f m x)) (zero-add i) (each .0 h i x e)) .0,
@@ -305,7 +308,8 @@ module _ (w : Sentinel) (net : Network) (plan : Plan) where
             placed-stays g plan (map (aggregateRow g) (net .aggregates)) (forAggregates .places) (map (virtualStorageRow g) (net .virtualStorages)) (record { rows = forAggregates .rows; places = [] })
             (keptA .placed);
         virtualStorages =
-            subst (λ (ps : List ℕ). Placed g plan (forVirtualStorages .rows) (map (virtualStorageRow g) (net .virtualStorages)) ps) (sym (same-virtual-storages (net .virtualStorages) (forVirtualStorages .places) lengthV))
+            subst (λ (ps : List ℕ). Placed g plan (forVirtualStorages .rows) (map (virtualStorageRow g) (net .virtualStorages)) ps)
+            (sym (same-virtual-storages (net .virtualStorages) (forVirtualStorages .places) lengthV))
             (keptV .placed);
       }
 
@@ -321,14 +325,19 @@ pub only-continuous : (w : Sentinel) (net : Network) → OnlyConstant net → Co
 unfolding programmeOf assemble
 only-continuous w net only = placed-continuous (requestsFrom (columnMap net) 0 (net .nodes)) _ (requests-are net only (λ (a : RowRequest). a .rowType ≡ continuous) .1 (λ i x e t. refl))
 
-pub programme-fits : (w : Sentinel) (net : Network) (plan : Plan) → Good net → length (requestsFrom (columnMap net) 0 (net .nodes)) ≤ nodeRowCeiling → T (underCeilings (columnMap net) (programmeOf w net .programme)) → ProgrammeFits (programmeOf w net)
+pub programme-fits : (w : Sentinel) (net : Network) (plan : Plan) → Good net → length (requestsFrom (columnMap net) 0 (net .nodes)) ≤ nodeRowCeiling
+    → T (underCeilings (columnMap net) (programmeOf w net .programme)) → ProgrammeFits (programmeOf w net)
 unfolding underCeilings programmeOf assemble columnMap mappedEdges rowsOf allColumns
 programme-fits w net plan good fewAsks under =
     let p : Programme = programmeOf w net .programme in
     let sets : ℕ = length (exclusiveSets net) in
-    let a = leb→le sets 128 (and-l (leb sets 128) (leb (length (p .varying) + length (p .fixed)) 1024) (and-l (leb sets 128 && leb (length (p .varying) + length (p .fixed)) 1024) (leb (elementCount (p .varying) + elementCount (p .fixed)) 4096) under)) in
-    let b = leb→le (length (p .varying) + length (p .fixed)) 1024 (and-r (leb sets 128) (leb (length (p .varying) + length (p .fixed)) 1024) (and-l (leb sets 128 && leb (length (p .varying) + length (p .fixed)) 1024) (leb (elementCount (p .varying) + elementCount (p .fixed)) 4096) under)) in
-    let c = leb→le (elementCount (p .varying) + elementCount (p .fixed)) 4096 (and-r (leb sets 128 && leb (length (p .varying) + length (p .fixed)) 1024) (leb (elementCount (p .varying) + elementCount (p .fixed)) 4096) under) in
+    let a = leb→le sets 128 (and-l (leb sets 128) (leb (length (p .varying) + length (p .fixed)) 1024)
+    (and-l (leb sets 128 && leb (length (p .varying) + length (p .fixed)) 1024) (leb (elementCount (p .varying) + elementCount (p .fixed)) 4096) under)) in
+    let b = leb→le (length (p .varying) + length (p .fixed)) 1024
+    (and-r (leb sets 128) (leb (length (p .varying) + length (p .fixed)) 1024)
+    (and-l (leb sets 128 && leb (length (p .varying) + length (p .fixed)) 1024) (leb (elementCount (p .varying) + elementCount (p .fixed)) 4096) under)) in
+    let c = leb→le (elementCount (p .varying) + elementCount (p .fixed)) 4096
+    (and-r (leb sets 128 && leb (length (p .varying) + length (p .fixed)) 1024) (leb (elementCount (p .varying) + elementCount (p .fixed)) 4096) under) in
     let most = columns-most net in
     let nn = good .nodeCount in
     let ne = good .edgeCount in

@@ -115,7 +115,8 @@ module _ (w : Sentinel) (net : Network) (sound : Sound net) (plan : Plan) (carri
 
       go : (a b : Bool)
           → Under (columns net .count)
-          (cond a (addOn (columnsInto n (mappedEdges net)) x []) (cond b (addOn (columnsOutOf n (mappedEdges net)) (neg x) (addOn (columnsInto n (mappedEdges net)) x [])) (addOn (columnsOutOf n (mappedEdges net)) x [])))
+          (cond a (addOn (columnsInto n (mappedEdges net)) x [])
+          (cond b (addOn (columnsOutOf n (mappedEdges net)) (neg x) (addOn (columnsInto n (mappedEdges net)) x [])) (addOn (columnsOutOf n (mappedEdges net)) x [])))
       go true b = under-on (columns net .count) (columnsInto n (mappedEdges net)) x [] ins Under.none
       go false true = under-on (columns net .count) (columnsOutOf n (mappedEdges net)) (neg x) _ outs (under-on (columns net .count) (columnsInto n (mappedEdges net)) x [] ins Under.none)
       go false false = under-on (columns net .count) (columnsOutOf n (mappedEdges net)) x [] outs Under.none
@@ -148,7 +149,8 @@ module _ (w : Sentinel) (net : Network) (sound : Sound net) (plan : Plan) (carri
       (λ h. subst T same (z .0 h), λ h. z .1 (subst T (sym same) h))
 
   -- "at most min(max, 1e6) when on and 0 when off"
-  upper-met : (n k : ℕ) (max : Float) → FiniteFit (lesser max million) → Met w f plan (record { lower = zero64; upper = high w; elements = upperRow f n k (upperCoefficient max) }) ↔ T (leZ (nodeAmount net plan n) (onAmount (onSet k) (lesser max million)))
+  upper-met : (n k : ℕ) (max : Float) → FiniteFit (lesser max million)
+      → Met w f plan (record { lower = zero64; upper = high w; elements = upperRow f n k (upperCoefficient max) }) ↔ T (leZ (nodeAmount net plan n) (onAmount (onSet k) (lesser max million)))
   unfolding upperRow upperCoefficient
   upper-met n k max ok =
       let c : Float = lesser max million in
@@ -156,7 +158,8 @@ module _ (w : Sentinel) (net : Network) (sound : Sound net) (plan : Plan) (carri
       (with-coefficient n k (neg one64) c ok ∙ ap (λ (z : ℤ). timesOne (onAmount (onSet k) c) +ℤ z) (minus-node n) ∙ times-one-less (onAmount (onSet k) c) (nodeAmount net plan n))
 
   -- "at least max(min, 1e-6) when on and 0 when off"
-  lower-met : (n k : ℕ) (min : Float) → FiniteFit (neg (greater min millionth)) → Met w f plan (record { lower = zero64; upper = high w; elements = lowerRow f n k (lowerCoefficient min) }) ↔ T (leZ (onAmount (onSet k) (greater min millionth)) (nodeAmount net plan n))
+  lower-met : (n k : ℕ) (min : Float) → FiniteFit (neg (greater min millionth))
+      → Met w f plan (record { lower = zero64; upper = high w; elements = lowerRow f n k (lowerCoefficient min) }) ↔ T (leZ (onAmount (onSet k) (greater min millionth)) (nodeAmount net plan n))
   unfolding lowerRow lowerCoefficient
   lower-met n k min ok =
       let c : Float = greater min millionth in
@@ -174,7 +177,8 @@ module _ (w : Sentinel) (net : Network) (sound : Sound net) (plan : Plan) (carri
 
   -- an exclusive node's rows for one set, whatever its interval
   one-set : (n k : ℕ) (i : Interval) → FiniteFit (lesser (i .upper) million) → FiniteFit (neg (greater (i .lower) millionth))
-      → Every (Met w f plan) (record { lower = zero64; upper = high w; elements = upperRow f n k (upperCoefficient (i .upper)) } ∷ cond (eq (i .lower) zero64) [] (record { lower = zero64; upper = high w; elements = lowerRow f n k (lowerCoefficient (i .lower)) } ∷ [])) ↔ Rule n k i
+      → Every (Met w f plan) (record { lower = zero64; upper = high w; elements = upperRow f n k (upperCoefficient (i .upper)) }
+      ∷ cond (eq (i .lower) zero64) [] (record { lower = zero64; upper = high w; elements = lowerRow f n k (lowerCoefficient (i .lower)) } ∷ [])) ↔ Rule n k i
   unfolding exclusiveMeets
   one-set n k i fu fl =
       let a : Bool = leZ (nodeAmount net plan n) (onAmount (onSet k) (lesser (i .upper) million)) in
@@ -189,7 +193,8 @@ module _ (w : Sentinel) (net : Network) (sound : Sound net) (plan : Plan) (carri
   unfolding exclusiveRows
   exclusive-met n x fu fl [] = (λ h k m. absurd (List·Memᴰ·not-nil m), λ h. tt)
   exclusive-met n x fu fl (k ∷ ks) =
-      both (every-append (Met w f plan) (record { lower = zero64; upper = high w; elements = upperRow f n k (upperCoefficient (x .max)) } ∷ cond (eq (x .min) zero64) [] (record { lower = zero64; upper = high w; elements = lowerRow f n k (lowerCoefficient (x .min)) } ∷ [])) (exclusiveRows w f n x ks))
+      both (every-append (Met w f plan) (record { lower = zero64; upper = high w; elements = upperRow f n k (upperCoefficient (x .max)) }
+      ∷ cond (eq (x .min) zero64) [] (record { lower = zero64; upper = high w; elements = lowerRow f n k (lowerCoefficient (x .min)) } ∷ [])) (exclusiveRows w f n x ks))
       (one-set n k (bounds x) fu fl) (exclusive-met n x fu fl ks)
     where
       both : {P Q R : Type 0} → R ↔ (P × Q) → P ↔ Rule n k (bounds x) → Q ↔ ((j : ℕ) → List·Memᴰ j ks → Rule n j (bounds x)) → R ↔ ((j : ℕ) → List·Memᴰ j (k ∷ ks) → Rule n j (bounds x))
@@ -204,10 +209,13 @@ module _ (w : Sentinel) (net : Network) (sound : Sound net) (plan : Plan) (carri
     pub plain : T (not (isExclusive (net .aggregates) n)) → T (meets w (bounds x) (timesOne (nodeAmount net plan n)))
     pub exclusive : (k : ℕ) → List·Memᴰ k (setsWithNode n 0 (f .sets)) → Rule n k (bounds x)
 
-  constant-one : (n : ℕ) (x : Node) → getElem? (net .nodes) n ≡ some x → T (x .constant) → (l : List ℕ) → setsWithNode n 0 (f .sets) ≡ l → Every (Met w f plan) (constantRows w f n x l) ↔ ConstantMet n x
+  constant-one : (n : ℕ) (x : Node) → getElem? (net .nodes) n ≡ some x → T (x .constant) → (l : List ℕ) → setsWithNode n 0 (f .sets) ≡ l
+      → Every (Met w f plan) (constantRows w f n x l) ↔ ConstantMet n x
   unfolding constantRows columnMap
   constant-one n x e t [] q =
-      let free : T (not (isExclusive (net .aggregates) n)) = not-T (isExclusive (net .aggregates) n) (λ u. let r = exclusive-lists (net .aggregates) n u in List·Memᴰ·not-nil (subst (λ (l : List ℕ). List·Memᴰ (setNumber (r .0) (exclusiveSets net)) l) q (exclusive-listed net n (r .0) (r .1) (r .2)))) in
+      let free : T (not (isExclusive (net .aggregates) n)) = not-T (isExclusive (net .aggregates) n)
+      (λ u. let r = exclusive-lists (net .aggregates) n u in List·Memᴰ·not-nil
+      (subst (λ (l : List ℕ). List·Memᴰ (setNumber (r .0) (exclusiveSets net)) l) q (exclusive-listed net n (r .0) (r .1) (r .2)))) in
       let s = node-amount n in (
         λ h. record { plain = λ u. subst (λ (v : ℤ). T (meets w (bounds x) v)) s (h .0); exclusive = λ k m. absurd (List·Memᴰ·not-nil (subst (λ (l : List ℕ). List·Memᴰ k l) q m)) },
         λ h. (subst (λ (v : ℤ). T (meets w (bounds x) v)) (sym s) (h .plain free), tt),
@@ -224,7 +232,8 @@ module _ (w : Sentinel) (net : Network) (sound : Sound net) (plan : Plan) (carri
   abbrev constantOf : ℕ → Node → List Row
   constantOf n x = cond (x .constant) (constantRows w f n x (setsWithNode n 0 (f .sets))) []
 
-  constant-part : (n : ℕ) (x : Node) → getElem? (net .nodes) n ≡ some x → (b : Bool) → x .constant ≡ b → Every (Met w f plan) (cond b (constantRows w f n x (setsWithNode n 0 (f .sets))) []) ↔ (T (x .constant) → ConstantMet n x)
+  constant-part : (n : ℕ) (x : Node) → getElem? (net .nodes) n ≡ some x → (b : Bool) → x .constant ≡ b
+      → Every (Met w f plan) (cond b (constantRows w f n x (setsWithNode n 0 (f .sets))) []) ↔ (T (x .constant) → ConstantMet n x)
   constant-part n x e true q = let r = constant-one n x e (subst T (sym q) tt) (setsWithNode n 0 (f .sets)) refl in (λ h t. r .0 h, λ h. r .1 (h (subst T (sym q) tt)))
   constant-part n x e false q = (λ h t. absurd (subst T q t), λ h. tt)
 
@@ -253,9 +262,13 @@ module _ (w : Sentinel) (net : Network) (sound : Sound net) (plan : Plan) (carri
       let known : Known (exclusiveSets net) (a .sets) = known-all (exclusiveSets net) (a .sets) (λ s k. from-known net s (record { aggregate = a; known = m; exclusive = t; has = k })) in
       let big : 0 + length (a .sets) ≤ 16 = omega arith in
       let sum = active-sum f plan (a .sets) known 0 [] AllUpto.none (lt-of-le-of-lt big (lit< tt)) in
-      let s : rowSum f plan (addActive f (a .sets) []) ≡ timesOne (pos (onCount plan (a .sets) * unitsInOne)) = sum ∙ +ℤ-idr (exact one64 *ℤ pos (onCount plan (a .sets) * unitsInOne)) ∙ ap (λ (z : ℤ). z *ℤ pos (onCount plan (a .sets) * unitsInOne)) one-exact ∙ units-comm (onCount plan (a .sets)) in
-      let r = count-met w (onCount plan (a .sets)) (let q : onCount plan (a .sets) ≤ 100 = omega arith in q) (a .minActive) (a .maxActive) in
-      (λ h. r .0 (subst (λ (v : ℤ). T (meets w (record { lower = double (a .minActive); upper = double (a .maxActive) }) v)) s h), λ h. subst (λ (v : ℤ). T (meets w (record { lower = double (a .minActive); upper = double (a .maxActive) }) v)) (sym s) (r .1 h))
+      let s : rowSum f plan (addActive f (a .sets) []) ≡ timesOne (pos (onCount plan (a .sets) * unitsInOne)) = sum
+      ∙ +ℤ-idr (exact one64 *ℤ pos (onCount plan (a .sets) * unitsInOne)) ∙ ap (λ (z : ℤ). z *ℤ pos (onCount plan (a .sets) * unitsInOne)) one-exact ∙ units-comm (onCount plan (a .sets)) in
+      let r = count-met w (onCount plan (a .sets)) (let q : onCount plan (a .sets) ≤ 100 = omega arith in q) (a .minActive) (a .maxActive) in (
+        λ h. r .0 (subst (λ (v : ℤ). T (meets w (record { lower = double (a .minActive); upper = double (a .maxActive) }) v)) s h),
+        λ h. subst
+            (λ (v : ℤ). T (meets w (record { lower = double (a .minActive); upper = double (a .maxActive) }) v)) (sym s) (r .1 h),
+      )
 
   abbrev activeOf : ℕ → Aggregate → List Row
   activeOf n a = cond (a .exclusive) (activeRow a ∷ []) []
@@ -284,7 +297,8 @@ module _ (w : Sentinel) (g : ColumnMap) (plan : Plan) where
   set-met n h =
       let k : ℕ = n - g .edgeColumns in
       let e : g .edgeColumns + k ≡ n = omega arith in
-      subst (λ (m : ℕ). T (meets w (record { lower = zero64; upper = one64 }) (timesOne (pos m)))) (sym (ap (onColumn g plan) (sym e) ∙ set-column g plan k)) (zero-one w (plan .on (getD (g .sets) k [])))
+      subst (λ (m : ℕ). T (meets w (record { lower = zero64; upper = one64 }) (timesOne (pos m)))) (sym (ap (onColumn g plan) (sym e) ∙ set-column g plan k))
+      (zero-one w (plan .on (getD (g .sets) k [])))
 
   sets-met : (k n : ℕ) → g .edgeColumns ≤ n → T (allFrom (columnMet w g plan) n (replicate k setColumn))
   unfolding allFrom
@@ -294,7 +308,8 @@ module _ (w : Sentinel) (g : ColumnMap) (plan : Plan) where
   edges-met : (k m n : ℕ) → n + k ≡ g .edgeColumns → T (allFrom (columnMet w g plan) n (replicate k (edgeColumn w) ++ replicate m setColumn))
   unfolding allFrom
   edges-met zero m n h = sets-met m n (omega arith)
-  edges-met (suc k) m n h = and-i (columnMet w g plan n (edgeColumn w)) (allFrom (columnMet w g plan) (suc n) (replicate k (edgeColumn w) ++ replicate m setColumn)) (edge-met n) (edges-met k m (suc n) (omega arith))
+  edges-met (suc k) m n h = and-i (columnMet w g plan n (edgeColumn w))
+      (allFrom (columnMet w g plan) (suc n) (replicate k (edgeColumn w) ++ replicate m setColumn)) (edge-met n) (edges-met k m (suc n) (omega arith))
 
   same-bounds : (cs ds : List Column) (n : ℕ) → map (λ (c : Column). c .lower) cs ≡ map (λ (c : Column). c .lower) ds → map (λ (c : Column). c .upper) cs ≡ map (λ (c : Column). c .upper) ds
       → allFrom (columnMet w g plan) n cs ≡ allFrom (columnMet w g plan) n ds
@@ -309,7 +324,8 @@ module _ (w : Sentinel) (g : ColumnMap) (plan : Plan) where
       let tu : map (λ (x : Column). x .upper) cs ≡ map (λ (x : Column). x .upper) ds = cc in
       ap₂ (λ (a b : Bool). a && b) (ap₂ (λ (x y : Float). meets w (record { lower = x; upper = y }) (timesOne (pos (onColumn g plan n)))) hl hu) (same-bounds cs ds (suc n) tl tu)
 
-  pub columns-met : (cs : List Column) → map (λ (c : Column). c .lower) cs ≡ map (λ (c : Column). c .lower) (allColumns w g) → map (λ (c : Column). c .upper) cs ≡ map (λ (c : Column). c .upper) (allColumns w g)
+  pub columns-met : (cs : List Column) → map (λ (c : Column). c .lower) cs ≡ map (λ (c : Column). c .lower) (allColumns w g)
+      → map (λ (c : Column). c .upper) cs ≡ map (λ (c : Column). c .upper) (allColumns w g)
       → T (allFrom (columnMet w g plan) 0 cs)
   unfolding allColumns
   columns-met cs l u = subst T (sym (same-bounds cs (allColumns w g) 0 l u)) (edges-met (g .edgeColumns) (length (g .sets)) 0 (zero-add (g .edgeColumns)))

@@ -160,7 +160,8 @@ prev-inside net noself e p h =
     let at : p ≡ r .at = r .where-at ∙ zero-add (r .at) in
     let there : getElem? (net .edges) p ≡ some (r .edge) = ap (getElem? (net .edges)) at ∙ r .found in (
       below-length (net .edges) p (r .edge) there,
-      λ q. let g : getElem? (net .edges) e ≡ some (r .edge) = ap (getElem? (net .edges)) (sym q) ∙ there in let f = s .found in let one : s .edge ≡ r .edge = cc in noself e (s .edge) f (sym (r .ends) ∙ ap target (sym one)),
+      λ q. let g : getElem? (net .edges) e ≡ some (r .edge) = ap (getElem? (net .edges)) (sym q)
+          ∙ there in let f = s .found in let one : s .edge ≡ r .edge = cc in noself e (s .edge) f (sym (r .ends) ∙ ap target (sym one)),
     )
 
 -- ---- the columns of a network

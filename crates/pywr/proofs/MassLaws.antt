@@ -70,7 +70,8 @@ unfolding columnsWith keepIf
 column-member end n [] i p h q = let z : _≡_ {A = ℕ} 0 1 = cc in absurd (omega arith)
 column-member end n (x ∷ xs) i p h q = go (eqb (end x) n) refl i h (λ j r. column-member end n xs j p r q)
   where
-    go : (b : Bool) → eqb (end x) n ≡ b → (i : ℕ) → getElem? (x ∷ xs) i ≡ some p → ((j : ℕ) → getElem? xs j ≡ some p → List·Memᴰ (p .column) (columnsWith end n xs)) → List·Memᴰ (p .column) (keepIf b (x .column) (columnsWith end n xs))
+    go : (b : Bool) → eqb (end x) n ≡ b → (i : ℕ) → getElem? (x ∷ xs) i ≡ some p
+        → ((j : ℕ) → getElem? xs j ≡ some p → List·Memᴰ (p .column) (columnsWith end n xs)) → List·Memᴰ (p .column) (keepIf b (x .column) (columnsWith end n xs))
     go true e zero r ih = let s : x ≡ p = cc in List·Memᴰ·head (ap (λ (y : MappedEdge). y .column) (sym s))
     go true e (suc j) r ih = List·Memᴰ·tail (ih j r)
     go false e zero r ih =

@@ -5,7 +5,8 @@ use mathlib.Core.Logic.{_⊎_, inl, inr}
 use Prim.Native.Nat.{ℕ, zero, suc, _+_}
 use native.Mathlib.Nat.{add-zero, add-suc, suc-add, zero-add}
 use mathlib.Core.Bool.{Bool, true, false, cond, not, _&&_, _||_}
-use mathlib.Core.List.{List, [], _∷_, _++_, List·Memᴰ, List·Memᴰ·head, List·Memᴰ·tail, List·Memᴰ·not-nil, List·Memᴰ·cases-cons, List·Memᴰ·append-cases, List·Memᴰ·eq-of-singleton, Memᴰ·append-left, Memᴰ·append-right}
+use mathlib.Core.List.{List, [], _∷_, _++_, List·Memᴰ, List·Memᴰ·head, List·Memᴰ·tail}
+use mathlib.Core.List.{List·Memᴰ·not-nil, List·Memᴰ·cases-cons, List·Memᴰ·append-cases, List·Memᴰ·eq-of-singleton, Memᴰ·append-left, Memᴰ·append-right}
 use mathlib.Core.Option.{some}
 use lib.ListN.{getElem?}
 use lib.Dec.{T, T-not, eqb, eqb→eq, eqb-refl}
@@ -84,7 +85,8 @@ lists-exclusive ags n s f k = go ags (f .known)
         subst (λ (c : Aggregate). T (c .exclusive && anyListed n (c .sets))) e
         (and-i (f .aggregate .exclusive) (anyListed n (f .aggregate .sets)) (f .exclusive) (listed-any n s (f .aggregate .sets) (f .has) k))
 
-    one : (b : Aggregate) (bs : List Aggregate) → (List·Memᴰ (f .aggregate) bs → T (isExclusive bs n)) → (f .aggregate ≡ b) ⊎ List·Memᴰ (f .aggregate) bs → T ((b .exclusive && anyListed n (b .sets)) || isExclusive bs n)
+    one : (b : Aggregate) (bs : List Aggregate) → (List·Memᴰ (f .aggregate) bs → T (isExclusive bs n)) → (f .aggregate ≡ b) ⊎ List·Memᴰ (f .aggregate) bs
+        → T ((b .exclusive && anyListed n (b .sets)) || isExclusive bs n)
     one b bs ih (inl e) = or-l (b .exclusive && anyListed n (b .sets)) (isExclusive bs n) (here b e)
     one b bs ih (inr j) = or-r (b .exclusive && anyListed n (b .sets)) (isExclusive bs n) (ih j)
 
@@ -189,7 +191,8 @@ pub membership-complete : (n start i : ℕ) (ss : List (List ℕ)) (s : List ℕ
 unfolding setsWithNode
 membership-complete n start i [] s e m = not-found s e
 membership-complete n start zero (t ∷ ts) s e m =
-    Memᴰ·append-left (setsWithNode n (suc start) ts) (subst (λ (k : ℕ). List·Memᴰ k (timesIn n start t)) (sym (add-zero start)) (times-complete n start t (subst (λ (l : List ℕ). List·Memᴰ n l) (sym (same-some t s e)) m)))
+    Memᴰ·append-left (setsWithNode n (suc start) ts)
+    (subst (λ (k : ℕ). List·Memᴰ k (timesIn n start t)) (sym (add-zero start)) (times-complete n start t (subst (λ (l : List ℕ). List·Memᴰ n l) (sym (same-some t s e)) m)))
 membership-complete n start (suc i) (t ∷ ts) s e m =
     Memᴰ·append-right (timesIn n start t) (subst (λ (k : ℕ). List·Memᴰ k (setsWithNode n (suc start) ts)) (suc-add start i ∙ sym (add-suc start i)) (membership-complete n (suc start) i ts s e m))
 

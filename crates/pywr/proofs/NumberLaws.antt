@@ -89,7 +89,8 @@ pub virtual-interval : (w : Sentinel) (days least most now : Float) (active : Bo
     → IsInterval (virtualInterval w days active (virtualBounds least most now))
 unfolding virtualInterval virtualBounds
 virtual-interval w days least most now true d l m n =
-    volume-interval days (greater (sub binary64 now least) zero64) (greater (sub binary64 most now) zero64) d (raised-bound (sub binary64 now least) (less-bound now least n l)) (raised-bound (sub binary64 most now) (less-bound most now m n))
+    volume-interval days (greater (sub binary64 now least) zero64) (greater (sub binary64 most now) zero64) d
+    (raised-bound (sub binary64 now least) (less-bound now least n l)) (raised-bound (sub binary64 most now) (less-bound most now m n))
 virtual-interval w days least most now false d l m n = sentinels-interval w
 
 pub flow-interval : (days least most : Float) → IsBound least → IsBound most → IsInterval (intervalOf days (Flow least most))

@@ -17,7 +17,9 @@ use Rattle.pywr.specs.Result.{value, Result, _>>=_, need}
 use Rattle.pywr.specs.Bytes.{checked}
 use Rattle.pywr.specs.Numbers.{isFlow, isSmall, ofPattern}
 use Rattle.pywr.specs.Network.{input, output, link, Node, Edge, Aggregate, Part, VirtualStorage, Network, kindOf, isExclusive, incoming, outgoing}
-use Rattle.pywr.specs.NetworkFile.{between, Read, ND, constantFits, readNode, ED, joins, badEdge, readEdge, readMembers, readSets, AG, readAggregate, readParts, VS, readVirtualStorage, Mark, hasRoom, withNode, withEdge, withAggregate, withVirtualStorage, readBody, Reading, readRecord, readRecords, emptyNetwork, firstRefused, isEmpty, unconnectedLink, badConstant, refusedIf, checkNetwork, parseNetwork}
+use Rattle.pywr.specs.NetworkFile.{between, Read, ND, constantFits, readNode, ED, joins, badEdge, readEdge, readMembers, readSets, AG}
+use Rattle.pywr.specs.NetworkFile.{readAggregate, readParts, VS, readVirtualStorage, Mark, hasRoom, withNode, withEdge, withAggregate, withVirtualStorage, readBody, Reading}
+use Rattle.pywr.specs.NetworkFile.{readRecord, readRecords, emptyNetwork, firstRefused, isEmpty, unconnectedLink, badConstant, refusedIf, checkNetwork, parseNetwork}
 use Rattle.pywr.proofs.BoundLaws.{IsBound}
 use Rattle.pywr.proofs.NumberLaws.{flow-bound, FiniteFit, small-is}
 use Rattle.pywr.proofs.RunLaws.{bind-then, bind-value, need-value}
@@ -155,7 +157,8 @@ pub record VirtualStorageOk (v : VirtualStorage) : Type 0 where
 read-virtual-storage : (net : Network) (file : List ℕ) (at : ℕ) (r : Read VirtualStorage) → readVirtualStorage net file at ≡ value r → VirtualStorageOk (r .item)
 unfolding readVirtualStorage
 read-virtual-storage net file at r e =
-    bind-then _ _ r e (λ a a-is e. bind-then _ _ r e (λ b b-is e. bind-then _ _ r e (λ c c-is e. bind-then _ _ r e (λ d d-is e. bind-then _ _ r e (λ g g-is e. bind-then _ _ r e (λ count count-is e. bind-then _ _ r e (λ m m-is e.
+    bind-then _ _ r e (λ a a-is e. bind-then _ _ r e
+    (λ b b-is e. bind-then _ _ r e (λ c c-is e. bind-then _ _ r e (λ d d-is e. bind-then _ _ r e (λ g g-is e. bind-then _ _ r e (λ count count-is e. bind-then _ _ r e (λ m m-is e.
     let k = read-parts file at (length (net .nodes)) count [] (at + 8) m m-is (all-none PartOk) in
     let few = between-most 1 64 count (checked-value 3 at (between 1 64) _ count count-is) in
     let long : length (m .item) ≡ 0 + count = k .1 in
@@ -263,7 +266,8 @@ unfolding readRecords
 all-records zero file r net e g = subst Good (same-value (r .network) net e) g
 all-records (suc left) file r net e g = go (λ q k h. all-records left file q net k h) (ltb (r .at) (length file)) e
   where
-    go : ((q : Reading) → readRecords left file q ≡ value net → Good (q .network) → Good net) → (b : Bool) → elim b [ true ↦ (readRecord file r >>= λ next. readRecords left file next) | false ↦ value (r .network) ] ≡ value net → Good net
+    go : ((q : Reading) → readRecords left file q ≡ value net → Good (q .network) → Good net) → (b : Bool)
+        → elim b [ true ↦ (readRecord file r >>= λ next. readRecords left file next) | false ↦ value (r .network) ] ≡ value net → Good net
     go ih true k = let a = bind-value _ _ net k in ih (a .0) (a .2) (one-record file r (a .0) (a .1) g)
     go ih false k = subst Good (same-value (r .network) net k) g
 
@@ -292,12 +296,14 @@ unfolding firstRefused
 none-refused test i [] e j x h = not-found x h
 none-refused test i (y ∷ ys) e j x h = go (λ k l h′. none-refused test (suc i) ys k l x h′) (test i y) refl e j h
   where
-    go : (firstRefused test (suc i) ys ≡ none → (l : ℕ) → getElem? ys l ≡ some x → test (suc i + l) x ≡ none) → (o : Option ℕ) → test i y ≡ o → _≡_ {A = Option (ℕ × ℕ)} (elim o [ none ↦ firstRefused test (suc i) ys | some number ↦ some (number, i) ]) none → (j : ℕ) → getElem? (y ∷ ys) j ≡ some x → test (i + j) x ≡ none
+    go : (firstRefused test (suc i) ys ≡ none → (l : ℕ) → getElem? ys l ≡ some x → test (suc i + l) x ≡ none) → (o : Option ℕ) → test i y ≡ o
+        → _≡_ {A = Option (ℕ × ℕ)} (elim o [ none ↦ firstRefused test (suc i) ys | some number ↦ some (number, i) ]) none → (j : ℕ) → getElem? (y ∷ ys) j ≡ some x → test (i + j) x ≡ none
     go ih none q k zero h′ = ap (λ (m : ℕ). test m x) (add-zero i) ∙ ap (test i) (sym (same-some y x h′)) ∙ q
     go ih none q k (suc j) h′ = ap (λ (m : ℕ). test m x) (add-suc i j ∙ sym (suc-add i j)) ∙ ih k j h′
     go ih (some number) q k j h′ = let z : _≡_ {A = ℕ} 0 1 = cc in absurd (omega arith)
 
-joined-of : (net : Network) (n : ℕ) (k : Bool) (ins outs : List ℕ) → incoming net n ≡ ins → outgoing net n ≡ outs → T k → cond {A = Option ℕ} (k && (isEmpty ins || isEmpty outs)) (some 8) none ≡ none → Joined net n
+joined-of : (net : Network) (n : ℕ) (k : Bool) (ins outs : List ℕ) → incoming net n ≡ ins → outgoing net n ≡ outs → T k
+    → cond {A = Option ℕ} (k && (isEmpty ins || isEmpty outs)) (some 8) none ≡ none → Joined net n
 unfolding isEmpty
 joined-of net n false ins outs hi ho t e = absurd t
 joined-of net n true [] outs hi ho t e = let z : _≡_ {A = ℕ} 0 1 = cc in absurd (omega arith)
@@ -309,7 +315,8 @@ pub record CoefficientsOk (x : Node) : Type 0 where
   pub most : T (not (eq (x .max) (inf true)))
   pub least : T (not (eq (x .min) (inf false)))
 
-coefficients-of : (c crossed ex up down : Bool) → T c → T ex → cond {A = Option ℕ} (c && crossed) (some 9) (cond {A = Option ℕ} (c && ex && (up || down)) (some 10) none) ≡ none → T (not up) × T (not down)
+coefficients-of : (c crossed ex up down : Bool) → T c → T ex
+    → cond {A = Option ℕ} (c && crossed) (some 9) (cond {A = Option ℕ} (c && ex && (up || down)) (some 10) none) ≡ none → T (not up) × T (not down)
 coefficients-of false crossed ex up down t u e = absurd t
 coefficients-of true true ex up down t u e = let z : _≡_ {A = ℕ} 0 1 = cc in absurd (omega arith)
 coefficients-of true false false up down t u e = absurd u

@@ -129,9 +129,11 @@ programme-back s b r =
     let fix : entries (rowEntry s) 1 (getD (s .shape) 5 0) (getD (s .shape) 6 0) ≡ f =
     ap₂ (entries (rowEntry s) 1) (r .varyingCount) (r .fixedCount)
     ∙ rows-back s f n (elementCount v) (flatMap columnsIn v) (r .spareColumns) (flatMap valuesIn v) (r .spareElements) ec (columns-count v) ee (values-count v)
-    (subst (λ (m : ℕ). Holds 0 (s .rowStarts) m (startsFrom (elementCount v) f)) (zero-add n) (subst (λ (m : ℕ). Holds 0 (s .rowStarts) (0 + n) (startsFrom m f)) (zero-add (elementCount v)) (starts-right (s .rowStarts) v f 0 0 (r .starts))))
+    (subst (λ (m : ℕ). Holds 0 (s .rowStarts) m (startsFrom (elementCount v) f)) (zero-add n)
+    (subst (λ (m : ℕ). Holds 0 (s .rowStarts) (0 + n) (startsFrom m f)) (zero-add (elementCount v)) (starts-right (s .rowStarts) v f 0 0 (r .starts))))
     (subst (λ (m : ℕ). Holds zero64 (s .rowLower) m (map lowerOf f)) (zero-add (length (map lowerOf v)) ∙ length-map v lowerOf) (holds-right zero64 (s .rowLower) 0 (map lowerOf v) (map lowerOf f) hl))
-    (subst (λ (m : ℕ). Holds zero64 (s .rowUpper) m (map upperOf f)) (zero-add (length (map upperOf v)) ∙ length-map v upperOf) (holds-right zero64 (s .rowUpper) 0 (map upperOf v) (map upperOf f) hu)) in
+    (subst (λ (m : ℕ). Holds zero64 (s .rowUpper) m (map upperOf f)) (zero-add (length (map upperOf v)) ∙ length-map v upperOf)
+    (holds-right zero64 (s .rowUpper) 0 (map upperOf v) (map upperOf f) hu)) in
     λ i. record { sentinel = r .sentinel i; columns = cols i; varying = vary i; fixed = fix i }
 
 -- ---- a build's store
@@ -184,9 +186,12 @@ built-represents old b room fit =
       varyingCount = at 5 (lit≤ tt);
       fixedCount = at 6 (lit≤ tt);
       typed = fit .typed;
-      colLower = sets-holds zero64 (map (λ (x : Column). x .lower) (p .columns)) (old .colLower) 0 (let l = length-map (p .columns) (λ (x : Column). x .lower) in let r = room .colLower in omega arith);
-      colUpper = sets-holds zero64 (map (λ (x : Column). x .upper) (p .columns)) (old .colUpper) 0 (let l = length-map (p .columns) (λ (x : Column). x .upper) in let r = room .colUpper in omega arith);
-      colObjCoef = sets-holds zero64 (map (λ (x : Column). x .cost) (p .columns)) (old .colObjCoef) 0 (let l = length-map (p .columns) (λ (x : Column). x .cost) in let r = room .colObjCoef in omega arith);
+      colLower = sets-holds zero64 (map (λ (x : Column). x .lower) (p .columns)) (old .colLower) 0
+          (let l = length-map (p .columns) (λ (x : Column). x .lower) in let r = room .colLower in omega arith);
+      colUpper = sets-holds zero64 (map (λ (x : Column). x .upper) (p .columns)) (old .colUpper) 0
+          (let l = length-map (p .columns) (λ (x : Column). x .upper) in let r = room .colUpper in omega arith);
+      colObjCoef = sets-holds zero64 (map (λ (x : Column). x .cost) (p .columns)) (old .colObjCoef) 0
+          (let l = length-map (p .columns) (λ (x : Column). x .cost) in let r = room .colObjCoef in omega arith);
       spareColumns = drop (0 + length (flatMap columnsIn rows)) (old .columns);
       columns = sets-eq (flatMap columnsIn rows) (old .columns) 0 (let l = columns-count rows in let r = room .columns in omega arith);
       spareElements = drop (0 + length (flatMap valuesIn rows)) (old .elements);
@@ -231,7 +236,8 @@ same-starts (x ∷ xs) (y ∷ ys) f at (more e s) =
 
 -- both halves held, where the first was stored anew
 anew : {A : Type 0} (d : A) (run new old rest : List A) → length new ≡ length old → length new ≤ length run → Holds d run 0 (old ++ rest) → Holds d (sets run 0 new) 0 (new ++ rest)
-anew d run new old rest e room h = held-append d (sets run 0 new) new rest (sets-holds d new run 0 (omega arith)) (holds-before d new rest run (0 + length new) 0 (le-refl (0 + length new)) (subst (λ (n : ℕ). Holds d run (0 + n) rest) (sym e) (holds-right d run 0 old rest h)))
+anew d run new old rest e room h = held-append d (sets run 0 new) new rest (sets-holds d new run 0 (omega arith))
+    (holds-before d new rest run (0 + length new) 0 (le-refl (0 + length new)) (subst (λ (n : ℕ). Holds d run (0 + n) rest) (sym e) (holds-right d run 0 old rest h)))
 
 module _ (s : Store) (b : Built) (r : Represents s b) (v : List Row) (cols : List Column)
     (same : SameColumns v (b .programme .varying))
@@ -272,7 +278,8 @@ module _ (s : Store) (b : Built) (r : Represents s b) (v : List Row) (cols : Lis
             let c : length (flatMap valuesIn v) ≡ length (flatMap valuesIn old) = values-count v ∙ same-count v old same ∙ sym (values-count old) in
             let e : s .elements ≡ flatMap valuesIn old ++ (flatMap valuesIn f ++ r .spareElements) =
             r .elements ∙ ap (λ l. l ++ r .spareElements) (flat-append valuesIn old f) ∙ append-assoc (flatMap valuesIn old) (flatMap valuesIn f) (r .spareElements) in
-            let k : length (s .elements) ≡ length (flatMap valuesIn old) + length (flatMap valuesIn f ++ r .spareElements) = ap length e ∙ length-append (flatMap valuesIn old) (flatMap valuesIn f ++ r .spareElements) in
+            let k : length (s .elements) ≡ length (flatMap valuesIn old) + length (flatMap valuesIn f ++ r .spareElements) = ap length e
+            ∙ length-append (flatMap valuesIn old) (flatMap valuesIn f ++ r .spareElements) in
             sets-eq (flatMap valuesIn v) (s .elements) 0 (omega arith)
             ∙ ap (λ l. flatMap valuesIn v ++ l)
             (ap (λ l. drop (0 + length (flatMap valuesIn v)) l) e
@@ -317,11 +324,24 @@ store-again s b r p q hp hq cp cq =
     let rows : (g : Row → Float) → length (map g (p .varying)) ≡ length (map g (q .varying)) = (λ g. length-map (p .varying) g ∙ np ∙ sym nq ∙ sym (length-map (q .varying) g)) in
     let factors : length (flatMap valuesIn (q .varying)) ≡ length (flatMap valuesIn v) = values-count (q .varying) ∙ same-count (q .varying) v hq ∙ sym (values-count v) in
     let long : length (s .elements) ≡ length (flatMap valuesIn v) + length (flatMap valuesIn f) + length (r .spareElements) =
-    ap length (r .elements) ∙ length-append (flatMap valuesIn (v ++ f)) (r .spareElements) ∙ ap (λ (n : ℕ). n + length (r .spareElements)) (ap length (flat-append valuesIn v f) ∙ length-append (flatMap valuesIn v) (flatMap valuesIn f)) in
+    ap length (r .elements) ∙ length-append (flatMap valuesIn (v ++ f)) (r .spareElements)
+    ∙ ap (λ (n : ℕ). n + length (r .spareElements)) (ap length (flat-append valuesIn v f) ∙ length-append (flatMap valuesIn v) (flatMap valuesIn f)) in
     let cost = write-again (s .colObjCoef) (map (λ (x : Column). x .cost) (p .columns)) (map (λ (x : Column). x .cost) (q .columns))
     (length-map (p .columns) (λ (x : Column). x .cost) ∙ cp ∙ sym cq ∙ sym (length-map (q .columns) (λ (x : Column). x .cost)))
     (let l = length-map (q .columns) (λ (x : Column). x .cost) in let c = r .costRoom in omega arith) in
     let lower = write-again (s .rowLower) (map lowerOf (p .varying)) (map lowerOf (q .varying)) (rows lowerOf) (let l = length-map (q .varying) lowerOf in let c = r .lowerRoom in omega arith) in
     let upper = write-again (s .rowUpper) (map upperOf (p .varying)) (map upperOf (q .varying)) (rows upperOf) (let l = length-map (q .varying) upperOf in let c = r .upperRoom in omega arith) in
-    let element = write-again (s .elements) (flatMap valuesIn (p .varying)) (flatMap valuesIn (q .varying)) (values-count (p .varying) ∙ same-count (p .varying) v hp ∙ sym (values-count v) ∙ sym factors) (omega arith) in
-    λ i. record { colLower = s .colLower; colUpper = s .colUpper; colObjCoef = cost i; rowLower = lower i; rowUpper = upper i; elements = element i; columns = s .columns; rowStarts = s .rowStarts; shape = s .shape }
+    let element = write-again (s .elements) (flatMap valuesIn (p .varying)) (flatMap valuesIn (q .varying))
+    (values-count (p .varying) ∙ same-count (p .varying) v hp ∙ sym (values-count v) ∙ sym factors) (omega arith) in
+    λ i. record {
+      colLower = s .colLower;
+      colUpper = s .colUpper;
+      colObjCoef = cost i;
+      rowLower = lower i;
+      rowUpper = upper i;
+      elements = element i;
+      columns =
+          s .columns;
+      rowStarts = s .rowStarts;
+      shape = s .shape;
+    }

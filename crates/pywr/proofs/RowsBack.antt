@@ -66,8 +66,10 @@ row-here s x xs r at preC postC preE postE ec lc ee le hs hl hu =
     let n : ℕ = length (x .elements) in
     let first : getD (s .rowStarts) r 0 ≡ at = start-head at (x ∷ xs) (s .rowStarts) r hs in
     let second : getD (s .rowStarts) (r + 1) 0 ≡ at + n = start-head (at + n) xs (s .rowStarts) (r + 1) (held-tail 0 (s .rowStarts) r at (startsFrom (at + n) xs) hs) in
-    let cols = part-is (s .columns) preC (columnsIn x) (flatMap columnsIn xs) postC (getD (s .rowStarts) r 0) (getD (s .rowStarts) (r + 1) 0) at ec lc first (second ∙ ap (λ (m : ℕ). at + m) (sym (columns-length x))) in
-    let facs = part-is (s .elements) preE (valuesIn x) (flatMap valuesIn xs) postE (getD (s .rowStarts) r 0) (getD (s .rowStarts) (r + 1) 0) at ee le first (second ∙ ap (λ (m : ℕ). at + m) (sym (values-length x))) in
+    let cols = part-is (s .columns) preC (columnsIn x) (flatMap columnsIn xs) postC (getD (s .rowStarts) r 0) (getD (s .rowStarts) (r + 1) 0) at ec lc first
+    (second ∙ ap (λ (m : ℕ). at + m) (sym (columns-length x))) in
+    let facs = part-is (s .elements) preE (valuesIn x) (flatMap valuesIn xs) postE (getD (s .rowStarts) r 0) (getD (s .rowStarts) (r + 1) 0) at ee le first
+    (second ∙ ap (λ (m : ℕ). at + m) (sym (values-length x))) in
     let lower = held-head zero64 (s .rowLower) r (x .lower) (map lowerOf xs) hl in
     let upper = held-head zero64 (s .rowUpper) r (x .upper) (map upperOf xs) hu in
     λ i. record { lower = lower i; upper = upper i; elements = (ap₂ elementsOf cols facs ∙ elements-back (x .elements)) i }

@@ -56,7 +56,8 @@ with-costs-again [] xs ys e = refl
 with-costs-again (c ∷ cs) [] ys e = let z : 0 ≡ suc (length cs) = e in absurd (omega arith)
 with-costs-again (c ∷ cs) (x ∷ xs) [] e = refl
 with-costs-again (c ∷ cs) (x ∷ xs) (y ∷ ys) e =
-    ap (λ (l : List Column). record { integer = c .integer; lower = c .lower; upper = c .upper; cost = y } ∷ l) (with-costs-again cs xs ys (let z : suc (length xs) ≡ suc (length cs) = e in omega arith))
+    ap (λ (l : List Column). record { integer = c .integer; lower = c .lower; upper = c .upper; cost = y }
+    ∷ l) (with-costs-again cs xs ys (let z : suc (length xs) ≡ suc (length cs) = e in omega arith))
 
 -- ---- one step
 
@@ -115,7 +116,8 @@ twice s b held f g =
     ap (λ (t : Store). storeOfStep t (value g)) (written s b held f)
     ∙ written (steppedStore s p) (after s b held f) (stepped-held s b held f) g
     ∙ ap (steppedStore (steppedStore s p)) (stepped-again (b .shape) f (b .programme) g)
-    ∙ store-again s b held p q (stepped-columns (b .shape) f (b .programme)) (stepped-columns (b .shape) g (b .programme)) (stepped-length (b .shape) f (b .programme)) (stepped-length (b .shape) g (b .programme))
+    ∙ store-again s b held p q (stepped-columns (b .shape) f (b .programme)) (stepped-columns (b .shape) g (b .programme))
+    (stepped-length (b .shape) f (b .programme)) (stepped-length (b .shape) g (b .programme))
     ∙ sym (written s b held g)
 
 -- ---- reading a step's answer
@@ -169,7 +171,8 @@ module _ (s : Store) (b : Built) (held : Represents s b) where
   reached-step no-file t h f = ap (λ (u : Store). storeOfStep u (value f)) h
   reached-step (some file) t h f = ap (λ (u : Store). storeOfStep u (value f)) (h .2) ∙ twice s b held (h .0) f
 
-  one-step : (t : Store) (c : Call) (o : Option (List ℕ)) → Reached o t → (r : Result StepFile) → stepAnswer t (c .file) (c .work) ≡ r → Reached (cond (isAccepted r) (some (c .file)) o) (storeOfStep t r)
+  one-step : (t : Store) (c : Call) (o : Option (List ℕ)) → Reached o t → (r : Result StepFile) → stepAnswer t (c .file) (c .work) ≡ r
+      → Reached (cond (isAccepted r) (some (c .file)) o) (storeOfStep t r)
   unfolding isAccepted storeOfStep Reached
   one-step t c o h (refused n p) e = h
   one-step t c o h (value f) e = (

@@ -112,7 +112,8 @@ listed-known s a (b ∷ rest) known m x k = go (λ j. listed-known s a rest _ j 
     next = cond (b .exclusive) (addSets known (b .sets)) known
 
     here : a ≡ b → T (hasSet s next)
-    here e = subst (λ (c : Bool). T (hasSet s (cond c (addSets known (b .sets)) known))) (sym (to-true (b .exclusive) (subst (λ (y : Aggregate). T (y .exclusive)) e x))) (adds-has s (b .sets) known (subst (λ (y : Aggregate). List·Memᴰ s (y .sets)) e k))
+    here e = subst (λ (c : Bool). T (hasSet s (cond c (addSets known (b .sets)) known)))
+        (sym (to-true (b .exclusive) (subst (λ (y : Aggregate). T (y .exclusive)) e x))) (adds-has s (b .sets) known (subst (λ (y : Aggregate). List·Memᴰ s (y .sets)) e k))
 
     go : (List·Memᴰ a rest → T (hasSet s (setsFrom next rest))) → (a ≡ b) ⊎ List·Memᴰ a rest → T (hasSet s (setsFrom next rest))
     go ih (inl e) = from-keeps s rest next (here e)

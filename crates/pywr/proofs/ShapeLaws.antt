@@ -18,7 +18,8 @@ use Rattle.pywr.specs.Numbers.{double, zero64, one64, high}
 use Rattle.pywr.specs.Network.{output, link, storage, Node, Aggregate, Part, VirtualStorage, Network, kindOf}
 use Rattle.pywr.specs.ColEdgeMap.{columns, mappedEdges}
 use Rattle.pywr.specs.ExclusiveSets.{sameSet, hasSet, exclusiveSets, setNumber, setsWithNode}
-use Rattle.pywr.specs.Rows.{Element, addElement, addOn, ColumnMap, columnMap, columnsInto, columnsOutOf, addNode, nodeRow, massRow, addNodes, addSetsOf, aggregateRow, addParts, virtualStorageRow, upperRow, lowerRow, addActive, exclusivityRow}
+use Rattle.pywr.specs.Rows.{Element, addElement, addOn, ColumnMap, columnMap, columnsInto, columnsOutOf, addNode, nodeRow, massRow}
+use Rattle.pywr.specs.Rows.{addNodes, addSetsOf, aggregateRow, addParts, virtualStorageRow, upperRow, lowerRow, addActive, exclusivityRow}
 use Rattle.pywr.specs.VariableRows.{sameRow, position, addVariableRows, Joined, addVariableRow}
 use Rattle.pywr.specs.Programme.{Row, continuous}
 use Rattle.pywr.specs.VaryingRows.{RowRequest, exclusiveRequests, requestsBySets, requestsFrom}
@@ -104,7 +105,8 @@ module _ (net : Network) (sound : Sound net) where
     where
       go : (a b : Bool)
           → Rising edges 0
-          (cond a (addOn (columnsInto n (mappedEdges net)) x row) (cond b (addOn (columnsOutOf n (mappedEdges net)) (neg x) (addOn (columnsInto n (mappedEdges net)) x row)) (addOn (columnsOutOf n (mappedEdges net)) x row)))
+          (cond a (addOn (columnsInto n (mappedEdges net)) x row)
+          (cond b (addOn (columnsOutOf n (mappedEdges net)) (neg x) (addOn (columnsInto n (mappedEdges net)) x row)) (addOn (columnsOutOf n (mappedEdges net)) x row)))
       go true b = rising-on edges (columnsInto n (mappedEdges net)) x row (ins n) r
       go false true = rising-on edges (columnsOutOf n (mappedEdges net)) (neg x) _ (outs n) (rising-on edges (columnsInto n (mappedEdges net)) x row (ins n) r)
       go false false = rising-on edges (columnsOutOf n (mappedEdges net)) x row (outs n) r
@@ -173,7 +175,8 @@ module _ (net : Network) (sound : Sound net) where
   pub masses-good : Every Good-fixed (massRowsFrom f 0 (net .nodes))
   unfolding massRowsFrom
   masses-good =
-      each-of Good-fixed (λ (n : ℕ) (x : Node). cond (eqb (x .kind) link && not (eqb (length (massRow f n)) 1)) (record { lower = zero64; upper = zero64; elements = massRow f n } ∷ []) []) (massRowsFrom f) (λ m. refl) (λ m x l. refl) (net .nodes) 0 .1
+      each-of Good-fixed (λ (n : ℕ) (x : Node). cond (eqb (x .kind) link && not (eqb (length (massRow f n)) 1))
+      (record { lower = zero64; upper = zero64; elements = massRow f n } ∷ []) []) (massRowsFrom f) (λ m. refl) (λ m x l. refl) (net .nodes) 0 .1
       (λ i x e. cond-good (eqb (x .kind) link && not (eqb (length (massRow f (0 + i))) 1)) (record { lower = zero64; upper = zero64; elements = massRow f (0 + i) }) (mass-good (0 + i)))
 
   exclusives-good : (w : Sentinel) (n : ℕ) (x : Node) (ks : List ℕ) → AllMem (λ (k : ℕ). k < sets) ks → Every Good-fixed (exclusiveRows w f n x ks)
@@ -194,7 +197,8 @@ module _ (net : Network) (sound : Sound net) where
   pub constants-good : (w : Sentinel) → Every Good-fixed (constantRowsFrom w f 0 (net .nodes))
   unfolding constantRowsFrom columnMap
   constants-good w =
-      each-of Good-fixed (λ (n : ℕ) (x : Node). cond (x .constant) (constantRows w f n x (setsWithNode n 0 (exclusiveSets net))) []) (constantRowsFrom w f) (λ m. refl) (λ m x l. refl) (net .nodes) 0 .1
+      each-of Good-fixed (λ (n : ℕ) (x : Node). cond (x .constant) (constantRows w f n x (setsWithNode n 0 (exclusiveSets net))) []) (constantRowsFrom w f)
+      (λ m. refl) (λ m x l. refl) (net .nodes) 0 .1
       (λ i x e. go (x .constant) (0 + i) x)
     where
       go : (b : Bool) (n : ℕ) (x : Node) → Every Good-fixed (cond b (constantRows w f n x (setsWithNode n 0 (exclusiveSets net))) [])
@@ -211,7 +215,9 @@ module _ (net : Network) (sound : Sound net) where
   pub actives-good : Every Good-fixed (exclusivityRows f (net .aggregates))
   unfolding exclusivityRows exclusivityRow
   actives-good =
-      each-of Good-fixed (λ (n : ℕ) (a : Aggregate). cond (a .exclusive) (record { lower = double (a .minActive); upper = double (a .maxActive); elements = exclusivityRow f a } ∷ []) []) (λ n xs. exclusivityRows f xs) (λ m. refl) (λ m x l. refl) (net .aggregates) 0 .1
+      each-of Good-fixed (λ (n : ℕ) (a : Aggregate). cond (a .exclusive)
+      (record { lower = double (a .minActive); upper = double (a .maxActive); elements = exclusivityRow f a } ∷ []) []) (λ n xs. exclusivityRows f xs) (λ m.
+      refl) (λ m x l. refl) (net .aggregates) 0 .1
       (λ i a e. go a (found-mem (net .aggregates) i a e) (a .exclusive) refl)
     where
       go : (a : Aggregate) → List·Memᴰ a (net .aggregates) → (b : Bool) → a .exclusive ≡ b
@@ -279,7 +285,8 @@ sits-later rows (a ∷ rest) (p ∷ ps) r (Sits.more h e s) =
     let k : p < length (rows ++ (r ∷ [])) = omega arith in
     Sits.more k (ap cols (List·getD-append rows (r ∷ []) [] p h) ∙ e) (sits-later rows rest ps r s)
 
-sits-snoc : (rows asked : List (List Element)) (ps : List ℕ) (r : List Element) (p : ℕ) → Sits rows asked ps → p < length rows → cols (getD rows p []) ≡ cols r → Sits rows (asked ++ (r ∷ [])) (ps ++ (p ∷ []))
+sits-snoc : (rows asked : List (List Element)) (ps : List ℕ) (r : List Element) (p : ℕ) → Sits rows asked ps → p < length rows → cols (getD rows p []) ≡ cols r
+    → Sits rows (asked ++ (r ∷ [])) (ps ++ (p ∷ []))
 sits-snoc rows [] [] r p Sits.none h e = Sits.more h e Sits.none
 sits-snoc rows (a ∷ rest) (q ∷ ps) r p (Sits.more k e′ s) h e = Sits.more k e′ (sits-snoc rows rest ps r p s h e)
 
@@ -303,7 +310,8 @@ pub sits-all : (asked before : List (List Element)) (j : Joined) → Sits (j .ro
 unfolding addVariableRows
 sits-all [] before j s = subst (λ l. Sits (j .rows) l (j .places)) (sym (append-nil before)) s
 sits-all (r ∷ rs) before j s =
-    subst (λ l. Sits (addVariableRows rs (addVariableRow r j) .rows) l (addVariableRows rs (addVariableRow r j) .places)) (append-assoc before (r ∷ []) rs) (sits-all rs (before ++ (r ∷ [])) (addVariableRow r j) (sits-one before r j s))
+    subst (λ l. Sits (addVariableRows rs (addVariableRow r j) .rows) l (addVariableRows rs (addVariableRow r j) .places)) (append-assoc before (r ∷ []) rs)
+    (sits-all rs (before ++ (r ∷ [])) (addVariableRow r j) (sits-one before r j s))
 
 pub sits-stay : (asked : List (List Element)) (ps : List ℕ) (rs : List (List Element)) (j : Joined) → Sits (j .rows) asked ps → Sits (addVariableRows rs j .rows) asked ps
 unfolding addVariableRows addVariableRow

@@ -26,7 +26,8 @@ use Rattle.pywr.specs.Interval.{sentinels}
 use Rattle.pywr.specs.StepIntervals.{Intervals}
 use Rattle.pywr.specs.Step.{rowOf, stepRows}
 use Rattle.pywr.specs.Plans.{meets, Plan, timesOne, allFrom}
-use Rattle.pywr.specs.Allows.{allows, inflow, outflow, nodeAmount, setsAmount, partsSum, balanced, ownInterval, nodeMeets, aggregateMeets, virtualStorageMeets, exclusiveMeets, memberMeets, setsMeet, onCount, exclusivityMeets}
+use Rattle.pywr.specs.Allows.{allows, inflow, outflow, nodeAmount, setsAmount, partsSum, balanced, ownInterval}
+use Rattle.pywr.specs.Allows.{nodeMeets, aggregateMeets, virtualStorageMeets, exclusiveMeets, memberMeets, setsMeet, onCount, exclusivityMeets}
 use Rattle.pywr.specs.Admits.{admits, carried, equalInColumn, rowSum, rowMet, columnMet}
 use Rattle.pywr.specs.Correspondence.{isWhole, factorsWhole}
 use Rattle.pywr.proofs.BoundLaws.{IsInterval}
@@ -62,7 +63,8 @@ fresh-elements w (r ∷ rs) (suc p) = fresh-elements w rs p
 -- ---- intervals and places in pairs
 
 module _ (w : Sentinel) (f : ColumnMap) (plan : Plan) (joined : List (List Element)) where
-  fit-nodes : (is : List Interval) → AllMem IsInterval is → (rows : List NodeRow) (wanted : List (List Element)) → Placed f plan joined wanted (node-places rows) → Fitting (length joined) (node-places rows) (node-intervals w is rows)
+  fit-nodes : (is : List Interval) → AllMem IsInterval is → (rows : List NodeRow) (wanted : List (List Element))
+      → Placed f plan joined wanted (node-places rows) → Fitting (length joined) (node-places rows) (node-intervals w is rows)
   unfolding node-places node-intervals
   fit-nodes is ok [] [] Placed.none = Fitting.none
   fit-nodes is ok (n ∷ ns) (r ∷ rs) (Placed.more h e rest) = Fitting.more h (at-interval w is (n .node) ok) (fit-nodes is ok ns rs rest)
@@ -95,7 +97,8 @@ module _ (w : Sentinel) (f : ColumnMap) (plan : Plan) where
           at a b (suc n) y e = b n y e
 
   asked-nodes : (is : List Interval) (wanted : List RowRequest) (ps : List ℕ) → length wanted ≡ length ps
-      → Asked w f plan (map requestedRow wanted) (node-intervals w is (placedNodeRows wanted ps)) ↔ Every (λ (a : RowRequest). T (meets w (getD is (a .node) (sentinels w)) (rowSum f plan (a .row)))) wanted
+      → Asked w f plan (map requestedRow wanted) (node-intervals w is (placedNodeRows wanted ps)) ↔ Every
+      (λ (a : RowRequest). T (meets w (getD is (a .node) (sentinels w)) (rowSum f plan (a .row)))) wanted
   unfolding Asked placedNodeRows node-intervals requestedRow
   asked-nodes is [] ps l = (λ h. tt, λ h. tt)
   asked-nodes is (a ∷ wanted) [] l = let z : suc (length wanted) ≡ 0 = l in absurd (omega arith)
@@ -135,8 +138,11 @@ module _ (w : Sentinel) (net : Network) (i : Intervals) (plan : Plan) where
       let a : Bool = memberMeets w net i plan s s in
       let b : Bool = setsMeet w net i plan ss in
       let one = member-rule s s in
-      let ih = sets-rule ss in
-      (λ h. all-cons (λ (t : List ℕ). AllMem (MemberRule t) t) s ss (one .0 (and-l a b h)) (ih .0 (and-r a b h)), λ h. and-i a b (one .1 (h s (List·Memᴰ·head refl))) (ih .1 (λ k j. h k (List·Memᴰ·tail j))))
+      let ih = sets-rule ss in (
+        λ h. all-cons (λ (t : List ℕ). AllMem (MemberRule t) t) s ss (one .0 (and-l a b h)) (ih .0 (and-r a b h)),
+        λ h. and-i a b
+            (one .1 (h s (List·Memᴰ·head refl))) (ih .1 (λ k j. h k (List·Memᴰ·tail j))),
+      )
 
 -- ---- both sides, where each edge's column carries its amount
 
@@ -184,7 +190,8 @@ module _ (w : Sentinel) (net : Network) (sound : Sound net) (only : OnlyConstant
     aggregates : At (net .aggregates) (λ n a. T (aggregateMeets w net i plan n a))
     virtualStorages : At (net .virtualStorages) (λ n v. T (virtualStorageMeets w net i plan n v))
 
-  nodes-asked : Asked w f plan (map requestedRow (requestsFrom f 0 (net .nodes))) (node-intervals w (i .nodes) (programmeOf w net .shape .nodeRows)) ↔ Every (λ (a : RowRequest). T (meets w (ofNodes (a .node)) (rowSum f plan (a .row)))) (requestsFrom f 0 (net .nodes))
+  nodes-asked : Asked w f plan (map requestedRow (requestsFrom f 0 (net .nodes))) (node-intervals w (i .nodes) (programmeOf w net .shape .nodeRows)) ↔ Every
+      (λ (a : RowRequest). T (meets w (ofNodes (a .node)) (rowSum f plan (a .row)))) (requestsFrom f 0 (net .nodes))
   unfolding programmeOf assemble
   nodes-asked = asked-nodes w f plan (i .nodes) (requestsFrom f 0 (net .nodes)) (forNodes w net plan .places) (lengthN w net plan)
 
@@ -197,7 +204,8 @@ module _ (w : Sentinel) (net : Network) (sound : Sound net) (only : OnlyConstant
       let long : length rows ≡ length joined = ap length (a .varying) ∙ length-map joined (freshRow w) in
       let same : (p : ℕ) → elementsAt p rows ≡ getD joined p [] = (λ p. ap (elementsAt p) (a .varying) ∙ fresh-elements w joined p) in
       let lA : length (i .aggregates) ≡ length (programmeOf w net .shape .aggregates) = ok .aggregateCount ∙ sym (aggregates-length w net plan) in
-      let lV : length (i .virtualStorages) ≡ length (map rowOf (programmeOf w net .shape .virtualStorages)) = ok .virtualStorageCount ∙ sym (length-map (net .virtualStorages) (virtualStorageRow f)) ∙ placed-length f plan joined _ _ (a .virtualStorages) in
+      let lV : length (i .virtualStorages) ≡ length (map rowOf (programmeOf w net .shape .virtualStorages)) = ok .virtualStorageCount
+      ∙ sym (length-map (net .virtualStorages) (virtualStorageRow f)) ∙ placed-length f plan joined _ _ (a .virtualStorages) in
       let met = varying-met w f plan (programmeOf w net .shape) i joined rows long same (only-continuous w net only)
       (map requestedRow (requestsFrom f 0 (net .nodes))) (map (aggregateRow f) (net .aggregates)) (map (virtualStorageRow f) (net .virtualStorages))
       (a .nodes) (a .aggregates) (a .virtualStorages)
@@ -237,7 +245,8 @@ module _ (w : Sentinel) (net : Network) (sound : Sound net) (only : OnlyConstant
 
   links-are : Every (Met w f plan) (massRowsFrom f 0 (net .nodes)) ↔ At (net .nodes) Level
   links-are =
-      let m = mass-met w net (sound .noself) plan (columns-long net) each (room w net sound plan each) (net .nodes) 0 (λ n x e t. subst (λ (k : ℕ). Joined net k) (sym (zero-add n)) (sound .links n x e t)) in (
+      let m = mass-met w net (sound .noself) plan (columns-long net) each (room w net sound plan each) (net .nodes) 0
+      (λ n x e t. subst (λ (k : ℕ). Joined net k) (sym (zero-add n)) (sound .links n x e t)) in (
         λ h n x e t. subst (λ (k : ℕ). inflow net plan k ≡ outflow net plan k) (zero-add n) (m .0 h n x e t),
         λ h. m .1 (λ n x e t. subst (λ (k : ℕ). inflow net plan k ≡ outflow net plan k) (sym (zero-add n)) (h n x e t)),
       )
@@ -306,7 +315,8 @@ module _ (w : Sentinel) (net : Network) (sound : Sound net) (only : OnlyConstant
       subst (λ (j : Interval). T (exclusiveMeets (plan .on s) j (nodeAmount net plan m))) (sym (b .own))
       (subst (λ (t : List ℕ). T (exclusiveMeets (plan .on t) (bounds (b .node)) (nodeAmount net plan m))) (number-found s (exclusiveSets net) (from-known net s from)) c)
 
-  rules-rows : Rules → (n : ℕ) (x : Node) → getElem? (net .nodes) n ≡ some x → T (x .constant) → (k : ℕ) → List·Memᴰ k (setsWithNode n 0 (f .sets)) → T (exclusiveMeets (plan .on (getD (f .sets) k [])) (bounds x) (nodeAmount net plan n))
+  rules-rows : Rules → (n : ℕ) (x : Node) → getElem? (net .nodes) n ≡ some x → T (x .constant) → (k : ℕ) → List·Memᴰ k (setsWithNode n 0 (f .sets))
+      → T (exclusiveMeets (plan .on (getD (f .sets) k [])) (bounds x) (nodeAmount net plan n))
   unfolding columnMap
   rules-rows h n x e t k m =
       let r = membership-sound n 0 k (exclusiveSets net) m in
@@ -394,7 +404,8 @@ module _ (w : Sentinel) (net : Network) (sound : Sound net) (only : OnlyConstant
         counts = λ n a e t. open-sets (h .exclusives) n a e t .1;
       }
 
-  rows-are : (T (allFrom (rowMet w f plan) 0 (stepRows w (programmeOf w net .shape) i (programmeOf w net .programme .varying))) × T (allFrom (rowMet w f plan) 0 (programmeOf w net .programme .fixed))) ↔ NetworkMet
+  rows-are : (T (allFrom (rowMet w f plan) 0 (stepRows w (programmeOf w net .shape) i (programmeOf w net .programme .varying)))
+      × T (allFrom (rowMet w f plan) 0 (programmeOf w net .programme .fixed))) ↔ NetworkMet
   rows-are = (λ h. to-network (varying-is .0 (h .0)) (fixed-is .0 (h .1)), λ h. (varying-is .1 (to-varying h), fixed-is .1 (to-fixed h)))
 
 -- ---- the two tests
@@ -423,7 +434,8 @@ module _ (w : Sentinel) (net : Network) (i : Intervals) (plan : Plan) where
       let a = all-at test xs 0 in
       (λ h n x e. subst (λ (k : ℕ). T (test k x)) (zero-add n) (a .0 h n x e), λ h. a .1 (λ n x e. subst (λ (k : ℕ). T (test k x)) (sym (zero-add n)) (h n x e)))
 
-  even-test : T (allFrom (equalInColumn plan (mappedEdges net)) 0 (mappedEdges net)) ↔ ((e : ℕ) (p : MappedEdge) → getElem? (mappedEdges net) e ≡ some p → plan .amount e ≡ carried plan (p .column) 0 (mappedEdges net))
+  even-test : T (allFrom (equalInColumn plan (mappedEdges net)) 0 (mappedEdges net)) ↔
+      ((e : ℕ) (p : MappedEdge) → getElem? (mappedEdges net) e ≡ some p → plan .amount e ≡ carried plan (p .column) 0 (mappedEdges net))
   unfolding equalInColumn
   even-test =
       let a = at-zero (equalInColumn plan (mappedEdges net)) (mappedEdges net) in
@@ -488,7 +500,8 @@ module _ (w : Sentinel) (net : Network) (sound : Sound net) (only : OnlyConstant
       let c : Bool = allFrom (rowMet (p .sentinel) g plan) 0 (p .varying) in
       let d : Bool = allFrom (rowMet (p .sentinel) g plan) 0 (p .fixed) in
       let even = even-test w net i plan in
-      let cv : c ≡ allFrom (rowMet w g plan) 0 (stepRows w (programmeOf w net .shape) i (programmeOf w net .programme .varying)) = ap₂ (λ (s : Sentinel) (rows : List Row). allFrom (rowMet s g plan) 0 rows) hs hv in
+      let cv : c ≡ allFrom (rowMet w g plan) 0 (stepRows w (programmeOf w net .shape) i (programmeOf w net .programme .varying)) = ap₂
+      (λ (s : Sentinel) (rows : List Row). allFrom (rowMet s g plan) 0 rows) hs hv in
       let df : d ≡ allFrom (rowMet w g plan) 0 (programmeOf w net .programme .fixed) = ap₂ (λ (s : Sentinel) (rows : List Row). allFrom (rowMet s g plan) 0 rows) hs hf in (
         λ h.
             let h3 = and-l (a && b && c) d h in

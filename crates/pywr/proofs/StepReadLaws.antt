@@ -20,7 +20,8 @@ use Rattle.pywr.specs.NetworkFile.{Read}
 use Rattle.pywr.specs.Programme.{NodeShape}
 use Rattle.pywr.specs.Interval.{sentinels, storageBounds}
 use Rattle.pywr.specs.Period.{isActive, virtualInterval}
-use Rattle.pywr.specs.StepFile.{NodeStep, StepFile, readDate, isStorage, boundFits, volumeFits, boundsRead, readNodeStep, readNodeSteps, readAggregateStep, readAggregateSteps, readVirtualStorageStep, readVirtualStorageSteps, readStep}
+use Rattle.pywr.specs.StepFile.{NodeStep, StepFile, readDate, isStorage, boundFits, volumeFits, boundsRead}
+use Rattle.pywr.specs.StepFile.{readNodeStep, readNodeSteps, readAggregateStep, readAggregateSteps, readVirtualStorageStep, readVirtualStorageSteps, readStep}
 use Rattle.pywr.specs.StepIntervals.{intervals, nodeInterval, nodeIntervals, virtualStorageIntervals, Intervals}
 use Rattle.pywr.proofs.BoundLaws.{IsInterval}
 use Rattle.pywr.proofs.NumberLaws.{flow-bound, small-is, Divisor, days-is, virtual-storage-interval, virtual-interval, flow-interval}
@@ -44,7 +45,8 @@ abbrev pub BoundsOk : Option NodeBounds → Type 0
 BoundsOk o = (s : Sentinel) (days : Float) → Divisor days → IsInterval (nodeInterval s days o)
 
 bounds-ok : (c st : Bool) (min max now : ℕ) → T (c || cond st (isSmall min) (isFlow min)) → T (c || cond st (isSmall max) (isFlow max)) → T (not st || isSmall now)
-    → BoundsOk (cond {A = Option NodeBounds} c none (cond {A = Option NodeBounds} st (some (storageBounds (ofPattern min) (ofPattern max) (ofPattern now))) (some (Flow (ofPattern min) (ofPattern max)))))
+    → BoundsOk (cond {A = Option NodeBounds} c none
+    (cond {A = Option NodeBounds} st (some (storageBounds (ofPattern min) (ofPattern max) (ofPattern now))) (some (Flow (ofPattern min) (ofPattern max)))))
 unfolding nodeInterval
 bounds-ok true st min max now hmin hmax hnow s days d = sentinels-interval s
 bounds-ok false true min max now hmin hmax hnow s days d = virtual-storage-interval days (ofPattern min) (ofPattern max) (ofPattern now) d (small-is min hmin) (small-is max hmax) (small-is now hnow)
@@ -63,7 +65,8 @@ read-node-step file n place r e =
     (checked-value 13 a (boundFits n) _ d d-is)
     (checked-value 13 a (volumeFits n) _ g g-is)))))))
 
-read-node-steps : (file : List ℕ) (ns : List NodeShape) (soFar : List NodeStep) (at : ℕ) (r : Read (List NodeStep)) → readNodeSteps file ns soFar at ≡ value r → AllMem StepOk soFar → AllMem StepOk (r .item)
+read-node-steps : (file : List ℕ) (ns : List NodeShape) (soFar : List NodeStep) (at : ℕ) (r : Read (List NodeStep)) → readNodeSteps file ns soFar at ≡ value r
+    → AllMem StepOk soFar → AllMem StepOk (r .item)
 unfolding readNodeSteps
 read-node-steps file [] soFar at r e h = subst (λ (q : Read (List NodeStep)). AllMem StepOk (q .item)) (same-value _ r e) h
 read-node-steps file (n ∷ ns) soFar at r e h =
@@ -82,7 +85,8 @@ read-aggregate file place r e =
 read-aggregates : (file : List ℕ) (count : ℕ) (soFar : List Interval) (at : ℕ) (r : Read (List Interval)) → readAggregateSteps file count soFar at ≡ value r → AllMem IsInterval soFar
     → AllMem IsInterval (r .item) × (length (r .item) ≡ length soFar + count)
 unfolding readAggregateSteps
-read-aggregates file zero soFar at r e h = subst (λ (q : Read (List Interval)). AllMem IsInterval (q .item) × (length (q .item) ≡ length soFar + 0)) (same-value _ r e) (h, sym (add-zero (length soFar)))
+read-aggregates file zero soFar at r e h = subst (λ (q : Read (List Interval)). AllMem IsInterval (q .item) × (length (q .item) ≡ length soFar + 0))
+    (same-value _ r e) (h, sym (add-zero (length soFar)))
 read-aggregates file (suc count) soFar at r e h =
     let a = bind-value _ _ r e in
     let ih = read-aggregates file count (soFar ++ (a .0 ∷ [])) (at + 18) r (a .2) (all-snoc IsInterval soFar (a .0) h (read-aggregate file at (a .0) (a .1))) in
@@ -108,7 +112,8 @@ read-store file place r e =
 read-virtual-storages : (file : List ℕ) (count : ℕ) (soFar : List NodeBounds) (at : ℕ) (r : Read (List NodeBounds)) → readVirtualStorageSteps file count soFar at ≡ value r → AllMem VolumeOk soFar
     → AllMem VolumeOk (r .item) × (length (r .item) ≡ length soFar + count)
 unfolding readVirtualStorageSteps
-read-virtual-storages file zero soFar at r e h = subst (λ (q : Read (List NodeBounds)). AllMem VolumeOk (q .item) × (length (q .item) ≡ length soFar + 0)) (same-value _ r e) (h, sym (add-zero (length soFar)))
+read-virtual-storages file zero soFar at r e h = subst (λ (q : Read (List NodeBounds)). AllMem VolumeOk (q .item) × (length (q .item) ≡ length soFar + 0))
+    (same-value _ r e) (h, sym (add-zero (length soFar)))
 read-virtual-storages file (suc count) soFar at r e h =
     let a = bind-value _ _ r e in
     let ih = read-virtual-storages file count (soFar ++ (a .0 ∷ [])) (at + 26) r (a .2) (all-snoc VolumeOk soFar (a .0) h (read-store file at (a .0) (a .1))) in
@@ -125,7 +130,8 @@ pub record StepSound (aggregates virtualStorages : ℕ) (f : StepFile) : Type 0 
   pub stores : AllMem VolumeOk (f .virtualStorages)
   pub storeCount : length (f .virtualStorages) ≡ virtualStorages
 
-pub step-sound : (shapes : List NodeShape) (aggregates virtualStorages : ℕ) (file : List ℕ) (f : StepFile) → readStep shapes aggregates virtualStorages file ≡ value f → StepSound aggregates virtualStorages f
+pub step-sound : (shapes : List NodeShape) (aggregates virtualStorages : ℕ) (file : List ℕ) (f : StepFile)
+    → readStep shapes aggregates virtualStorages file ≡ value f → StepSound aggregates virtualStorages f
 unfolding readStep
 step-sound shapes aggregates virtualStorages file f e =
     bind-then _ _ f e (λ a a-is e. bind-then _ _ f e (λ b b-is e. bind-then _ _ f e (λ c c-is e. bind-then _ _ f e (λ d d-is e.

@@ -44,7 +44,8 @@ module _ {A : Type 0} (d : A) where
   -- a run of stores leaves what is after it
   sets-above : (vs run : List A) (at k : ℕ) → at + length vs ≤ k → getD (sets run at vs) k d ≡ getD run k d
   sets-above [] run at k h = refl
-  sets-above (v ∷ vs) run at k h = sets-above vs (set run at v) (suc at) k (omega arith) ∙ getD-set-other run at k v d (λ e. let m : at + suc (length vs) ≤ k = h in let z : at < at = (let q = e in omega arith) in omega arith)
+  sets-above (v ∷ vs) run at k h = sets-above vs (set run at v) (suc at) k (omega arith)
+      ∙ getD-set-other run at k v d (λ e. let m : at + suc (length vs) ≤ k = h in let z : at < at = (let q = e in omega arith) in omega arith)
 
   pub holds-before : (vs ws run : List A) (at earlier : ℕ) → earlier + length vs ≤ at → Holds run at ws → Holds (sets run earlier vs) at ws
   unfolding Holds
@@ -320,5 +321,6 @@ module _ (old : Store) (b : Built) (room : shapeLength ≤ length (old .shape)) 
       (subst (λ (l : List ℕ). Holds 0 run aggregatesAt l) (sym (singles (b .shape .aggregates))) (aggregates-held (old .shape) b room fit)) in
       let virtualStorages : entries (virtualStorageEntry s) 6 virtualStoragesAt (getD run 10 0) ≡ b .shape .virtualStorages =
       ap (entries (virtualStorageEntry s) 6 virtualStoragesAt) (count-is 10 (lit≤ tt))
-      ∙ entries-back 0 run (virtualStorageEntry s) 6 virtualStorageWords virtual-storage-wide (virtual-storage-reads s) (b .shape .virtualStorages) virtualStoragesAt (virtual-storages-held (old .shape) b room fit) in
+      ∙ entries-back 0 run (virtualStorageEntry s) 6 virtualStorageWords virtual-storage-wide (virtual-storage-reads s) (b .shape .virtualStorages)
+      virtualStoragesAt (virtual-storages-held (old .shape) b room fit) in
       λ i. record { nodes = nodes i; mappedEdges = mappedEdges i; edgeColumns = count-is 3 (lit≤ tt) i; nodeRows = nodeRows i; aggregates = aggregates i; virtualStorages = virtualStorages i }

@@ -122,7 +122,8 @@ module _ (f : ColumnMap) (plan : Plan) where
       ∙ ap (λ (z : ℤ). z +ℤ rowSum f plan row)
       (+ℤ-comm (exact x *ℤ pos (onColumns cs)) (exact x *ℤ pos (onColumn f plan c)) ∙ sym (mul-addℤ (exact x) (pos (onColumn f plan c)) (pos (onColumns cs))))
 
-  pub add-on-upto : {g : ℕ} (cs : List ℕ) (x : Float) (n : ℕ) → Upto g n x → (b : ℕ) (row : List Element) → AllUpto g b row → b + length cs * n < 2 ^ 53 → AllUpto g (b + length cs * n) (addOn cs x row)
+  pub add-on-upto : {g : ℕ} (cs : List ℕ) (x : Float) (n : ℕ) → Upto g n x → (b : ℕ) (row : List Element) → AllUpto g b row → b + length cs * n < 2 ^ 53
+      → AllUpto g (b + length cs * n) (addOn cs x row)
   unfolding addOn
   add-on-upto [] x n u b row us h = all-wider b (b + 0 * n) row (omega arith) us
   add-on-upto (c ∷ cs) x n u b row us h =

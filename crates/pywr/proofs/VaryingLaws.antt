@@ -36,7 +36,8 @@ unfoldable pub node-places : List NodeRow → List ℕ
 node-places [] = []
 node-places (n ∷ ns) = n .row ∷ node-places ns
 
-pub node-rows-are : (w : Sentinel) (e : ℕ) (is : List Interval) (ns : List NodeRow) (rows : List Row) → Continuous ns → applyNodeRows w e is ns rows ≡ applyIntervals (node-places ns) (node-intervals w is ns) rows
+pub node-rows-are : (w : Sentinel) (e : ℕ) (is : List Interval) (ns : List NodeRow) (rows : List Row) → Continuous ns
+    → applyNodeRows w e is ns rows ≡ applyIntervals (node-places ns) (node-intervals w is ns) rows
 unfolding applyNodeRows applyIntervals node-intervals node-places applyInterval
 node-rows-are w e is [] rows Continuous.none = refl
 node-rows-are w e is (n ∷ ns) rows (Continuous.more t cs) =
@@ -53,7 +54,8 @@ module _ (w : Sentinel) (f : ColumnMap) (plan : Plan) where
   Asked (r ∷ rs) (i ∷ is) = T (meets w i (rowSum f plan r)) × Asked rs is
 
   -- from places to rows
-  pub applied-asked : (rows : List (List Element)) (sum : ℕ → ℤ) → ((p : ℕ) → p < length rows → sum p ≡ rowSum f plan (getD rows p [])) → (asked : List (List Element)) (ps : List ℕ) (is : List Interval)
+  pub applied-asked : (rows : List (List Element)) (sum : ℕ → ℤ) → ((p : ℕ) → p < length rows → sum p ≡ rowSum f plan (getD rows p []))
+      → (asked : List (List Element)) (ps : List ℕ) (is : List Interval)
       → Placed f plan rows asked ps → Applied w f plan sum ps is ↔ Asked asked is
   unfolding Applied Asked
   applied-asked rows sum e [] [] is Placed.none = (λ h. tt, λ h. tt)
@@ -153,7 +155,8 @@ module _ (w : Sentinel) (f : ColumnMap) (plan : Plan) (shape : Shape) (i : Inter
   varying-met n =
       let a0 = apply-met w f plan (node-places (shape .nodeRows)) isN r0 (subst (λ (m : ℕ). Fitting m (node-places (shape .nodeRows)) isN) (sym len0) fitN) sane0 n in
       let a1 = apply-met w f plan (shape .aggregates) (i .aggregates) r1 (subst (λ (m : ℕ). Fitting m (shape .aggregates) (i .aggregates)) (sym len1) fitA) sane1 n in
-      let a2 = apply-met w f plan (map rowOf (shape .virtualStorages)) (i .virtualStorages) r2 (subst (λ (m : ℕ). Fitting m (map rowOf (shape .virtualStorages)) (i .virtualStorages)) (sym len2) fitV) sane2 n in
+      let a2 = apply-met w f plan (map rowOf (shape .virtualStorages)) (i .virtualStorages) r2
+      (subst (λ (m : ℕ). Fitting m (map rowOf (shape .virtualStorages)) (i .virtualStorages)) (sym len2) fitV) sane2 n in
       let b0 = applied-asked w f plan joined (sums w f plan r0) (λ p h. ap (rowSum f plan) (el0 p)) askedN (node-places (shape .nodeRows)) isN placedN in
       let b1 = applied-asked w f plan joined (sums w f plan r1) (λ p h. ap (rowSum f plan) (el1 p)) askedA (shape .aggregates) (i .aggregates) placedA in
       let b2 = applied-asked w f plan joined (sums w f plan r2) (λ p h. ap (rowSum f plan) (el2 p)) askedV (map rowOf (shape .virtualStorages)) (i .virtualStorages) placedV in

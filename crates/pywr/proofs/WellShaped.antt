@@ -22,14 +22,16 @@ use Rattle.pywr.specs.Programme.{Row, Programme, NodeShape, RowType, con
 use Rattle.pywr.specs.VaryingRows.{RowRequest, requestsFrom, freshRow}
 use Rattle.pywr.specs.FixedRows.{massRowsFrom, constantRowsFrom, exclusivityRows}
 use Rattle.pywr.specs.Build.{allColumns, nodeShape, placedNodeRows, placedVirtualStorages, requestedRow, assemble, programmeOf, elementCount, underCeilings}
-use Rattle.pywr.specs.Store.{Store, word, sentinelCode, nodeCount, edgeCount, edgeColumnCount, setCount, varyingCount, fixedCount, elementsKept, nodeRowCount, aggregateCount, virtualStorageCount, rowCount, columnCount, startOf, columnsOfRow}
+use Rattle.pywr.specs.Store.{Store, word, sentinelCode, nodeCount, edgeCount, edgeColumnCount, setCount, varyingCount, fixedCount}
+use Rattle.pywr.specs.Store.{elementsKept, nodeRowCount, aggregateCount, virtualStorageCount, rowCount, columnCount, startOf, columnsOfRow}
 use Rattle.pywr.specs.Misshapen.{countsFit, startsRise, columnsRise, rowColumnsRise, nodeFits, edgeFits, nodeRowFits, aggregateFits, virtualStorageFits, allEntries, wellShaped}
 use Rattle.pywr.specs.Written.{sentinelWord, rowTypeWord, flagWord, nodeWords, edgeWords, nodeRowWords, virtualStorageWords, countWords, shapeAfter, startsFrom, columnsIn, rowsOf, builtStore}
 use Rattle.pywr.specs.Plans.{Plan}
 use Rattle.pywr.proofs.AmountLaws.{pipes-length}
 use Rattle.pywr.proofs.EvenLaws.{mapped-edge-of}
 use Rattle.pywr.proofs.MassLaws.{Every}
-use Rattle.pywr.proofs.StoreLaws.{Holds, holds-left, holds-right, word-at, first-word, node-wide, pipe-wide, nodeRow-wide, virtual-storage-wide, nodes-held, pipes-held, nodeRows-held, aggregates-held, virtual-storages-held, count-is}
+use Rattle.pywr.proofs.StoreLaws.{Holds, holds-left, holds-right, word-at, first-word, node-wide, pipe-wide, nodeRow-wide}
+use Rattle.pywr.proofs.StoreLaws.{virtual-storage-wide, nodes-held, pipes-held, nodeRows-held, aggregates-held, virtual-storages-held, count-is}
 use Rattle.pywr.proofs.RowsBack.{held-head, held-tail, start-head, part-is, columns-length}
 use Rattle.pywr.proofs.Represents.{Roomy, Represents, ProgrammeFits, built-represents}
 use Rattle.pywr.proofs.ListLaws.{AllMem, all-none, all-cons, all-append, all-map, every-mem, found-mem, mem-found, not-found, same-some, below-found, found-left, found-map}
@@ -37,7 +39,8 @@ use Rattle.pywr.proofs.MembershipLaws.{mem-listed}
 use Rattle.pywr.proofs.ReadLaws.{Good, Sound, EdgeOk}
 use Rattle.pywr.proofs.FitLaws.{elements-append, columns-long, columns-most, forNodes, forAggregates, forVirtualStorages, integers-all, programme-fits}
 use Rattle.pywr.proofs.CountLaws.{sets-under, requests-few}
-use Rattle.pywr.proofs.ShapeLaws.{cols, Good-row, rising-test, aggregate-good, virtual-storage-good, masses-good, constants-good, actives-good, AskOk, requests-ok, Sits, sits-all, sits-stay, joins-all}
+use Rattle.pywr.proofs.ShapeLaws.{cols, Good-row, rising-test, aggregate-good, virtual-storage-good, masses-good, constants-good}
+use Rattle.pywr.proofs.ShapeLaws.{actives-good, AskOk, requests-ok, Sits, sits-all, sits-stay, joins-all}
 
 -- ---- tests of entries
 
@@ -48,7 +51,8 @@ all-one test at (suc count) h =
     and-i (test at) (allEntries test 1 (at + 1) count) (subst (λ (n : ℕ). T (test n)) (add-zero at) (h 0 (suc-le-suc zero-le)))
     (all-one test (at + 1) count (λ i k. let e : at + suc i ≡ at + 1 + i = omega arith in subst (λ (n : ℕ). T (test n)) e (h (suc i) (suc-le-suc k))))
 
-table-all : {A : Type 0} (run : List ℕ) (test : ℕ → Bool) (words : ℕ) (code : A → List ℕ) (P : A → Type 0) → ((x : A) → length (code x) ≡ words) → ((at : ℕ) (x : A) → P x → Holds 0 run at (code x) → T (test at))
+table-all : {A : Type 0} (run : List ℕ) (test : ℕ → Bool) (words : ℕ) (code : A → List ℕ) (P : A → Type 0) → ((x : A) → length (code x) ≡ words)
+    → ((at : ℕ) (x : A) → P x → Holds 0 run at (code x) → T (test at))
     → (xs : List A) (at : ℕ) → AllMem P xs → Holds 0 run at (flatMap code xs) → T (allEntries test words at (length xs))
 unfolding allEntries flatMap
 table-all run test words code P wide pass [] at h holds = tt
@@ -58,7 +62,8 @@ table-all run test words code P wide pass (x ∷ xs) at h holds =
     (table-all run test words code P wide pass xs (at + words) (λ y m. h y (List·Memᴰ·tail m))
     (subst (λ (n : ℕ). Holds 0 run (at + n) (flatMap code xs)) (wide x) (holds-right 0 run at (code x) (flatMap code xs) holds)))
 
-row-all : (run : List ℕ) (test : ℕ → Bool) (n : ℕ) → ((at x : ℕ) → x < n → getD run at 0 ≡ x → T (test at)) → (xs : List ℕ) (at : ℕ) → AllMem (λ (x : ℕ). x < n) xs → Holds 0 run at xs → T (allEntries test 1 at (length xs))
+row-all : (run : List ℕ) (test : ℕ → Bool) (n : ℕ) → ((at x : ℕ) → x < n → getD run at 0 ≡ x → T (test at)) → (xs : List ℕ) (at : ℕ)
+    → AllMem (λ (x : ℕ). x < n) xs → Holds 0 run at xs → T (allEntries test 1 at (length xs))
 unfolding allEntries
 row-all run test n pass [] at h holds = tt
 row-all run test n pass (x ∷ xs) at h holds =
@@ -82,7 +87,8 @@ row-columns s (y ∷ ys) r at pre post ec lc hs zero x e =
     let first : getD (s .rowStarts) r 0 ≡ at = start-head at (y ∷ ys) (s .rowStarts) r hs in
     let second : getD (s .rowStarts) (r + 1) 0 ≡ at + n = start-head (at + n) ys (s .rowStarts) (r + 1) (held-tail 0 (s .rowStarts) r at (startsFrom (at + n) ys) hs) in
     ap (columnsOfRow s) (add-zero r)
-    ∙ part-is (s .columns) pre (columnsIn y) (flatMap columnsIn ys) post (getD (s .rowStarts) r 0) (getD (s .rowStarts) (r + 1) 0) at ec lc first (second ∙ ap (λ (m : ℕ). at + m) (sym (columns-length y)))
+    ∙ part-is (s .columns) pre (columnsIn y) (flatMap columnsIn ys) post (getD (s .rowStarts) r 0) (getD (s .rowStarts) (r + 1) 0) at ec lc first
+    (second ∙ ap (λ (m : ℕ). at + m) (sym (columns-length y)))
     ∙ ap columnsIn (same-some y x e)
 row-columns s (y ∷ ys) r at pre post ec lc hs (suc i) x e =
     let n : ℕ = length (y .elements) in
@@ -137,7 +143,8 @@ virtual-storages-under : (n : ℕ) (vs : List VirtualStorage) (ps : List ℕ) �
 unfolding placedVirtualStorages
 virtual-storages-under n [] ps h = all-none (λ (v : VirtualStorageShape). v .row < n)
 virtual-storages-under n (v ∷ vs) [] h = all-none (λ (v : VirtualStorageShape). v .row < n)
-virtual-storages-under n (v ∷ vs) (p ∷ ps) h = all-cons (λ (v : VirtualStorageShape). v .row < n) _ (placedVirtualStorages vs ps) (h p (List·Memᴰ·head refl)) (virtual-storages-under n vs ps (λ q m. h q (List·Memᴰ·tail m)))
+virtual-storages-under n (v ∷ vs) (p ∷ ps) h = all-cons (λ (v : VirtualStorageShape). v .row < n) _ (placedVirtualStorages vs ps) (h p (List·Memᴰ·head refl))
+    (virtual-storages-under n vs ps (λ q m. h q (List·Memᴰ·tail m)))
 
 record PipeOk (nodes edges : ℕ) (p : MappedEdge) : Type 0 where
   from-under : p .from < nodes
@@ -184,7 +191,8 @@ nine a b c d e f g h i ta tb tc td te tf tg th ti =
 
 requests-rise : (net : Network) (sound : Sound net) → AllMem (Good-row net sound) (map requestedRow (requestsFrom (columnMap net) 0 (net .nodes)))
 unfolding requestedRow
-requests-rise net sound = all-map (Good-row net sound) requestedRow (requestsFrom (columnMap net) 0 (net .nodes)) (λ a m. every-mem (AskOk net sound) (requestsFrom (columnMap net) 0 (net .nodes)) (requests-ok net sound) a m .rises)
+requests-rise net sound = all-map (Good-row net sound) requestedRow (requestsFrom (columnMap net) 0 (net .nodes))
+    (λ a m. every-mem (AskOk net sound) (requestsFrom (columnMap net) 0 (net .nodes)) (requests-ok net sound) a m .rises)
 
 fresh-good : (net : Network) (sound : Sound net) (w : Sentinel) (r : List Element) → Good-row net sound r → Good-row net sound (freshRow w r .elements)
 unfolding freshRow
@@ -289,7 +297,8 @@ module _ (w : Sentinel) (net : Network) (sound : Sound net) (old : Store) (room 
   counts-ok =
       let g = sound .good in
       let ne = g .edgeCount in
-      nine (leb (nodeCount store) 256) (leb (edgeCount store) 512) (leb (edgeColumnCount store) 512) (leb (setCount store) 128) (leb (rowCount store) 1024) (leb (elementsKept store) 4096) (leb (nodeRowCount store) nodeRowCeiling) (leb (aggregateCount store) 64) (leb (virtualStorageCount store) 32)
+      nine (leb (nodeCount store) 256) (leb (edgeCount store) 512) (leb (edgeColumnCount store) 512) (leb (setCount store) 128) (leb (rowCount store) 1024)
+      (leb (elementsKept store) 4096) (leb (nodeRowCount store) nodeRowCeiling) (leb (aggregateCount store) 64) (leb (virtualStorageCount store) 32)
       (leb-is (nodeCount store) (length (net .nodes)) 256 c1 (g .nodeCount))
       (leb-is (edgeCount store) (length (net .edges)) 512 c2 ne)
       (leb-is (edgeColumnCount store) (columns net .count) 512 c3 (le-trans (columns-most net) ne))
@@ -372,13 +381,16 @@ module _ (w : Sentinel) (net : Network) (sound : Sound net) (old : Store) (room 
 
   sitsN : Sits joined (map requestedRow (requestsFrom (columnMap net) 0 (net .nodes))) (forNodes w net idle .places)
   sitsN =
-      sits-stay (map requestedRow (requestsFrom (columnMap net) 0 (net .nodes))) (forNodes w net idle .places) (map (virtualStorageRow (columnMap net)) (net .virtualStorages)) (record { rows = forAggregates w net idle .rows; places = [] })
-      (sits-stay (map requestedRow (requestsFrom (columnMap net) 0 (net .nodes))) (forNodes w net idle .places) (map (aggregateRow (columnMap net)) (net .aggregates)) (record { rows = forNodes w net idle .rows; places = [] })
+      sits-stay (map requestedRow (requestsFrom (columnMap net) 0 (net .nodes))) (forNodes w net idle .places)
+      (map (virtualStorageRow (columnMap net)) (net .virtualStorages)) (record { rows = forAggregates w net idle .rows; places = [] })
+      (sits-stay (map requestedRow (requestsFrom (columnMap net) 0 (net .nodes))) (forNodes w net idle .places)
+      (map (aggregateRow (columnMap net)) (net .aggregates)) (record { rows = forNodes w net idle .rows; places = [] })
       (sits-all (map requestedRow (requestsFrom (columnMap net) 0 (net .nodes))) [] (record { rows = []; places = [] }) Sits.none))
 
   sitsA : Sits joined (map (aggregateRow (columnMap net)) (net .aggregates)) (forAggregates w net idle .places)
   sitsA =
-      sits-stay (map (aggregateRow (columnMap net)) (net .aggregates)) (forAggregates w net idle .places) (map (virtualStorageRow (columnMap net)) (net .virtualStorages)) (record { rows = forAggregates w net idle .rows; places = [] })
+      sits-stay (map (aggregateRow (columnMap net)) (net .aggregates)) (forAggregates w net idle .places)
+      (map (virtualStorageRow (columnMap net)) (net .virtualStorages)) (record { rows = forAggregates w net idle .rows; places = [] })
       (sits-all (map (aggregateRow (columnMap net)) (net .aggregates)) [] (record { rows = forNodes w net idle .rows; places = [] }) Sits.none)
 
   sitsV : Sits joined (map (virtualStorageRow (columnMap net)) (net .virtualStorages)) (forVirtualStorages w net idle .places)
@@ -398,7 +410,8 @@ module _ (w : Sentinel) (net : Network) (sound : Sound net) (old : Store) (room 
       → T (eqb (word store (at + 2)) 0 || (ltb (word store (at + 3)) (setCount store) && listed (edgeColumnCount store + word store (at + 3)) (columnsOfRow store (word store (at + 1)))))
   unfolding rowTypeWord
   set-listed at x k second third fourth (inl q) =
-      or-l (eqb (word store (at + 2)) 0) (ltb (word store (at + 3)) (setCount store) && listed (edgeColumnCount store + word store (at + 3)) (columnsOfRow store (word store (at + 1)))) (eq→eqb (third ∙ ap rowTypeWord q))
+      or-l (eqb (word store (at + 2)) 0) (ltb (word store (at + 3)) (setCount store)
+      && listed (edgeColumnCount store + word store (at + 3)) (columnsOfRow store (word store (at + 1)))) (eq→eqb (third ∙ ap rowTypeWord q))
   set-listed at x k second third fourth (inr q) =
       let u : Bool = ltb (word store (at + 3)) (setCount store) in
       let v : Bool = listed (edgeColumnCount store + word store (at + 3)) (columnsOfRow store (word store (at + 1))) in
@@ -406,7 +419,8 @@ module _ (w : Sentinel) (net : Network) (sound : Sound net) (old : Store) (room 
       let col : edgeColumnCount store + word store (at + 3) ≡ columns net .count + x .set = ap₂ (λ (m n : ℕ). m + n) c3 fourth in
       or-r (eqb (word store (at + 2)) 0) (u && v)
       (and-i u v (ltb-is (word store (at + 3)) (x .set) (setCount store) (length (exclusiveSets net)) fourth c4 (q .0))
-      (subst (λ (l : List ℕ). T (listed (edgeColumnCount store + word store (at + 3)) l)) (sym row) (subst (λ (c : ℕ). T (listed c (cols (getD joined (x .row) [])))) (sym col) (mem-listed (columns net .count + x .set) (cols (getD joined (x .row) [])) (q .1)))))
+      (subst (λ (l : List ℕ). T (listed (edgeColumnCount store + word store (at + 3)) l)) (sym row)
+      (subst (λ (c : ℕ). T (listed c (cols (getD joined (x .row) [])))) (sym col) (mem-listed (columns net .count + x .set) (cols (getD joined (x .row) [])) (q .1)))))
 
   nodeRows-ok : T (allEntries (nodeRowFits store) 4 nodeRowsAt (nodeRowCount store))
   unfolding builtStore nodeRowFits nodeRowWords countWords
@@ -426,7 +440,8 @@ module _ (w : Sentinel) (net : Network) (sound : Sound net) (old : Store) (room 
       let v : Bool = listed (edgeColumnCount store + word store (at + 3)) (columnsOfRow store (word store (at + 1))) in
       and-i (p && q && r) (z || (u && v))
       (and-i (p && q) r
-      (and-i p q (ltb-is (word store at) (x .node) (nodeCount store) (length (net .nodes)) first c1 (k .node-under)) (ltb-is (word store (at + 1)) (x .row) (varyingCount store) (length joined) second c5 (k .row-under)))
+      (and-i p q (ltb-is (word store at) (x .node) (nodeCount store) (length (net .nodes)) first c1 (k .node-under))
+      (ltb-is (word store (at + 1)) (x .row) (varyingCount store) (length joined) second c5 (k .row-under)))
       (leb-is (word store (at + 2)) (rowTypeWord (x .rowType)) 2 third (type-most (x .rowType))))
       (set-listed at x k second third fourth (k .has-set)))
       (b .shape .nodeRows) nodeRowsAt built-node-rows (nodeRows-held (old .shape) b (room .shape) (fits .tables)))
@@ -447,11 +462,15 @@ module _ (w : Sentinel) (net : Network) (sound : Sound net) (old : Store) (room 
       and-i (ltb (word store at) (varyingCount store)) (leb (word store (at + 1)) 1)
       (ltb-is (word store at) (x .row) (varyingCount store) (length joined) (first-word (shapeAfter (old .shape) b) at (virtualStorageWords x) h (lit≤ tt)) c5 k)
       (leb-is (word store (at + 1)) (flagWord (not (x .period .always))) 1 (word-at (shapeAfter (old .shape) b) at (virtualStorageWords x) h 1 (lit≤ tt)) (flag-most (not (x .period .always)))))
-      (b .shape .virtualStorages) virtualStoragesAt (virtual-storages-under (length joined) (net .virtualStorages) (forVirtualStorages w net idle .places) (places-under joined _ _ sitsV)) (virtual-storages-held (old .shape) b (room .shape) (fits .tables)))
+      (b .shape .virtualStorages) virtualStoragesAt
+      (virtual-storages-under (length joined) (net .virtualStorages) (forVirtualStorages w net idle .places) (places-under joined _ _ sitsV))
+      (virtual-storages-held (old .shape) b (room .shape) (fits .tables)))
 
   pub shaped : T (wellShaped (builtStore old (programmeOf w net)))
   unfolding wellShaped
   shaped =
-      nine (countsFit store) (leb (sentinelCode store) 1) (eqb (startOf store 0) 0 && startsRise store 0 (rowCount store)) (allEntries (rowColumnsRise store) 1 0 (rowCount store)) (allEntries (nodeFits store) 2 11 (nodeCount store))
-      (allEntries (edgeFits store) 3 edgesAt (edgeCount store)) (allEntries (nodeRowFits store) 4 nodeRowsAt (nodeRowCount store)) (allEntries (aggregateFits store) 1 aggregatesAt (aggregateCount store)) (allEntries (virtualStorageFits store) 6 virtualStoragesAt (virtualStorageCount store))
+      nine (countsFit store) (leb (sentinelCode store) 1) (eqb (startOf store 0) 0 && startsRise store 0 (rowCount store))
+      (allEntries (rowColumnsRise store) 1 0 (rowCount store)) (allEntries (nodeFits store) 2 11 (nodeCount store))
+      (allEntries (edgeFits store) 3 edgesAt (edgeCount store)) (allEntries (nodeRowFits store) 4 nodeRowsAt (nodeRowCount store))
+      (allEntries (aggregateFits store) 1 aggregatesAt (aggregateCount store)) (allEntries (virtualStorageFits store) 6 virtualStoragesAt (virtualStorageCount store))
       counts-ok (leb-is (sentinelCode store) (sentinelWord w) 1 c0 (sentinel-most w)) starts-ok rows-ok nodes-ok edges-ok nodeRows-ok aggregates-ok virtual-storages-ok

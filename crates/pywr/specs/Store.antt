@@ -14,7 +14,10 @@ use lib.ListN.{length, getD}
 use lib.Seq.{slice}
 use lib.Dec.{leb, eqb}
 use lib.Ieee.{Float}
-use Rattle.layout.specs.Layout.{columnCeiling, rowCeiling, elementCeiling, rowStartsLength, shapeLength, nodeWidth, edgeWidth, nodeRowWidth, aggregateWidth, virtualStorageWidth, sentinelIn, nodesIn, edgesIn, edgeColumnsIn, setsIn, varyingIn, fixedIn, elementsIn, nodeRowsIn, aggregatesIn, virtualStoragesIn, nodeKind, nodeFlag, edgeFrom, edgeTo, mappedColumn, nodeRowNode, nodeRowRow, nodeRowType, nodeRowSet, entryRow, periodFlag, periodStartMonth, periodStartDay, periodEndMonth, periodEndDay}
+use Rattle.layout.specs.Layout.{columnCeiling, rowCeiling, elementCeiling, rowStartsLength, shapeLength, nodeWidth, edgeWidth, nodeRowWidth, aggregateWidth}
+use Rattle.layout.specs.Layout.{virtualStorageWidth, sentinelIn, nodesIn, edgesIn, edgeColumnsIn, setsIn, varyingIn, fixedIn, elementsIn}
+use Rattle.layout.specs.Layout.{nodeRowsIn, aggregatesIn, virtualStoragesIn, nodeKind, nodeFlag, edgeFrom, edgeTo, mappedColumn, nodeRowNode}
+use Rattle.layout.specs.Layout.{nodeRowRow, nodeRowType, nodeRowSet, entryRow, periodFlag, periodStartMonth, periodStartDay, periodEndMonth, periodEndDay}
 pub use Rattle.layout.specs.Layout.{nodesAt, edgesAt, nodeRowsAt, aggregatesAt, virtualStoragesAt}
 use Rattle.pywr.specs.declared.Sentinel.{Sentinel}
 use Rattle.pywr.specs.declared.Sentinel.the-variants.{Infinity, Largest}

@@ -18,7 +18,8 @@ pub build-crossed : {t : Sentinel} (s : Sentinel) {file words words′ : List �
 build-crossed s a e b c =
     record { answer = a; after = rw e at b; number = c .0; place = c .1 }
 
-pub step-crossed : {file : List ℕ} {old new : Store} {work work′ : List Float} {n p : ℕ} (a : Answer) → AfterStep file old work a new work′ → (n ≡ numberOf a) × (p ≡ placeOf a) → StepCrossed file old work n p new work′
+pub step-crossed : {file : List ℕ} {old new : Store} {work work′ : List Float} {n p : ℕ} (a : Answer) → AfterStep file old work a new work′ → (n ≡ numberOf a)
+    × (p ≡ placeOf a) → StepCrossed file old work n p new work′
 step-crossed a b c = record { answer = a; after = b; number = c .0; place = c .1 }
 
 -- a part within the columns rises

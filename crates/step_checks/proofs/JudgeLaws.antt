@@ -74,7 +74,8 @@ module _ (s : Store) (file : List ℕ) (work : List Float) where
         → stepAnswer s file lent ≡ afterReading (stepIntervals s) (readOn s file)
     unfolding stepRoom
     answers lent room =
-        step-answers s file lent (and-l (storeHasRoom s) (leb stepWorkLength (length lent)) (of-true (storeHasRoom s && leb stepWorkLength (length lent)) room)) (room-work s lent room) (of-true (wellShaped s) ok)
+        step-answers s file lent (and-l (storeHasRoom s) (leb stepWorkLength (length lent)) (of-true (storeHasRoom s && leb stepWorkLength (length lent)) room))
+        (room-work s lent room) (of-true (wellShaped s) ok)
 
     -- 12, 13
     pub judged-file : {n p : ℕ} → Refused n p ≡ answerOf (readOn s file) → Judged s file (Refused n p) work
@@ -104,7 +105,8 @@ module _ (s : Store) (file : List ℕ) (work : List Float) where
           omega (arith, l, n, a, v)
 
       -- 14, 15, or accepted
-      pub judged-intervals : (r : Answer) → r ≡ answerOf (ordered (stepIntervals s (decodedBy s file))) → (r ≡ Accepted → IntervalsHeld (nodeCount s) (aggregateCount s) (virtualStorageCount s) work (stepIntervals s (decodedBy s file)))
+      pub judged-intervals : (r : Answer) → r ≡ answerOf (ordered (stepIntervals s (decodedBy s file)))
+          → (r ≡ Accepted → IntervalsHeld (nodeCount s) (aggregateCount s) (virtualStorageCount s) work (stepIntervals s (decodedBy s file)))
           → Judged s file r work
       judged-intervals r a h =
           let i = ordered (stepIntervals s (decodedBy s file)) in

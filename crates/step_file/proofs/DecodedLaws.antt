@@ -49,7 +49,8 @@ checked-length shapes aggregates virtualStorages file e =
     let most : length file ≤ fileLength n aggregates virtualStorages = leb-true _ _ (test-passed (leb (length file) (fileLength n aggregates virtualStorages)) Accepted 12 _ (d .1) .0) in
     let nodes : aggregateStepsAt n ≤ length file = nodes-within file shapes 12 (date-within file (a .0)) (b .0) in
     let groups : virtualStorageStepsAt n aggregates ≤ length file = records-within file (checkAggregate file) 18 (aggregate-within file) aggregates (aggregateStepsAt n) nodes (c .0) in
-    let stores : fileLength n aggregates virtualStorages ≤ length file = records-within file (checkVirtualStorageStep file) 26 (virtual-storage-within file) virtualStorages (virtualStorageStepsAt n aggregates) groups (d .0) in
+    let stores : fileLength n aggregates virtualStorages ≤ length file = records-within file (checkVirtualStorageStep file) 26 (virtual-storage-within file)
+    virtualStorages (virtualStorageStepsAt n aggregates) groups (d .0) in
     omega arith
 
 module _ (shapes : List NodeShape) (aggregates virtualStorages : ℕ) (file : List ℕ) (e : answerOf (readStep shapes aggregates virtualStorages file) ≡ Accepted) where

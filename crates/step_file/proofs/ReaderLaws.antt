@@ -17,7 +17,8 @@ use Rattle.pywr.specs.Numbers.{isFlow, isSmall}
 use Rattle.pywr.specs.NetworkFile.{Read}
 use Rattle.pywr.specs.Programme.{NodeShape}
 use Rattle.pywr.specs.Store.{entries}
-use Rattle.pywr.specs.StepFile.{NodeStep, StepFile, expectMark, readDate, isStorage, boundFits, volumeFits, readNodeStep, readNodeSteps, readAggregateStep, readAggregateSteps, readVirtualStorageStep, readVirtualStorageSteps, readStep}
+use Rattle.pywr.specs.StepFile.{NodeStep, StepFile, expectMark, readDate, isStorage, boundFits, volumeFits}
+use Rattle.pywr.specs.StepFile.{readNodeStep, readNodeSteps, readAggregateStep, readAggregateSteps, readVirtualStorageStep, readVirtualStorageSteps, readStep}
 use Rattle.step_record.specs.declared.Range.{Range}
 use Rattle.step_record.specs.declared.Range.the-variants.{Flow, Small, Days}
 use Rattle.step_record.specs.Check.{inRange, boundRange, volumeRange, checkMark, checkField, checkByte, answerThen, checkDate, checkNode, checkAggregate, checkVirtualStorageStep}
@@ -56,7 +57,8 @@ unfolding need asResult
 need-law true number place x = refl
 need-law false number place x = refl
 
-checked-law : (b t : Bool) (ok : ℕ → Bool) (x number place short : ℕ) → ok x ≡ t → checked number place ok (need b short place x) ≡ asResult x (cond b (cond t Accepted (Refused number place)) (Refused short place))
+checked-law : (b t : Bool) (ok : ℕ → Bool) (x number place short : ℕ) → ok x ≡ t
+    → checked number place ok (need b short place x) ≡ asResult x (cond b (cond t Accepted (Refused number place)) (Refused short place))
 unfolding checked need _>>=_ asResult
 checked-law true true ok x number place short e = rw e
 checked-law true false ok x number place short e = rw e
@@ -73,7 +75,8 @@ module _ (file : List ℕ) where
   unfolding u8 checkByte
   byte-law at most = checked-law _ _ (λ x. leb 1 x && leb x most) (byte file at) 13 0 12 refl
 
-  field-law : (place at : ℕ) (range : Range) (ok : ℕ → Bool) → ok (le64 file at) ≡ inRange range (le64 file at) → checked 13 place ok (bits64 file place 12 at) ≡ asResult (le64 file at) (checkField file place at range)
+  field-law : (place at : ℕ) (range : Range) (ok : ℕ → Bool) → ok (le64 file at) ≡ inRange range (le64 file at)
+      → checked 13 place ok (bits64 file place 12 at) ≡ asResult (le64 file at) (checkField file place at range)
   unfolding bits64 checkField
   field-law place at range ok e = checked-law _ _ ok (le64 file at) 13 place 12 e
 
@@ -177,13 +180,17 @@ module _ {A : Type 0} (read : ℕ → Result A) (entry : ℕ → A) (check : ℕ
       ∙ ap₂ (λ (l : List A) (k : ℕ). asResult (readUpTo l k) (checkRecords check size count (at + size))) (append-assoc soFar (entry at ∷ []) rest) q)
 
 module _ (file : List ℕ) where
-  aggregates-law : (count at : ℕ) → readAggregateSteps file count [] at ≡ asResult (readUpTo (entries (aggregateStepAt file) 18 at count) (at + 18 * count)) (checkRecords (checkAggregate file) 18 count at)
+  aggregates-law : (count at : ℕ) → readAggregateSteps file count [] at ≡ asResult (readUpTo (entries (aggregateStepAt file) 18 at count) (at + 18 * count))
+      (checkRecords (checkAggregate file) 18 count at)
   unfolding readAggregateSteps
-  aggregates-law count at = records-law (readAggregateStep file) (aggregateStepAt file) (checkAggregate file) 18 (readAggregateSteps file) (λ soFar at. refl) (λ count soFar at. refl) (aggregate-law file) count [] at
+  aggregates-law count at = records-law (readAggregateStep file) (aggregateStepAt file) (checkAggregate file) 18 (readAggregateSteps file) (λ soFar at. refl)
+      (λ count soFar at. refl) (aggregate-law file) count [] at
 
-  virtual-storages-law : (count at : ℕ) → readVirtualStorageSteps file count [] at ≡ asResult (readUpTo (entries (virtualStorageStepAt file) 26 at count) (at + 26 * count)) (checkRecords (checkVirtualStorageStep file) 26 count at)
+  virtual-storages-law : (count at : ℕ) → readVirtualStorageSteps file count [] at ≡ asResult
+      (readUpTo (entries (virtualStorageStepAt file) 26 at count) (at + 26 * count)) (checkRecords (checkVirtualStorageStep file) 26 count at)
   unfolding readVirtualStorageSteps
-  virtual-storages-law count at = records-law (readVirtualStorageStep file) (virtualStorageStepAt file) (checkVirtualStorageStep file) 26 (readVirtualStorageSteps file) (λ soFar at. refl) (λ count soFar at. refl) (virtual-storage-law file) count [] at
+  virtual-storages-law count at = records-law (readVirtualStorageStep file) (virtualStorageStepAt file) (checkVirtualStorageStep file) 26
+      (readVirtualStorageSteps file) (λ soFar at. refl) (λ count soFar at. refl) (virtual-storage-law file) count [] at
 
 -- ---- the whole file
 

@@ -11,7 +11,9 @@ use Rattle.pywr.specs.Programme.{NodeShape}
 use Rattle.pywr.specs.Interval.{virtualBounds}
 use Rattle.pywr.specs.Store.{entries}
 use Rattle.pywr.specs.StepFile.{NodeStep, StepFile, boundsRead}
-use Rattle.step_record.specs.Check.{dateLength, monthOffset, dayOffset, daysOffset, nodeStepLength, nodeCostOffset, nodeMinOffset, nodeMaxOffset, nodeVolumeOffset, aggregateStepLength, aggregateLowerOffset, aggregateUpperOffset, virtualStorageStepLength, virtualMinOffset, virtualMaxOffset, virtualVolumeOffset}
+use Rattle.step_record.specs.Check.{dateLength, monthOffset, dayOffset, daysOffset, nodeStepLength, nodeCostOffset}
+use Rattle.step_record.specs.Check.{nodeMinOffset, nodeMaxOffset, nodeVolumeOffset, aggregateStepLength, aggregateLowerOffset, aggregateUpperOffset}
+use Rattle.step_record.specs.Check.{virtualStorageStepLength, virtualMinOffset, virtualMaxOffset, virtualVolumeOffset}
 
 -- the double at a place
 abbrev pub f64At : List ℕ → ℕ → Float

@@ -84,7 +84,8 @@ module _ (s : Store) (shape file : List ℕ) (e : s .shape ≡ shape) (days : Fl
           aggregates-are = holds w₃ (aggregateNumbered (s .shape) file) 256 (aggregateCount s)
               (λ k lt. v .kept (256 + k) (omega (arith, ap (λ (l : List ℕ). getD l 9 0) e)) ∙ aggregates-written .held k lt)
               ∙ sym (aggregates-are s file);
-          virtual-storages-are = holds w₃ (virtualStorageNumbered (sentinelOf (word s 0)) (f64At file 4) (s .shape) file) virtualStoragesHeldAt (virtualStorageCount s) (v .held) ∙ sym (virtual-storages-are s file);
+          virtual-storages-are = holds w₃ (virtualStorageNumbered (sentinelOf (word s 0)) (f64At file 4) (s .shape) file) virtualStoragesHeldAt
+              (virtualStorageCount s) (v .held) ∙ sym (virtual-storages-are s file);
         }
 
     pub all-found : Found s file r₂ w₃

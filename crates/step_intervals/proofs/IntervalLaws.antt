@@ -61,6 +61,12 @@ module _ (s : Store) (file : List ℕ) where
   pub virtual-storages-are : intervalsIn s file .virtualStorages ≡ entries (virtualStorageNumbered (sentinelOf (word s 0)) (f64At file 4) (s .shape) file) 1 0 (virtualStorageCount s)
   unfolding intervalsIn stepIntervals intervals decoded shapeOf programmeIn periods virtualStorageEntry periodAt virtualIntervalAt virtualStorageNumbered
   virtual-storages-are =
-      rw (entries-length (nodeEntry s) 2 11 (nodeCount s), entries-length (word s) 1 aggregatesAt (aggregateCount s), entries-length (virtualStorageEntry s) 6 virtualStoragesAt (virtualStorageCount s))
-      (virtual-storage-list (sentinelOf (word s 0)) _ (virtualStorageNumbered (sentinelOf (word s 0)) (f64At file 4) (s .shape) file) (virtualStorageCount s) (virtualStorageStepsAt (nodeCount s) (aggregateCount s))
+      rw (
+        entries-length (nodeEntry s) 2 11 (nodeCount s),
+        entries-length (word s) 1 aggregatesAt (aggregateCount s),
+        entries-length (virtualStorageEntry s) 6
+            virtualStoragesAt (virtualStorageCount s),
+      )
+      (virtual-storage-list (sentinelOf (word s 0)) _ (virtualStorageNumbered (sentinelOf (word s 0)) (f64At file 4) (s .shape) file) (virtualStorageCount s)
+      (virtualStorageStepsAt (nodeCount s) (aggregateCount s))
       (λ k. ap (virtualStorageNumbered (sentinelOf (word s 0)) (f64At file 4) (s .shape) file) (let e : k ≡ 0 + k = omega arith in e)))

@@ -76,7 +76,8 @@ module _ (s : Store) (rows : List Row) where
           factors = k .stored
               ∙ ap (λ (l : List Float). set l (k .place) x) (w .factors)
               ∙ set-written (flatMap valuesIn rows) (s .elements) (k .place) x place
-              ∙ ap (sets (s .elements) 0) (coefficient-written s h (omega arith) c (getD (s .shape) 3 0 + getD (s .shape) 4 0) (k .place) x (k .on) rows n r (w .columns) (omega arith) lt (k .from) (k .under) (fit .rise r lt));
+              ∙ ap (sets (s .elements) 0)
+              (coefficient-written s h (omega arith) c (getD (s .shape) 3 0 + getD (s .shape) 4 0) (k .place) x (k .on) rows n r (w .columns) (omega arith) lt (k .from) (k .under) (fit .rise r lt));
           columns = map-kept (withCoefficient c x) columnsIn (with-columns c x) r rows ∙ w .columns;
         }
 
@@ -97,14 +98,17 @@ module _ (s : Store) (work : List Float) (at : ℕ) (rows : List Row) where
   type-lower a b = let e : word s (at + 2) ≡ suc (suc (word s (at + 2) - 2)) = omega arith in rw e
 
   module _ (lower upper elements : List Float) (w : VaryingWritten s rows lower upper elements) (by : Interval) (held : by ≡ heldAt work (word s at)) where
-    pub node-continuous : word s (at + 2) ≡ 0 → (lower′ upper′ : List Float) (r : ℕ) → r ≡ word s (at + 1) → word s (at + 1) < varyingCount s → varyingCount s ≤ length lower → varyingCount s ≤ length upper
+    pub node-continuous : word s (at + 2) ≡ 0 → (lower′ upper′ : List Float) (r : ℕ) → r ≡ word s (at + 1) → word s (at + 1) < varyingCount s
+        → varyingCount s ≤ length lower → varyingCount s ≤ length upper
         → RowTightened r by lower upper lower′ upper′ → VaryingWritten s (nodeRowApplied s work at rows) lower′ upper′ elements
     node-continuous e lower′ upper′ r q lt rl ru t =
         rw (type-continuous e, ← held, ← q) (bounds-applied s rows lower upper elements w lower′ upper′ r by (omega arith) rl ru t)
 
-    module _ (fit : VaryingFit (s .columns) (s .rowStarts) (s .shape)) (elements′ : List Float) (r c : ℕ) (q : r ≡ word s (at + 1)) (lt : word s (at + 1) < varyingCount s) (on : c ≡ edgeColumnCount s + word s (at + 3)) where
+    module _ (fit : VaryingFit (s .columns) (s .rowStarts) (s .shape)) (elements′ : List Float) (r c : ℕ) (q : r ≡ word s (at + 1))
+        (lt : word s (at + 1) < varyingCount s) (on : c ≡ edgeColumnCount s + word s (at + 3)) where
       pub node-upper : word s (at + 2) ≡ 1 → CoefficientSet (s .columns) (s .rowStarts) r c (by .upper) elements elements′ → VaryingWritten s (nodeRowApplied s work at rows) lower upper elements′
       node-upper e k = rw (type-upper e, ← held, ← q, ← on) (coefficient-applied s rows lower upper elements w fit elements′ r c (by .upper) (omega arith) k)
 
-      pub node-lower : (word s (at + 2) ≡ 0 → ⊥) → (word s (at + 2) ≡ 1 → ⊥) → CoefficientSet (s .columns) (s .rowStarts) r c (neg (by .lower)) elements elements′ → VaryingWritten s (nodeRowApplied s work at rows) lower upper elements′
+      pub node-lower : (word s (at + 2) ≡ 0 → ⊥) → (word s (at + 2) ≡ 1 → ⊥)
+          → CoefficientSet (s .columns) (s .rowStarts) r c (neg (by .lower)) elements elements′ → VaryingWritten s (nodeRowApplied s work at rows) lower upper elements′
       node-lower a b k = rw (type-lower a b, ← held, ← q, ← on) (coefficient-applied s rows lower upper elements w fit elements′ r c (neg (by .lower)) (omega arith) k)

@@ -77,7 +77,8 @@ module _ (shape : List ℕ) (work : List Float) (words table first count : ℕ) 
               record {
                 now = adjust (applyRowBounds by) row n;
                 many = adjust-length (applyRowBounds by) row n ∙ l .many;
-                written = tightened n lower upper lower′ upper′ lower″ upper″ row by (omega (arith, l .many, e)) (omega (arith, l .many, e, h .lower-long)) (omega (arith, l .many, e, h .upper-long)) (l .written) t;
+                written = tightened n lower upper lower′ upper′ lower″ upper″ row by (omega (arith, l .many, e)) (omega (arith, l .many, e, h .lower-long))
+                    (omega (arith, l .many, e, h .upper-long)) (l .written) t;
                 so-far = l .so-far ∙ rw (q, p, er, eb);
               };
         }

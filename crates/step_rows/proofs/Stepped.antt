@@ -72,7 +72,8 @@ module _ (s : Store) (work : List Float) where
       (rows : List Row) (l u : List Float) → length rows ≡ varyingCount s → BoundsWritten rows l u lower upper
       → BoundsWritten (applyIntervals (entries (word s) words at n) (heldFrom work first n) rows) l u lower′ upper′
 
-  module _ (fit : VaryingFit (s .columns) (s .rowStarts) (s .shape)) (long : 4096 ≤ length (s .elements)) (lower₁ upper₁ lower₂ upper₂ elements lower₃ upper₃ lower₄ upper₄ : List Float) (g v : ℕ) where
+  module _ (fit : VaryingFit (s .columns) (s .rowStarts) (s .shape)) (long : 4096 ≤ length (s .elements))
+      (lower₁ upper₁ lower₂ upper₂ elements lower₃ upper₃ lower₄ upper₄ : List Float) (g v : ℕ) where
     stepped : ResetDone lower₁ upper₁ → NodesDone lower₁ upper₁ lower₂ upper₂ elements
         → g ≡ aggregateCount s → TableDone 1 aggregatesAt 256 g lower₂ upper₂ lower₃ upper₃
         → v ≡ virtualStorageCount s → TableDone 6 virtualStoragesAt virtualStoragesHeldAt v lower₃ upper₃ lower₄ upper₄
@@ -128,7 +129,8 @@ module _ (lower upper elements : List Float) (columns rowStarts shape : List ℕ
         shape = h .shape-is j;
       }
 
-  module _ (work : List Float) (fit : VaryingFit columns rowStarts shape) (long : 4096 ≤ length elements) (s : Store) (lower₁ upper₁ lower₂ upper₂ elements′ lower₃ upper₃ lower₄ upper₄ : List Float) (g v : ℕ) where
+  module _ (work : List Float) (fit : VaryingFit columns rowStarts shape) (long : 4096 ≤ length elements) (s : Store)
+      (lower₁ upper₁ lower₂ upper₂ elements′ lower₃ upper₃ lower₄ upper₄ : List Float) (g v : ℕ) where
     pub step-written : ResetDone (withRuns s) work lower₁ upper₁ → NodesDone (withRuns s) work lower₁ upper₁ lower₂ upper₂ elements′
         → g ≡ getD shape 9 0 → TableDone (withRuns s) work 1 aggregatesAt 256 g lower₂ upper₂ lower₃ upper₃
         → v ≡ getD shape 10 0 → TableDone (withRuns s) work 6 virtualStoragesAt virtualStoragesHeldAt v lower₃ upper₃ lower₄ upper₄

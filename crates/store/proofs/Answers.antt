@@ -55,7 +55,8 @@ module _ (s : Store) (row : ℕ) where
       let q : a .0 ≡ b .0 = need-value _ 17 0 (a .0) (b .0) (b .1) in
       ap (λ (t : Store). columnsOfRow t row) (p ∙ q) ∙ need-value _ 18 row (columnsOfRow (b .0) row) part (b .2)
 
-  part-of : (x : Result (List ℕ)) → ((part : List ℕ) → x ≡ value part → columnsOfRow s row ≡ part) → (start end : ℕ) → RowAnswer.Part start end ≡ spanOf s row x → slice start end (s .columns) ≡ partOf x
+  part-of : (x : Result (List ℕ)) → ((part : List ℕ) → x ≡ value part → columnsOfRow s row ≡ part) → (start end : ℕ) → RowAnswer.Part start end ≡ spanOf s row x
+      → slice start end (s .columns) ≡ partOf x
   unfolding spanOf partOf columnsOfRow
   part-of (value part) is start end e =
       let a : start ≡ startOf s row = cc in

@@ -9,7 +9,8 @@ use lib.Ieee.Fits.{and-l, and-r}
 use borrow.Author.Tests.{not-false}
 use Rattle.layout.specs.Layout.{nodeRowCeiling, rowStartsLength, shapeLength}
 use Rattle.laws.proofs.Tests.{of-true, to-true}
-use Rattle.pywr.specs.Store.{Store, storeHasRoom, sentinelCode, nodeCount, edgeCount, edgeColumnCount, setCount, rowCount, elementsKept, nodeRowCount, aggregateCount, virtualStorageCount, nodesAt, edgesAt, nodeRowsAt, aggregatesAt, virtualStoragesAt, startOf}
+use Rattle.pywr.specs.Store.{Store, storeHasRoom, sentinelCode, nodeCount, edgeCount, edgeColumnCount, setCount, rowCount, elementsKept}
+use Rattle.pywr.specs.Store.{nodeRowCount, aggregateCount, virtualStorageCount, nodesAt, edgesAt, nodeRowsAt, aggregatesAt, virtualStoragesAt, startOf}
 use Rattle.pywr.specs.Misshapen.{countsFit, startsRise, rowColumnsRise, nodeFits, edgeFits, nodeRowFits, aggregateFits, virtualStorageFits, allEntries, wellShaped}
 use Rattle.pywr.proofs.Represents.{Roomy}
 use Rattle.pywr.proofs.DemandThree.{roomy-parts}
@@ -18,7 +19,8 @@ use Rattle.store_rows.specs.Starts.{StartsRise, RowsWithin}
 use Rattle.store_rows.proofs.Starts.{ofRuns, starts-told}
 use Rattle.store.specs.Reading.{Lengths}
 
-pub lengths : (s : Store) → Lengths s (length (s .colLower)) (length (s .colUpper)) (length (s .colObjCoef)) (length (s .rowLower)) (length (s .rowUpper)) (length (s .elements)) (length (s .columns)) (length (s .rowStarts)) (length (s .shape))
+pub lengths : (s : Store) → Lengths s (length (s .colLower)) (length (s .colUpper)) (length (s .colObjCoef)) (length (s .rowLower)) (length (s .rowUpper))
+    (length (s .elements)) (length (s .columns)) (length (s .rowStarts)) (length (s .shape))
 lengths s = record { colLower = refl; colUpper = refl; colObjCoef = refl; rowLower = refl; rowUpper = refl; elements = refl; columns = refl; rowStarts = refl; shape = refl }
 
 pub roomy : (s : Store) → storeHasRoom s ≡ true → Roomy s

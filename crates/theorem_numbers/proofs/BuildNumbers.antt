@@ -180,7 +180,8 @@ module _ (s : Sentinel) (f : ColumnMap) (few : length (f .mappedEdges) ≤ 512) 
   exclusivities-ok nodes (a ∷ ags) ok =
       let r : Row = record { lower = double (a .minActive); upper = double (a .maxActive); elements = exclusivityRow f a } in
       every-append (RowOk Plain) (cond (a .exclusive) (r ∷ []) []) (exclusivityRows f ags) .1 (
-        every-if (RowOk Plain) (a .exclusive) r (record { lower = double-bound (a .minActive); upper = double-bound (a .maxActive); elements = exclusivity-plain f few a (ok a (List·Memᴰ·head refl) .few) }),
+        every-if (RowOk Plain) (a .exclusive) r
+            (record { lower = double-bound (a .minActive); upper = double-bound (a .maxActive); elements = exclusivity-plain f few a (ok a (List·Memᴰ·head refl) .few) }),
         exclusivities-ok nodes ags (λ b m. ok b (List·Memᴰ·tail m)),
       )
 
@@ -208,7 +209,8 @@ module _ (s : Sentinel) (f : ColumnMap) (few : length (f .mappedEdges) ≤ 512) 
         let forVirtualStorages : Joined = addVariableRows (map (virtualStorageRow f) (net .virtualStorages)) (record { rows = forAggregates .rows; places = [] }) in
         let a : AllMem AllPlain (forNodes .rows) = joins-all AllPlain (map requestedRow requests) (record { rows = []; places = [] }) nodes-asked (all-none AllPlain) in
         let b : AllMem AllPlain (forAggregates .rows) = joins-all AllPlain (map (aggregateRow f) (net .aggregates)) (record { rows = forNodes .rows; places = [] }) aggregates-asked a in
-        let c : AllMem AllPlain (forVirtualStorages .rows) = joins-all AllPlain (map (virtualStorageRow f) (net .virtualStorages)) (record { rows = forAggregates .rows; places = [] }) virtual-storages-asked b in
+        let c : AllMem AllPlain (forVirtualStorages .rows) = joins-all AllPlain (map (virtualStorageRow f) (net .virtualStorages))
+        (record { rows = forAggregates .rows; places = [] }) virtual-storages-asked b in
         let mass : List Row = massRowsFrom f 0 (net .nodes) in
         let constant : List Row = constantRowsFrom s f 0 (net .nodes) in
         record {

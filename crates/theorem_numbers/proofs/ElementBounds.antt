@@ -15,7 +15,8 @@ use Rattle.doubles.proofs.Monotone.{add-num}
 use Rattle.pywr.specs.Numbers.{zero64, one64}
 use Rattle.pywr.specs.Network.{output, storage, Aggregate, Part, VirtualStorage, kindOf}
 use Rattle.pywr.specs.ExclusiveSets.{setNumber}
-use Rattle.pywr.specs.Rows.{Element, addElement, addOn, ColumnMap, columnsInto, columnsOutOf, addNode, nodeRow, massRow, addNodes, addSetsOf, aggregateRow, addParts, virtualStorageRow, upperRow, lowerRow, addActive, exclusivityRow}
+use Rattle.pywr.specs.Rows.{Element, addElement, addOn, ColumnMap, columnsInto, columnsOutOf, addNode, nodeRow, massRow}
+use Rattle.pywr.specs.Rows.{addNodes, addSetsOf, aggregateRow, addParts, virtualStorageRow, upperRow, lowerRow, addActive, exclusivityRow}
 use Rattle.pywr.proofs.ElementLaws.{add-none, add-cases}
 use Rattle.pywr.proofs.BoundLaws.{IsBound}
 use Rattle.pywr.proofs.MassLaws.{Every}
@@ -174,7 +175,8 @@ module _ (f : ColumnMap) (few : length (f .mappedEdges) ≤ 512) where
       (add-nodes is (n + 1024) (addNode f i one64 row) (omega arith) (add-node i one64 n row (omega arith) one-within us))
 
   -- at most 16 nodes to a set
-  add-sets : (nodes : ℕ) (ss : List (List ℕ)) (n : ℕ) (row : List Element) → AllMem (SetOk nodes) ss → n + length ss * 16384 ≤ mostTerms → AllAdded n row → AllAdded (n + length ss * 16384) (addSetsOf f ss row)
+  add-sets : (nodes : ℕ) (ss : List (List ℕ)) (n : ℕ) (row : List Element) → AllMem (SetOk nodes) ss → n + length ss * 16384 ≤ mostTerms → AllAdded n row
+      → AllAdded (n + length ss * 16384) (addSetsOf f ss row)
   unfolding addSetsOf
   add-sets nodes [] n row ok room us = more-all n (n + 0 * 16384) row (omega arith) us
   add-sets nodes (s ∷ ss) n row ok room us =

@@ -33,7 +33,8 @@ use Rattle.pywr.proofs.RunLaws.{bind-value, after, after-held, Reached, run}
 use Rattle.pywr.proofs.ReadLaws.{Sound, read-sound}
 use Rattle.pywr.proofs.StepReadLaws.{StepSound, step-sound, intervals-sound}
 use Rattle.pywr.proofs.DemandThree.{accepted-value, build-accepted, build-represents}
-use Rattle.theorem_numbers.specs.ProgrammeNumbers.{isNumber, columnWithoutNaN, elementWithoutNaN, rowWithoutNaN, withoutNaN, isMinusZero, rowWithoutMinusZero, withoutMinusZero, NoNaN, NoMinusZero, askedRows, EqualBits}
+use Rattle.theorem_numbers.specs.ProgrammeNumbers.{isNumber, columnWithoutNaN, elementWithoutNaN, rowWithoutNaN, withoutNaN, isMinusZero}
+use Rattle.theorem_numbers.specs.ProgrammeNumbers.{rowWithoutMinusZero, withoutMinusZero, NoNaN, NoMinusZero, askedRows, EqualBits}
 use Rattle.theorem_numbers.proofs.SumBounds.{plain-bits}
 use Rattle.theorem_numbers.proofs.ReadBounds.{read-small, costs-small}
 use Rattle.theorem_numbers.proofs.ElementBounds.{Plain, AllPlain}
@@ -82,7 +83,8 @@ nan-pass p ok =
 
 row-without-minus-zero : (r : Row) → RowOk Plain r → T (rowWithoutMinusZero r)
 unfolding rowWithoutMinusZero
-row-without-minus-zero r ok = all-pass (λ (e : Element). Plain (e .value)) (λ (e : Element). not (isMinusZero (e .value))) (λ e u. plain-bits (e .value) (u .bound .0) (u .plain)) (r .elements) 0 (ok .elements)
+row-without-minus-zero r ok = all-pass (λ (e : Element). Plain (e .value)) (λ (e : Element). not (isMinusZero (e .value)))
+    (λ e u. plain-bits (e .value) (u .bound .0) (u .plain)) (r .elements) 0 (ok .elements)
 
 minus-zero-pass : (p : Programme) → ProgrammeOk Plain p → T (withoutMinusZero p)
 unfolding withoutMinusZero
@@ -96,10 +98,20 @@ every-weaker P Q h [] us = tt
 every-weaker P Q h (x ∷ xs) us = (h x (us .0), every-weaker P Q h xs (us .1))
 
 row-weaker : (r : Row) → RowOk Plain r → RowOk IsBound r
-row-weaker r ok = record { lower = ok .lower; upper = ok .upper; elements = every-weaker (λ (e : Element). Plain (e .value)) (λ (e : Element). IsBound (e .value)) (λ e u. u .bound) (r .elements) (ok .elements) }
+row-weaker r ok = record {
+  lower = ok .lower;
+  upper = ok .upper;
+  elements = every-weaker (λ (e : Element). Plain (e .value))
+      (λ (e : Element). IsBound (e .value)) (λ e u. u .bound) (r .elements) (ok .elements);
+}
 
 weaker : (p : Programme) → ProgrammeOk Plain p → ProgrammeOk IsBound p
-weaker p ok = record { columns = ok .columns; varying = every-weaker (RowOk Plain) (RowOk IsBound) row-weaker (p .varying) (ok .varying); fixed = every-weaker (RowOk Plain) (RowOk IsBound) row-weaker (p .fixed) (ok .fixed) }
+weaker p ok = record {
+  columns = ok .columns;
+  varying = every-weaker (RowOk Plain) (RowOk IsBound) row-weaker (p .varying) (ok .varying);
+  fixed = every-weaker
+      (RowOk Plain) (RowOk IsBound) row-weaker (p .fixed) (ok .fixed);
+}
 
 -- ---- any list of steps
 
@@ -117,7 +129,8 @@ module _ (s : Store) (b : Built) (held : Represents s b) (few : length (b .shape
       let a : ℕ = length (shape .aggregates) in
       let sound : StepSound a (length (periods shape)) f = subst (λ (v : ℕ). StepSound a v f) (sym periods-length) (step-sound (shape .nodes) a (length (shape .virtualStorages)) file f (h .1)) in
       subst (ProgrammeOk IsBound) (sym (ap programmeIn (h .2) ∙ programme-back (storeOfStep s (value f)) (after s b held f) (after-held s b held f)))
-      (stepped-ok shape f (b .programme) a (length (periods shape)) few (costs-small (shape .nodes) a (length (shape .virtualStorages)) file f (h .1)) (intervals-sound (b .programme .sentinel) (periods shape) a f sound) ok)
+      (stepped-ok shape f (b .programme) a (length (periods shape)) few (costs-small (shape .nodes) a (length (shape .virtualStorages)) file f (h .1))
+      (intervals-sound (b .programme .sentinel) (periods shape) a f sound) ok)
 
 -- ---- the laws
 
@@ -160,7 +173,8 @@ no-nan networkFile s old words numbers accepted calls =
     let p : Programme = programmeIn (storeAfter store calls) in
     to-true (withoutNaN p)
     (nan-pass p
-    (reached-ok store b h (few networkFile s old words numbers accepted) (weaker (b .programme) (built networkFile s old words numbers accepted)) (lastAccepted no-file (reports store calls)) (storeAfter store calls)
+    (reached-ok store b h (few networkFile s old words numbers accepted) (weaker (b .programme) (built networkFile s old words numbers accepted))
+    (lastAccepted no-file (reports store calls)) (storeAfter store calls)
     (run store b h calls store no-file refl)))
 
 pub no-minus-zero : NoMinusZero

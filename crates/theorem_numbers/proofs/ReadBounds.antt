@@ -10,7 +10,8 @@ use lib.Dec.{ltb}
 use Rattle.pywr.specs.Result.{value, _>>=_}
 use Rattle.pywr.specs.Numbers.{isSmall, ofPattern}
 use Rattle.pywr.specs.Network.{Part, VirtualStorage, Network}
-use Rattle.pywr.specs.NetworkFile.{Read, ND, ED, AG, VS, readParts, readVirtualStorage, Mark, withNode, withEdge, withAggregate, withVirtualStorage, readBody, Reading, readRecord, readRecords, checkNetwork, parseNetwork, refusedIf}
+use Rattle.pywr.specs.NetworkFile.{Read, ND, ED, AG, VS, readParts, readVirtualStorage, Mark, withNode, withEdge}
+use Rattle.pywr.specs.NetworkFile.{withAggregate, withVirtualStorage, readBody, Reading, readRecord, readRecords, checkNetwork, parseNetwork, refusedIf}
 use Rattle.pywr.specs.Programme.{NodeShape}
 use Rattle.pywr.specs.StepFile.{NodeStep, StepFile, readNodeStep, readNodeSteps, readStep}
 use Rattle.pywr.proofs.RunLaws.{bind-then, bind-value, need-value}
@@ -26,7 +27,8 @@ SmallPart p = Within 1 (p .factor)
 abbrev pub SmallFactors : VirtualStorage → Type 0
 SmallFactors v = AllMem SmallPart (v .parts)
 
-read-parts : (file : List ℕ) (place nodes count : ℕ) (soFar : List Part) (at : ℕ) (r : Read (List Part)) → readParts file place nodes count soFar at ≡ value r → AllMem SmallPart soFar → AllMem SmallPart (r .item)
+read-parts : (file : List ℕ) (place nodes count : ℕ) (soFar : List Part) (at : ℕ) (r : Read (List Part)) → readParts file place nodes count soFar at ≡ value r
+    → AllMem SmallPart soFar → AllMem SmallPart (r .item)
 unfolding readParts
 read-parts file place nodes zero soFar at r e h = subst (λ (q : Read (List Part)). AllMem SmallPart (q .item)) (same-value _ r e) h
 read-parts file place nodes (suc count) soFar at r e h =
@@ -37,7 +39,8 @@ read-parts file place nodes (suc count) soFar at r e h =
 read-virtual-storage : (net : Network) (file : List ℕ) (at : ℕ) (r : Read VirtualStorage) → readVirtualStorage net file at ≡ value r → SmallFactors (r .item)
 unfolding readVirtualStorage
 read-virtual-storage net file at r e =
-    bind-then _ _ r e (λ a a-is e. bind-then _ _ r e (λ b b-is e. bind-then _ _ r e (λ c c-is e. bind-then _ _ r e (λ d d-is e. bind-then _ _ r e (λ g g-is e. bind-then _ _ r e (λ count count-is e. bind-then _ _ r e (λ m m-is e.
+    bind-then _ _ r e (λ a a-is e. bind-then _ _ r e
+    (λ b b-is e. bind-then _ _ r e (λ c c-is e. bind-then _ _ r e (λ d d-is e. bind-then _ _ r e (λ g g-is e. bind-then _ _ r e (λ count count-is e. bind-then _ _ r e (λ m m-is e.
     subst (λ (q : Read VirtualStorage). SmallFactors (q .item)) (same-value _ r e) (read-parts file at (length (net .nodes)) count [] (at + 8) m m-is (all-none SmallPart)))))))))
 
 abbrev pub AllSmall : Network → Type 0
@@ -63,7 +66,8 @@ unfolding readRecords
 all-records zero file r net e g = subst AllSmall (same-value (r .network) net e) g
 all-records (suc left) file r net e g = go (λ q k h. all-records left file q net k h) (ltb (r .at) (length file)) e
   where
-    go : ((q : Reading) → readRecords left file q ≡ value net → AllSmall (q .network) → AllSmall net) → (b : Bool) → elim b [ true ↦ (readRecord file r >>= λ next. readRecords left file next) | false ↦ value (r .network) ] ≡ value net → AllSmall net
+    go : ((q : Reading) → readRecords left file q ≡ value net → AllSmall (q .network) → AllSmall net) → (b : Bool)
+        → elim b [ true ↦ (readRecord file r >>= λ next. readRecords left file next) | false ↦ value (r .network) ] ≡ value net → AllSmall net
     go ih true k = let a = bind-value _ _ net k in ih (a .0) (a .2) (one-record file r (a .0) (a .1) g)
     go ih false k = subst AllSmall (same-value (r .network) net k) g
 
@@ -90,7 +94,8 @@ read-node-step file n place r e =
     bind-then _ _ r e (λ a a-is e. bind-then _ _ r e (λ b b-is e. bind-then _ _ r e (λ c c-is e. bind-then _ _ r e (λ d d-is e. bind-then _ _ r e (λ g g-is e.
     subst SmallCost (same-value _ r e) (small-within b (checked-value 13 a isSmall _ b b-is)))))))
 
-read-node-steps : (file : List ℕ) (ns : List NodeShape) (soFar : List NodeStep) (at : ℕ) (r : Read (List NodeStep)) → readNodeSteps file ns soFar at ≡ value r → AllMem SmallCost soFar → AllMem SmallCost (r .item)
+read-node-steps : (file : List ℕ) (ns : List NodeShape) (soFar : List NodeStep) (at : ℕ) (r : Read (List NodeStep)) → readNodeSteps file ns soFar at ≡ value r
+    → AllMem SmallCost soFar → AllMem SmallCost (r .item)
 unfolding readNodeSteps
 read-node-steps file [] soFar at r e h = subst (λ (q : Read (List NodeStep)). AllMem SmallCost (q .item)) (same-value _ r e) h
 read-node-steps file (n ∷ ns) soFar at r e h =

@@ -160,7 +160,8 @@ with-costs n (c ∷ cs) (x ∷ xs) oks us =
 
 -- ---- the whole step
 
-pub stepped-ok : (shape : Shape) (f : StepFile) (p : Programme) (a v : ℕ) → length (shape .mappedEdges) ≤ 512 → AllMem SmallCost (f .nodes) → IntervalsOk a v (intervals (p .sentinel) (periods shape) f)
+pub stepped-ok : (shape : Shape) (f : StepFile) (p : Programme) (a v : ℕ) → length (shape .mappedEdges) ≤ 512 → AllMem SmallCost (f .nodes)
+    → IntervalsOk a v (intervals (p .sentinel) (periods shape) f)
     → ProgrammeOk IsBound p → ProgrammeOk IsBound (stepped shape f p)
 unfolding stepped stepCosts
 stepped-ok shape f p a v few small ii ok =

@@ -129,9 +129,11 @@ small-within bits t =
     let ok : FiniteFit x = (unfold ofPattern in small-is bits t) in
     let n : Num binary64 x = (ok .fit, finite-number x (ok .finite)) in
     let h : T (le (neg trillion) x && le x trillion) = and-r (isFlow bits) (le (neg trillion) x && le x trillion) t in
-    let over : T (leZ (rank binary64 x) (pos (mag binary64 trillion))) = subst (λ (z : ℤ). T (leZ (rank binary64 x) z)) trillion-rank (le→Z binary64 x trillion n trillion-num (and-r (le (neg trillion) x) (le x trillion) h)) in
+    let over : T (leZ (rank binary64 x) (pos (mag binary64 trillion))) = subst (λ (z : ℤ). T (leZ (rank binary64 x) z)) trillion-rank
+    (le→Z binary64 x trillion n trillion-num (and-r (le (neg trillion) x) (le x trillion) h)) in
     let under : T (leZ (negℤ (pos (mag binary64 trillion))) (rank binary64 x)) =
-    subst (λ (z : ℤ). T (leZ z (rank binary64 x))) (neg-rank binary64 trillion (trillion-num .1) ∙ ap negℤ trillion-rank) (le→Z binary64 (neg trillion) x (neg-num binary64 trillion trillion-num) n (and-l (le (neg trillion) x) (le x trillion) h)) in
+    subst (λ (z : ℤ). T (leZ z (rank binary64 x))) (neg-rank binary64 trillion (trillion-num .1) ∙ ap negℤ trillion-rank)
+    (le→Z binary64 (neg trillion) x (neg-num binary64 trillion trillion-num) n (and-l (le (neg trillion) x) (le x trillion) h)) in
     record { fit = ok .fit; isFinite = ok .finite; most = le-trans (between-most (sign x) (mag binary64 x) (mag binary64 trillion) over under) trillion-most }
 
 -- ---- −0.0

@@ -14,13 +14,15 @@ use Rattle.laws.proofs.Runs.{replicate-more}
 use Rattle.pywr.specs.Result.{value, Result, refused}
 use Rattle.pywr.specs.Bytes.{within}
 use Rattle.pywr.specs.Network.{Node, Edge, Network, kindOf}
-use Rattle.pywr.specs.NetworkFile.{Read, joins, Mark, ND, ED, AG, VS, rank, markAt, inOrder, hasRoom, withNode, withEdge, withAggregate, withVirtualStorage, readBody, Reading, readRecord, readRecords, emptyNetwork, parseNetwork}
+use Rattle.pywr.specs.NetworkFile.{Read, joins, Mark, ND, ED, AG, VS, rank, markAt, inOrder, hasRoom}
+use Rattle.pywr.specs.NetworkFile.{withNode, withEdge, withAggregate, withVirtualStorage, readBody, Reading, readRecord, readRecords, emptyNetwork, parseNetwork}
 use Rattle.pywr.specs.declared.Sentinel.{Sentinel}
 use Rattle.pywr.specs.Programme.{Built}
 use Rattle.pywr.specs.Build.{build}
 use Rattle.theorem_prefixes.specs.Prefix.{longestNetwork, networkPrefix, NetworkPrefixLeast}
 use Rattle.theorem_prefixes.proofs.Left.{then-value, then-refused, need-true, need-false, times, nothing-more, times-left, left-next, left-room, first-left, second-left, times-length}
-use Rattle.theorem_prefixes.proofs.LongestRecords.{nodeBytes, linkNode, node-read, edgeBytes, goodEdge, each-true, edge-read, aggregateBytes, virtualStorageBytes, aggregate-read, virtual-storage-read}
+use Rattle.theorem_prefixes.proofs.LongestRecords.{nodeBytes, linkNode, node-read, edgeBytes, goodEdge, each-true}
+use Rattle.theorem_prefixes.proofs.LongestRecords.{edge-read, aggregateBytes, virtualStorageBytes, aggregate-read, virtual-storage-read}
 
 -- ---- how far a file is read: its nodes and edges so far, and how many aggregates and virtual storages
 
@@ -115,7 +117,8 @@ module _ (file : List ℕ) (long : 864 < length file) where
   node-more nodes at rest few s e =
       let item : Read Node = record { item = linkNode; next = at + 20 } in
       let same : length (s .net .nodes) ≡ length nodes = ap length (s .nodes-are) in
-      let k = more file nodes [] 0 0 at 0 s (omega arith) ND (withNode (s .net) item) (omega arith) (mark-inside file at 78 68 _ e) (mark-read file at 78 68 _ e) (lt-ltb (length (s .net .nodes)) 256 (omega arith)) (then-value _ _ _ item (node-read file at rest e) refl) in
+      let k = more file nodes [] 0 0 at 0 s (omega arith) ND (withNode (s .net) item) (omega arith) (mark-inside file at 78 68 _ e)
+      (mark-read file at 78 68 _ e) (lt-ltb (length (s .net .nodes)) 256 (omega arith)) (then-value _ _ _ item (node-read file at rest e) refl) in
       record {
         net = withNode (s .net) item .item;
         stage = 0;
@@ -132,8 +135,10 @@ module _ (file : List ℕ) (long : 864 < length file) where
   abbrev NodesTo : List ℕ → ℕ → ℕ → Type 0
   NodesTo rest n at = Reached file (replicate n linkNode) [] 0 0 at 0 × (drop at file ≡ rest)
 
-  nodes-more : (count n at : ℕ) (rest : List ℕ) → n + count ≤ 256 → Reached file (replicate n linkNode) [] 0 0 at 0 → drop at file ≡ times count nodeBytes ++ rest → NodesTo rest (n + count) (at + 20 * count)
-  nodes-more zero n at rest few s e = subst (λ (k : ℕ). NodesTo rest k (at + 0)) (let q : n ≡ n + 0 = omega arith in q) (subst (NodesTo rest n) (let q : at ≡ at + 0 = omega arith in q) (s, nothing-more nodeBytes rest (drop at file) e))
+  nodes-more : (count n at : ℕ) (rest : List ℕ) → n + count ≤ 256 → Reached file (replicate n linkNode) [] 0 0 at 0 → drop at file ≡ times count nodeBytes
+      ++ rest → NodesTo rest (n + count) (at + 20 * count)
+  nodes-more zero n at rest few s e = subst (λ (k : ℕ). NodesTo rest k (at + 0)) (let q : n ≡ n + 0 = omega arith in q)
+      (subst (NodesTo rest n) (let q : at ≡ at + 0 = omega arith in q) (s, nothing-more nodeBytes rest (drop at file) e))
   nodes-more (suc count) n at rest few s e =
       let d = times-left count nodeBytes rest (drop at file) e in
       let one = node-more (replicate n linkNode) at (times count nodeBytes ++ rest) (omega (arith, length-replicate n linkNode)) s d in
@@ -152,7 +157,8 @@ module _ (file : List ℕ) (long : 864 < length file) where
         let item : Read Edge = record { item = x; next = at + 6 } in
         let same : length (s .net .edges) ≡ length edges = ap length (s .edges-are) in
         let good′ : goodEdge (s .net .nodes) (s .net .edges) x ≡ true = rw (s .nodes-are, s .edges-are) good in
-        let k = more file nodes edges 0 0 at 1 s (omega arith) ED (withEdge (s .net) item) (omega arith) (mark-inside file at 69 68 _ e) (mark-read file at 69 68 _ e) (lt-ltb (length (s .net .edges)) 512 (omega arith)) (then-value _ _ _ item (edge-read (s .net) file at x rest e good′) refl) in
+        let k = more file nodes edges 0 0 at 1 s (omega arith) ED (withEdge (s .net) item) (omega arith) (mark-inside file at 69 68 _ e)
+        (mark-read file at 69 68 _ e) (lt-ltb (length (s .net .edges)) 512 (omega arith)) (then-value _ _ _ item (edge-read (s .net) file at x rest e good′) refl) in
         record {
           net = withEdge (s .net) item .item;
           stage = 1;
@@ -172,7 +178,8 @@ module _ (file : List ℕ) (long : 864 < length file) where
       reached : Reached file nodes edges 0 0 at 1
       rest-left : drop at file ≡ rest
 
-    edges-more : (es edges : List Edge) (at : ℕ) (rest : List ℕ) → allGood nodes edges es ≡ true → length edges + length es ≤ 512 → Reached file nodes edges 0 0 at 1 → drop at file ≡ edgesBytes es ++ rest
+    edges-more : (es edges : List Edge) (at : ℕ) (rest : List ℕ) → allGood nodes edges es ≡ true → length edges + length es ≤ 512
+        → Reached file nodes edges 0 0 at 1 → drop at file ≡ edgesBytes es ++ rest
         → EdgesTo rest (length edges + length es) (at + 6 * length es)
     unfolding edgesBytes allGood
     edges-more [] edges at rest good few s e =
@@ -195,7 +202,8 @@ module _ (file : List ℕ) (long : 864 < length file) where
           let same : length (s .net .nodes) ≡ length nodes = ap length (s .nodes-are) in
           let item = aggregate-read (s .net) file at rest e (omega arith) in
           let many = s .aggregate-count in
-          let k = more file nodes edges a 0 at 2 s (omega arith) AG (withAggregate (s .net) (item .0)) (omega arith) (mark-inside file at 65 71 _ e) (mark-read file at 65 71 _ e) (lt-ltb (length (s .net .aggregates)) 64 (omega arith)) (then-value _ _ _ (item .0) (item .1) refl) in
+          let k = more file nodes edges a 0 at 2 s (omega arith) AG (withAggregate (s .net) (item .0)) (omega arith) (mark-inside file at 65 71 _ e)
+          (mark-read file at 65 71 _ e) (lt-ltb (length (s .net .aggregates)) 64 (omega arith)) (then-value _ _ _ (item .0) (item .1) refl) in
           subst (λ (p : ℕ). Reached file nodes edges (suc a) 0 p 2) (item .2)
           (record {
             net = withAggregate (s .net) (item .0) .item;
@@ -213,8 +221,10 @@ module _ (file : List ℕ) (long : 864 < length file) where
       abbrev AggregatesTo : List ℕ → ℕ → ℕ → Type 0
       AggregatesTo rest a at = Reached file nodes edges a 0 at 2 × (drop at file ≡ rest)
 
-      aggregates-more : (count a at : ℕ) (rest : List ℕ) → a + count ≤ 64 → Reached file nodes edges a 0 at 2 → drop at file ≡ times count aggregateBytes ++ rest → AggregatesTo rest (a + count) (at + 540 * count)
-      aggregates-more zero a at rest few s e = subst (λ (k : ℕ). AggregatesTo rest k (at + 0)) (let q : a ≡ a + 0 = omega arith in q) (subst (AggregatesTo rest a) (let q : at ≡ at + 0 = omega arith in q) (s, nothing-more aggregateBytes rest (drop at file) e))
+      aggregates-more : (count a at : ℕ) (rest : List ℕ) → a + count ≤ 64 → Reached file nodes edges a 0 at 2 → drop at file ≡ times count aggregateBytes
+          ++ rest → AggregatesTo rest (a + count) (at + 540 * count)
+      aggregates-more zero a at rest few s e = subst (λ (k : ℕ). AggregatesTo rest k (at + 0)) (let q : a ≡ a + 0 = omega arith in q)
+          (subst (AggregatesTo rest a) (let q : at ≡ at + 0 = omega arith in q) (s, nothing-more aggregateBytes rest (drop at file) e))
       aggregates-more (suc count) a at rest few s e =
           let d = times-left count aggregateBytes rest (drop at file) e in
           let one = aggregate-more a at (times count aggregateBytes ++ rest) (omega arith) s d in
@@ -228,7 +238,8 @@ module _ (file : List ℕ) (long : 864 < length file) where
           let same : length (s .net .nodes) ≡ length nodes = ap length (s .nodes-are) in
           let item = virtual-storage-read (s .net) file at rest e (omega arith) in
           let many = s .virtual-storage-count in
-          let k = more file nodes edges 64 v at 3 s (omega arith) VS (withVirtualStorage (s .net) (item .0)) (omega arith) (mark-inside file at 86 83 _ e) (mark-read file at 86 83 _ e) (lt-ltb (length (s .net .virtualStorages)) 32 (omega arith)) (then-value _ _ _ (item .0) (item .1) refl) in
+          let k = more file nodes edges 64 v at 3 s (omega arith) VS (withVirtualStorage (s .net) (item .0)) (omega arith) (mark-inside file at 86 83 _ e)
+          (mark-read file at 86 83 _ e) (lt-ltb (length (s .net .virtualStorages)) 32 (omega arith)) (then-value _ _ _ (item .0) (item .1) refl) in
           subst (λ (p : ℕ). Reached file nodes edges 64 (suc v) p 3) (item .2)
           (record {
             net = withVirtualStorage (s .net) (item .0) .item;
@@ -246,8 +257,10 @@ module _ (file : List ℕ) (long : 864 < length file) where
       abbrev VirtualStoragesTo : List ℕ → ℕ → ℕ → Type 0
       VirtualStoragesTo rest v at = Reached file nodes edges 64 v at 3 × (drop at file ≡ rest)
 
-      virtual-storages-more : (count v at : ℕ) (rest : List ℕ) → v + count ≤ 32 → Reached file nodes edges 64 v at 3 → drop at file ≡ times count virtualStorageBytes ++ rest → VirtualStoragesTo rest (v + count) (at + 648 * count)
-      virtual-storages-more zero v at rest few s e = subst (λ (k : ℕ). VirtualStoragesTo rest k (at + 0)) (let q : v ≡ v + 0 = omega arith in q) (subst (VirtualStoragesTo rest v) (let q : at ≡ at + 0 = omega arith in q) (s, nothing-more virtualStorageBytes rest (drop at file) e))
+      virtual-storages-more : (count v at : ℕ) (rest : List ℕ) → v + count ≤ 32 → Reached file nodes edges 64 v at 3
+          → drop at file ≡ times count virtualStorageBytes ++ rest → VirtualStoragesTo rest (v + count) (at + 648 * count)
+      virtual-storages-more zero v at rest few s e = subst (λ (k : ℕ). VirtualStoragesTo rest k (at + 0)) (let q : v ≡ v + 0 = omega arith in q)
+          (subst (VirtualStoragesTo rest v) (let q : at ≡ at + 0 = omega arith in q) (s, nothing-more virtualStorageBytes rest (drop at file) e))
       virtual-storages-more (suc count) v at rest few s e =
           let d = times-left count virtualStorageBytes rest (drop at file) e in
           let one = virtual-storage-more v at (times count virtualStorageBytes ++ rest) (omega arith) s d in
@@ -290,7 +303,8 @@ from-edges file long nodes count good tail s e =
     let groups : List ℕ = times 64 aggregateBytes ++ (times 32 virtualStorageBytes ++ tail) in
     let m = subst (λ (k : ℕ). EdgesTo file long nodes count groups (0 + k) (5120 + 6 * k)) many-edges
     (edges-more file long nodes count manyEdges [] 5120 groups good (omega (arith, many-edges)) (later file nodes [] 0 0 5120 0 1 (omega arith) s) e) in
-    let a = aggregates-more file long nodes count (m .edges) (m .many) 64 0 8192 (times 32 virtualStorageBytes ++ tail) (omega arith) (later file nodes (m .edges) 0 0 8192 1 2 (omega arith) (m .reached)) (m .rest-left) in
+    let a = aggregates-more file long nodes count (m .edges) (m .many) 64 0 8192 (times 32 virtualStorageBytes ++ tail) (omega arith)
+    (later file nodes (m .edges) 0 0 8192 1 2 (omega arith) (m .reached)) (m .rest-left) in
     let v = virtual-storages-more file long nodes count (m .edges) (m .many) 32 0 42752 tail (omega arith) (later file nodes (m .edges) 64 0 42752 2 3 (omega arith) (a .0)) (a .1) in
     record { nodes = nodes; edges = m .edges; node-count = count; edge-count = m .many; reached = v .0; tail-left = v .1 }
 
@@ -318,7 +332,8 @@ read-to-end file tail e =
 
 -- ---- the mark of one virtual storage more
 
-last-full : (file : List ℕ) (left : ℕ) (r : Reading) → within file (r .at) 2 ≡ true → markAt file (r .at) ≡ some VS → r .stage ≤ 3 → hasRoom (r .network) VS ≡ false → readRecords (suc left) file r ≡ refused 6 (r .at)
+last-full : (file : List ℕ) (left : ℕ) (r : Reading) → within file (r .at) 2 ≡ true → markAt file (r .at) ≡ some VS → r .stage ≤ 3
+    → hasRoom (r .network) VS ≡ false → readRecords (suc left) file r ≡ refused 6 (r .at)
 unfolding readRecords readRecord inOrder
 last-full file left r inside mark stage room =
     rw (lt-ltb (r .at) (length file) (omega (arith, leb-true (r .at + 2) (length file) inside)), readRecords)
@@ -359,7 +374,8 @@ full-answer file e =
     ends-by file (86 ∷ 83 ∷ []) e (refused 6 longestNetwork) (omega arith)
     (λ left r at-is stage many.
     let d = subst (λ (p : ℕ). drop p file ≡ 86 ∷ 83 ∷ []) (sym at-is) (t .tail-left) in
-    last-full file left r (mark-inside file (r .at) 86 83 [] d) (mark-read file (r .at) 86 83 [] d) stage (le-ltb (length (r .network .virtualStorages)) 32 (omega arith)) ∙ ap (λ (p : ℕ). refused 6 p) at-is)
+    last-full file left r (mark-inside file (r .at) 86 83 [] d) (mark-read file (r .at) 86 83 [] d) stage
+    (le-ltb (length (r .network .virtualStorages)) 32 (omega arith)) ∙ ap (λ (p : ℕ). refused 6 p) at-is)
 
 short-answer : (file : List ℕ) → file ≡ longest (86 ∷ []) → readRecords (length file) file begin ≡ refused 1 longestNetwork
 short-answer file e =

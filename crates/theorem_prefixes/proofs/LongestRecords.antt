@@ -11,7 +11,8 @@ use Rattle.pywr.specs.Result.{value}
 use Rattle.pywr.specs.Bytes.{u8, u16}
 use Rattle.pywr.specs.Numbers.{isSmall, ofPattern}
 use Rattle.pywr.specs.Network.{input, output, Node, Edge, Aggregate, Part, VirtualStorage, Network, kindOf}
-use Rattle.pywr.specs.NetworkFile.{between, Read, constantFits, mostConstant, readNode, joins, badEdge, readEdge, readMembers, readSets, activeFits, readAggregate, readParts, leastDate, mostDate, readVirtualStorage}
+use Rattle.pywr.specs.NetworkFile.{between, Read, constantFits, mostConstant, readNode, joins, badEdge, readEdge}
+use Rattle.pywr.specs.NetworkFile.{readMembers, readSets, activeFits, readAggregate, readParts, leastDate, mostDate, readVirtualStorage}
 use Rattle.pywr.specs.Compute.{computing}
 use Rattle.theorem_prefixes.proofs.Left.{then-value, need-true, checked-true, times, times-left, left-next, u8-left, u16-left, u32-left, bits64-left}
 
@@ -102,7 +103,8 @@ module _ (file : List ℕ) (place nodes : ℕ) (some-nodes : 0 < nodes) where
       let l = setBytes ++ (times count setBytes ++ rest) in
       let q : u8 file place 1 at ≡ value 16 = ap (u8 file place 1) (let k : at ≡ at + 0 = omega arith in k) ∙ u8-left file at l d place 1 0 (omega arith) in
       let m = members-read 16 [] (at + 1) (times count setBytes ++ rest) (left-next file at (16 ∷ []) (times 16 memberBytes ++ (times count setBytes ++ rest)) d) in
-      let after : drop (at + 1 + 32) file ≡ times count setBytes ++ rest = left-next file (at + 1) (times 16 memberBytes) (times count setBytes ++ rest) (left-next file at (16 ∷ []) (times 16 memberBytes ++ (times count setBytes ++ rest)) d) in
+      let after : drop (at + 1 + 32) file ≡ times count setBytes ++ rest = left-next file (at + 1) (times 16 memberBytes) (times count setBytes ++ rest)
+      (left-next file at (16 ∷ []) (times 16 memberBytes ++ (times count setBytes ++ rest)) d) in
       let there : at + 1 + 32 ≡ m .0 .next = (let k = m .2 in omega arith) in
       let ih = sets-read count (soFar ++ (m .0 .item ∷ [])) (m .0 .next) rest (subst (λ (p : ℕ). drop p file ≡ times count setBytes ++ rest) there after) in
       (ih .0, then-value _ _ _ 16 (checked-true 3 place _ 16 q refl) (then-value _ _ _ (m .0) (m .1) (ih .1)), (let k = ih .2 in let j = m .2 in omega arith))

@@ -19,7 +19,8 @@ use Rattle.pywr.specs.Bytes.{within, markIs}
 use Rattle.pywr.specs.Numbers.{zero64, isFlow, isSmall, isDays}
 use Rattle.pywr.specs.NetworkFile.{Read}
 use Rattle.pywr.specs.Programme.{NodeShape}
-use Rattle.pywr.specs.StepFile.{NodeStep, StepFile, expectMark, daysIn, readDate, isStorage, boundFits, volumeFits, readNodeStep, readNodeSteps, readAggregateStep, readAggregateSteps, readVirtualStorageStep, readVirtualStorageSteps, readStep}
+use Rattle.pywr.specs.StepFile.{NodeStep, StepFile, expectMark, daysIn, readDate, isStorage, boundFits, volumeFits}
+use Rattle.pywr.specs.StepFile.{readNodeStep, readNodeSteps, readAggregateStep, readAggregateSteps, readVirtualStorageStep, readVirtualStorageSteps, readStep}
 use Rattle.pywr.specs.StepIntervals.{Intervals, firstCrossed, unless, ordered}
 use Rattle.pywr.specs.Store.{Store, storeHasRoom, word, nodeEntry, virtualStorageEntry, shapeOf, columnsOfRow}
 use Rattle.pywr.specs.Misshapen.{countsFit, startsRise, columnsRise, rowColumnsRise, nodeFits, edgeFits, nodeRowFits, aggregateFits, virtualStorageFits, allEntries, wellShaped}
@@ -28,7 +29,8 @@ use Rattle.pywr.specs.Compute.{computing}
 use Rattle.store_shape.proofs.EntryLaws.{entries-length}
 use Rattle.theorem_prefixes.specs.Prefix.{longestStep, stepPrefix, StepPrefixLeast}
 use Rattle.theorem_prefixes.proofs.LongestRecords.{small-zero}
-use Rattle.theorem_prefixes.proofs.Left.{then-value, then-refused, need-true, need-false, checked-true, times, nothing-more, times-left, times-length, left-next, left-room, first-left, second-left, u8-left, bits64-left}
+use Rattle.theorem_prefixes.proofs.Left.{then-value, then-refused, need-true, need-false, checked-true, times, nothing-more, times-left}
+use Rattle.theorem_prefixes.proofs.Left.{times-length, left-next, left-room, first-left, second-left, u8-left, bits64-left}
 
 -- ---- numbers of all zero bits are in range
 
@@ -192,7 +194,8 @@ stepOf date nodes groups stores =
 
 -- the four parts of a file, read one behind the other; then the bytes left over
 parts-read : (shapes : List NodeShape) (a v : ℕ) (file : List ℕ) (date : Read StepFile) (nodes : Read (List NodeStep)) (groups : Read (List Interval)) (stores : Read (List NodeBounds))
-    → readDate file ≡ value date → readNodeSteps file shapes [] (date .next) ≡ value nodes → readAggregateSteps file a [] (nodes .next) ≡ value groups → readVirtualStorageSteps file v [] (groups .next) ≡ value stores
+    → readDate file ≡ value date → readNodeSteps file shapes [] (date .next) ≡ value nodes → readAggregateSteps file a [] (nodes .next) ≡ value groups
+    → readVirtualStorageSteps file v [] (groups .next) ≡ value stores
     → stores .next ≡ longestStep → readStep shapes a v file ≡ need (leb (length file) longestStep) 12 longestStep (stepOf date nodes groups stores)
 unfolding readStep stepOf
 parts-read shapes a v file date nodes groups stores date-is nodes-are aggregates-are virtual-storages-are end =
@@ -214,7 +217,8 @@ read-to-end shapes a v n-is a-is v-is file tail e =
     let aggregates = aggregates-read file a [] (nodes .0 .next) stores (nodes .2) in
     let virtualStorages = virtual-storages-read file v [] (aggregates .0 .next) tail (aggregates .2) in (
       stepOf (date .0) (nodes .0) (aggregates .0) (virtualStorages .0),
-      parts-read shapes a v file (date .0) (nodes .0) (aggregates .0) (virtualStorages .0) (date .1) (nodes .1) (aggregates .1) (virtualStorages .1) (omega (arith, date .2, nodes .3, aggregates .3, virtualStorages .3)),
+      parts-read shapes a v file (date .0) (nodes .0) (aggregates .0) (virtualStorages .0) (date .1) (nodes .1) (aggregates .1) (virtualStorages .1)
+          (omega (arith, date .2, nodes .3, aggregates .3, virtualStorages .3)),
     )
 
 -- ---- a store for so many nodes, aggregates and virtual storages: one row with no element, and all else zero
@@ -298,7 +302,17 @@ virtual-storage-fits at h = rw (word-zero at h, word-zero (at + 1) (omega arith)
 wide-shaped : wellShaped wide ≡ true
 unfolding wellShaped countsFit
 wide-shaped =
-    rw (starts-pass, rows-pass, entries-pass (nodeFits wide) node-fits 2 11 256 (omega arith), none-pass (edgeFits wide) 3 edgesAt, none-pass (nodeRowFits wide) 4 nodeRowsAt, entries-pass (aggregateFits wide) aggregate-fits 1 aggregatesAt 64 (omega arith), entries-pass (virtualStorageFits wide) virtual-storage-fits 6 virtualStoragesAt 32 (omega arith))
+    rw (
+      starts-pass,
+      rows-pass,
+      entries-pass (nodeFits wide) node-fits 2 11 256 (omega arith),
+      none-pass (edgeFits wide) 3 edgesAt,
+      none-pass
+          (nodeRowFits wide) 4 nodeRowsAt,
+      entries-pass (aggregateFits wide) aggregate-fits 1 aggregatesAt 64 (omega arith),
+      entries-pass (virtualStorageFits wide)
+          virtual-storage-fits 6 virtualStoragesAt 32 (omega arith),
+    )
 
 long-enough : {A : Type 0} (n : ℕ) (l : List A) → length l ≡ n → leb n (length l) ≡ true
 long-enough n l e = le-leb n (length l) (omega (arith, e))
@@ -306,14 +320,29 @@ long-enough n l e = le-leb n (length l) (omega (arith, e))
 wide-room : stepRoom wide (doubles stepWorkLength) ≡ true
 unfolding stepRoom storeHasRoom
 wide-room =
-    rw (long-enough 640 (doubles 640) (doubles-length 640), long-enough 1024 (doubles 1024) (doubles-length 1024), long-enough 4096 (doubles 4096) (doubles-length 4096), long-enough 4096 (zeros 4096) (zeros-length 4096), long-enough rowStartsLength (zeros rowStartsLength) (zeros-length rowStartsLength), long-enough shapeLength (counts ++ zeros 19712) (let k = zeros-length 19712 in omega arith), long-enough stepWorkLength (doubles stepWorkLength) (doubles-length stepWorkLength))
+    rw (
+      long-enough 640 (doubles 640) (doubles-length 640),
+      long-enough 1024 (doubles 1024) (doubles-length 1024),
+      long-enough 4096 (doubles 4096)
+          (doubles-length 4096),
+      long-enough 4096 (zeros 4096) (zeros-length 4096),
+      long-enough rowStartsLength (zeros rowStartsLength)
+          (zeros-length rowStartsLength),
+      long-enough shapeLength (counts ++ zeros 19712) (let k = zeros-length 19712 in omega arith),
+      long-enough stepWorkLength
+          (doubles stepWorkLength) (doubles-length stepWorkLength),
+    )
 
 -- the step reads the file over the store's shape
 wide-read : (file tail : List ℕ) → file ≡ longest tail → (f : StepFile) × (stepRead wide file (doubles stepWorkLength) ≡ need (leb (length file) longestStep) 12 longestStep f)
 unfolding stepRead shapeOf
 wide-read file tail e =
-    let r = read-to-end (shapeOf wide .nodes) (length (shapeOf wide .aggregates)) (length (shapeOf wide .virtualStorages)) (entries-length (nodeEntry wide) 2 11 256) (entries-length (word wide) 1 aggregatesAt 64) (entries-length (virtualStorageEntry wide) 6 virtualStoragesAt 32) file tail e in
-    (r .0, then-value _ _ _ wide (need-true (stepRoom wide (doubles stepWorkLength)) 16 0 wide wide-room) (then-value _ _ _ (shapeOf wide) (need-true (wellShaped wide) 17 0 (shapeOf wide) wide-shaped) (r .1)))
+    let r = read-to-end (shapeOf wide .nodes) (length (shapeOf wide .aggregates)) (length (shapeOf wide .virtualStorages))
+    (entries-length (nodeEntry wide) 2 11 256) (entries-length (word wide) 1 aggregatesAt 64) (entries-length (virtualStorageEntry wide) 6 virtualStoragesAt 32) file tail e in (
+      r .0,
+      then-value _ _ _ wide (need-true (stepRoom wide (doubles stepWorkLength)) 16 0 wide wide-room)
+          (then-value _ _ _ (shapeOf wide) (need-true (wellShaped wide) 17 0 (shapeOf wide) wide-shaped) (r .1)),
+    )
 
 -- ---- 14 and 15 are not 12
 
@@ -353,4 +382,5 @@ step-prefix-least m law = by-cases (leb stepPrefix m) (λ t. leb→le stepPrefix
         let full : List ℕ = longest (0 ∷ []) in
         let long = longest-length [] in
         let same : take m full ≡ take m short = ap (take m) (longest-append [] (0 ∷ [])) ∙ take-append-le m short (0 ∷ []) (omega arith) in
-        complete short refl (sym (law wide short (doubles stepWorkLength)) ∙ ap (λ (l : List ℕ). stepAnswer wide l (doubles stepWorkLength)) (sym same) ∙ law wide full (doubles stepWorkLength) ∙ left-over full refl)
+        complete short refl (sym (law wide short (doubles stepWorkLength)) ∙ ap (λ (l : List ℕ). stepAnswer wide l (doubles stepWorkLength)) (sym same)
+        ∙ law wide full (doubles stepWorkLength) ∙ left-over full refl)

@@ -11,12 +11,14 @@ use borrow.Author.Tests.{lt-ltb}
 use Rattle.pywr.specs.Result.{value, Result, refused, _>>=_, need}
 use Rattle.pywr.specs.Bytes.{within, checked}
 use Rattle.pywr.specs.Network.{Node, Edge, Aggregate, Part, VirtualStorage, Network}
-use Rattle.pywr.specs.NetworkFile.{between, Read, readNode, readEdge, readMembers, readSets, readAggregate, readParts, readVirtualStorage, Mark, ND, ED, AG, VS, markAt, hasRoom, withNode, withEdge, withAggregate, withVirtualStorage, readBody, Reading, readRecord, readRecords, emptyNetwork, parseNetwork}
+use Rattle.pywr.specs.NetworkFile.{between, Read, readNode, readEdge, readMembers, readSets, readAggregate, readParts, readVirtualStorage, Mark, ND, ED, AG}
+use Rattle.pywr.specs.NetworkFile.{VS, markAt, hasRoom, withNode, withEdge, withAggregate, withVirtualStorage, readBody, Reading, readRecord, readRecords, emptyNetwork, parseNetwork}
 use Rattle.pywr.specs.Build.{build}
 use Rattle.pywr.specs.Calls.{buildAnswer, buildStore, isAccepted}
 use Rattle.pywr.proofs.RunLaws.{bind-then, bind-value, need-value}
 use Rattle.pywr.proofs.ReadLaws.{same-value, need-test, checked-value}
-use Rattle.theorem_prefixes.specs.Prefix.{longestAggregate, longestVirtualStorage, longestNetwork, networkPrefix, BuildByPrefix, BuildAnswerByPrefix, BuildStoreByPrefix, AfterBuildByPrefix, AcceptedNetworkLength}
+use Rattle.theorem_prefixes.specs.Prefix.{longestAggregate, longestVirtualStorage, longestNetwork, networkPrefix, BuildByPrefix}
+use Rattle.theorem_prefixes.specs.Prefix.{BuildAnswerByPrefix, BuildStoreByPrefix, AfterBuildByPrefix, AcceptedNetworkLength}
 use Rattle.theorem_prefixes.proofs.SameBytes.{bind-both, ends, Same, by-prefix, within-same, mark-same, u8-same, u16-same, u32-same, bits64-same}
 
 -- ---- where a record ends
@@ -70,7 +72,8 @@ module _ (file : List ℕ) where
   virtual-storage-end : (net : Network) (at : ℕ) (r : Read VirtualStorage) → readVirtualStorage net file at ≡ value r → r .next ≤ at + longestVirtualStorage
   unfolding readVirtualStorage
   virtual-storage-end net at r e =
-      bind-then _ _ r e (λ a _ e. bind-then _ _ r e (λ b _ e. bind-then _ _ r e (λ c _ e. bind-then _ _ r e (λ d _ e. bind-then _ _ r e (λ g _ e. bind-then _ _ r e (λ count count-is e. bind-then _ _ r e (λ m m-is e.
+      bind-then _ _ r e (λ a _ e. bind-then _ _ r e
+      (λ b _ e. bind-then _ _ r e (λ c _ e. bind-then _ _ r e (λ d _ e. bind-then _ _ r e (λ g _ e. bind-then _ _ r e (λ count count-is e. bind-then _ _ r e (λ m m-is e.
       let few = at-most at 1 64 _ count count-is in
       let k = parts-end at (length (net .nodes)) count [] (at + 8) m m-is in
       let l = ends _ r e in
@@ -261,13 +264,15 @@ after-build-by-prefix s file old words numbers r new words′ numbers′ m h a =
 
 -- ---- a file that is accepted
 
-records-long : (left : ℕ) (file : List ℕ) (r : Reading) (net : Network) → Bounded (r .network) (r .at) → length file ≤ left + recordCount (r .network) → readRecords left file r ≡ value net → length file ≤ longestNetwork
+records-long : (left : ℕ) (file : List ℕ) (r : Reading) (net : Network) → Bounded (r .network) (r .at) → length file ≤ left + recordCount (r .network)
+    → readRecords left file r ≡ value net → length file ≤ longestNetwork
 unfolding readRecords
 records-long zero file r net b h e = omega arith
 records-long (suc left) file r net b h e = go (λ q k c. records-long left file q net k c) (ltb (r .at) (length file)) (λ t. nltb→le (r .at) (length file) t) e
   where
     go : ((q : Reading) → Bounded (q .network) (q .at) → length file ≤ left + recordCount (q .network) → readRecords left file q ≡ value net → length file ≤ longestNetwork)
-        → (t : Bool) → (T (not t) → length file ≤ r .at) → elim t [ true ↦ (readRecord file r >>= λ next. readRecords left file next) | false ↦ value (r .network) ] ≡ value net → length file ≤ longestNetwork
+        → (t : Bool) → (T (not t) → length file ≤ r .at)
+        → elim t [ true ↦ (readRecord file r >>= λ next. readRecords left file next) | false ↦ value (r .network) ] ≡ value net → length file ≤ longestNetwork
     go ih true least k =
         let a = bind-value _ _ net k in
         let o = record-end file r (a .0) b (a .1) in

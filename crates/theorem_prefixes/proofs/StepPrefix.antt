@@ -112,7 +112,8 @@ module _ (n : ℕ) (f g : List ℕ) (h : Same n f g) where
   virtual-storages-same (suc count) soFar at le = bind-both (virtual-storage-same at (omega arith)) (λ s _. virtual-storages-same count (soFar ++ (s ∷ [])) (at + 26) (omega arith))
 
   -- a byte behind the last record is left over in both
-  step-same : (shapes : List NodeShape) (aggregates virtualStorages : ℕ) → fileLength (length shapes) aggregates virtualStorages < n → readStep shapes aggregates virtualStorages f ≡ readStep shapes aggregates virtualStorages g
+  step-same : (shapes : List NodeShape) (aggregates virtualStorages : ℕ) → fileLength (length shapes) aggregates virtualStorages < n
+      → readStep shapes aggregates virtualStorages f ≡ readStep shapes aggregates virtualStorages g
   unfolding readStep
   step-same shapes aggregates virtualStorages lt =
       bind-both (date-same (omega arith)) (λ date date-is.
@@ -137,7 +138,8 @@ shape-fits s e =
     omega (arith, n, a, v, c .nodes, c .aggregates, c .virtualStorages)
 
 -- the shape that a step file is read over
-fits : (s : Store) (shape : Shape) → need (wellShaped s) 17 0 (shapeOf s) ≡ value shape → fileLength (length (shape .nodes)) (length (shape .aggregates)) (length (shape .virtualStorages)) ≤ longestStep
+fits : (s : Store) (shape : Shape) → need (wellShaped s) 17 0 (shapeOf s) ≡ value shape
+    → fileLength (length (shape .nodes)) (length (shape .aggregates)) (length (shape .virtualStorages)) ≤ longestStep
 fits s shape e =
     subst (λ (p : Shape). fileLength (length (p .nodes)) (length (p .aggregates)) (length (p .virtualStorages)) ≤ longestStep) (need-value _ 17 0 (shapeOf s) shape e)
     (shape-fits s (to-true (wellShaped s) (need-test (wellShaped s) 17 0 (shapeOf s) shape e)))

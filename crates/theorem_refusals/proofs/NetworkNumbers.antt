@@ -11,7 +11,8 @@ use lib.Ieee.{inf, lt, eq}
 use Rattle.pywr.specs.Result.{value, Result, refused, _>>=_}
 use Rattle.pywr.specs.Numbers.{ofPattern}
 use Rattle.pywr.specs.Network.{link, Node, Part, Network, isExclusive, incoming, outgoing}
-use Rattle.pywr.specs.NetworkFile.{ND, readNode, ED, readEdge, readMembers, readSets, AG, readAggregate, readParts, VS, readVirtualStorage, Mark, rank, inOrder, hasRoom, readBody, Reading, readRecord, readRecords, firstRefused, isEmpty, unconnectedLink, badConstant, refusedIf, checkNetwork, parseNetwork}
+use Rattle.pywr.specs.NetworkFile.{ND, readNode, ED, readEdge, readMembers, readSets, AG, readAggregate, readParts, VS, readVirtualStorage, Mark, rank}
+use Rattle.pywr.specs.NetworkFile.{inOrder, hasRoom, readBody, Reading, readRecord, readRecords, firstRefused, isEmpty, unconnectedLink, badConstant, refusedIf, checkNetwork, parseNetwork}
 use Rattle.theorem_refusals.specs.RefusalNumbers.{Among, passed, told, ofNetworkFile}
 use Rattle.theorem_refusals.proofs.Among.{bind-among, need-among, checked-among, u8-among, u16-among, u32-among, bits-among}
 
@@ -97,16 +98,19 @@ unfolding readRecords
 read-records zero file r = passed
 read-records (suc left) file r = go (λ q. read-records left file q) (ltb (r .at) (length file))
   where
-    go : ((q : Reading) → Among ofNetworkFile (readRecords left file q)) → (b : Bool) → Among ofNetworkFile {A = Network} (elim b [ true ↦ (readRecord file r >>= λ next. readRecords left file next) | false ↦ value (r .network) ])
+    go : ((q : Reading) → Among ofNetworkFile (readRecords left file q)) → (b : Bool)
+        → Among ofNetworkFile {A = Network} (elim b [ true ↦ (readRecord file r >>= λ next. readRecords left file next) | false ↦ value (r .network) ])
     go ih true = bind-among _ _ (read-record file r) ih
     go ih false = passed
 
-first-number : (test : ℕ → Node → Option ℕ) → ((i : ℕ) (x : Node) (n : ℕ) → test i x ≡ some n → T (ofNetworkFile n)) → (i : ℕ) (xs : List Node) (f : ℕ × ℕ) → firstRefused test i xs ≡ some f → T (ofNetworkFile (f .0))
+first-number : (test : ℕ → Node → Option ℕ) → ((i : ℕ) (x : Node) (n : ℕ) → test i x ≡ some n → T (ofNetworkFile n)) → (i : ℕ) (xs : List Node) (f : ℕ × ℕ)
+    → firstRefused test i xs ≡ some f → T (ofNetworkFile (f .0))
 unfolding firstRefused
 first-number test ok i [] f e = let z : _≡_ {A = ℕ} 0 1 = cc in absurd (omega arith)
 first-number test ok i (x ∷ xs) f e = go (test i x) refl (λ k. first-number test ok (suc i) xs f k) e
   where
-    go : (o : Option ℕ) → test i x ≡ o → (firstRefused test (suc i) xs ≡ some f → T (ofNetworkFile (f .0))) → _≡_ {A = Option (ℕ × ℕ)} (elim o [ none ↦ firstRefused test (suc i) xs | some number ↦ some (number, i) ]) (some f) → T (ofNetworkFile (f .0))
+    go : (o : Option ℕ) → test i x ≡ o → (firstRefused test (suc i) xs ≡ some f → T (ofNetworkFile (f .0)))
+        → _≡_ {A = Option (ℕ × ℕ)} (elim o [ none ↦ firstRefused test (suc i) xs | some number ↦ some (number, i) ]) (some f) → T (ofNetworkFile (f .0))
     go none q ih k = ih k
     go (some n) q ih k = let same : (n, i) ≡ f = cc in subst (λ (g : ℕ × ℕ). T (ofNetworkFile (g .0))) same (ok i x n q)
 

@@ -5,8 +5,11 @@ use Rattle.build_col_edge_map.proofs.add_simple_edge.Statement.{stateme
 use Rattle.build_col_edge_map.proofs.add_simple_edge.Tie as tie
 
 returns : tie.Need-returns
-returns c =
-    (search needs, λ k m u. rw (c .before .before .before .wide16 .ensures .0, c .narrow16 .ensures) (simple-new k _ _ m _ u (rw (c .before .before .before .wide16 .ensures .0) at (c .before .if1 .taken))))
+returns c = (
+  search needs,
+  λ k m u. rw (c .before .before .before .wide16 .ensures .0, c .narrow16 .ensures)
+      (simple-new k _ _ m _ u (rw (c .before .before .before .wide16 .ensures .0) at (c .before .if1 .taken))),
+)
 
 returns-2 : tie.Need-returns-2
 returns-2 c =

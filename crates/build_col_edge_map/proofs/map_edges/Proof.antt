@@ -64,10 +64,12 @@ loop-again c =
     let in-loop = after-narrow16 .before in
     let at-loop = in-loop .before in
     let start = at-loop .before .before .before in
-    let k = shared-read _ _ _ (start .pre .4) (start .pre .5) (at-loop .loop .e) _ _ (rw (after-narrow16 .narrow16 .ensures) at (after-from-node-index .from-node-index .ensures)) (after-shares-with .shares-with .ensures) in
+    let k = shared-read _ _ _ (start .pre .4) (start .pre .5) (at-loop .loop .e) _ _
+    (rw (after-narrow16 .narrow16 .ensures) at (after-from-node-index .from-node-index .ensures)) (after-shares-with .shares-with .ensures) in
     let under = start .pre .3 (at-loop .loop .e) (in-loop .loop-test .taken) in
     simple-placed _ _ _ _ _ _ _ _ (at-loop .loop .inv) (in-loop .loop-test .taken) under (c .add-simple-edge .ensures .0) (sym k ∙ then1 .if1 .taken)
-    (rw (after-narrow16 .narrow16 .ensures) at (c .add-simple-edge .ensures .1 (at-loop .loop .inv .now-columns) (at-loop .loop .inv .mapped) (omega (arith, at-loop .loop .inv .long, after-narrow16 .narrow16 .ensures))))
+    (rw (after-narrow16 .narrow16 .ensures) at
+    (c .add-simple-edge .ensures .1 (at-loop .loop .inv .now-columns) (at-loop .loop .inv .mapped) (omega (arith, at-loop .loop .inv .long, after-narrow16 .narrow16 .ensures))))
 
 add-equal-edges-requires : tie.Need-add-equal-edges-requires Inv-loop μ-loop
 add-equal-edges-requires c κs =
@@ -80,7 +82,8 @@ add-equal-edges-requires c κs =
     let few = at-loop .loop .inv .few-columns in
     let most = start .pre .1 in
     let q = after-narrow16 .narrow16 .ensures in
-    let k = shared-read _ _ _ (start .pre .4) (start .pre .5) (at-loop .loop .e) _ _ (rw (after-narrow16 .narrow16 .ensures) at (after-from-node-index .from-node-index .ensures)) (after-shares-with .shares-with .ensures) in
+    let k = shared-read _ _ _ (start .pre .4) (start .pre .5) (at-loop .loop .e) _ _
+    (rw (after-narrow16 .narrow16 .ensures) at (after-from-node-index .from-node-index .ensures)) (after-shares-with .shares-with .ensures) in
     let under = shared-under _ _ _ (start .pre .4) (at-loop .loop .e) _ k (else1 .if1 .left) in
     (omega arith, omega arith, omega arith)
 
@@ -93,11 +96,14 @@ loop-again-2 c =
     let in-loop = after-narrow16 .before in
     let at-loop = in-loop .before in
     let start = at-loop .before .before .before in
-    let k = shared-read _ _ _ (start .pre .4) (start .pre .5) (at-loop .loop .e) _ _ (rw (after-narrow16 .narrow16 .ensures) at (after-from-node-index .from-node-index .ensures)) (after-shares-with .shares-with .ensures) in
+    let k = shared-read _ _ _ (start .pre .4) (start .pre .5) (at-loop .loop .e) _ _
+    (rw (after-narrow16 .narrow16 .ensures) at (after-from-node-index .from-node-index .ensures)) (after-shares-with .shares-with .ensures) in
     let there = shared-under _ _ _ (start .pre .4) (at-loop .loop .e) _ k (else1 .if1 .left) in
     let under = start .pre .3 (at-loop .loop .e) (in-loop .loop-test .taken) in
     equal-placed _ _ _ _ _ _ _ _ (at-loop .loop .inv) (in-loop .loop-test .taken) under (c .add-equal-edges .ensures .0) _ k (else1 .if1 .left)
-    (rw (after-narrow16 .narrow16 .ensures) at (c .add-equal-edges .ensures .1 (at-loop .loop .inv .now-columns) (at-loop .loop .inv .mapped) (omega (arith, at-loop .loop .inv .long, after-narrow16 .narrow16 .ensures)) (omega (arith, at-loop .loop .inv .long))))
+    (rw (after-narrow16 .narrow16 .ensures) at
+    (c .add-equal-edges .ensures .1 (at-loop .loop .inv .now-columns) (at-loop .loop .inv .mapped)
+    (omega (arith, at-loop .loop .inv .long, after-narrow16 .narrow16 .ensures)) (omega (arith, at-loop .loop .inv .long))))
 
 returns : tie.Need-returns Inv-loop μ-loop
 returns c =

@@ -70,7 +70,8 @@ returns-2 c =
     let else1 = after-wide16 .before in
     let after-is-constant = else1 .before in
     let start = to-start after-is-constant in
-    no-membership _ _ _ _ (start .pre .3) _ _ (after-wide16 .wide16 .ensures .0) (omega (arith, start .pre .1, start .pre .0 .sections .few-nodes)) _ _ (sym (after-is-constant .is-constant .ensures) ∙ not-false (after-is-constant .is-constant .result) (else1 .if1 .left)) _ _ _ _ _ _ (then2 .if2 .taken) (after-add-node-row .add-node-row .ensures)
+    no-membership _ _ _ _ (start .pre .3) _ _ (after-wide16 .wide16 .ensures .0) (omega (arith, start .pre .1, start .pre .0 .sections .few-nodes)) _ _
+    (sym (after-is-constant .is-constant .ensures) ∙ not-false (after-is-constant .is-constant .result) (else1 .if1 .left)) _ _ _ _ _ _ (then2 .if2 .taken) (after-add-node-row .add-node-row .ensures)
 
 add-exclusive-rows-requires : tie.Need-add-exclusive-rows-requires
 add-exclusive-rows-requires c κs =
@@ -84,7 +85,9 @@ returns-3 c =
     let else1 = after-wide16 .before in
     let after-is-constant = else1 .before in
     let start = to-start after-is-constant in
-    some-membership _ _ _ _ (start .pre .3) _ _ (after-wide16 .wide16 .ensures .0) (omega (arith, start .pre .1, start .pre .0 .sections .few-nodes)) _ _ (sym (after-is-constant .is-constant .ensures) ∙ not-false (after-is-constant .is-constant .result) (else1 .if1 .left)) _ _ _ _ _ _ (else2 .if2 .left) (after-add-exclusive-rows .add-exclusive-rows .ensures)
+    some-membership _ _ _ _ (start .pre .3) _ _ (after-wide16 .wide16 .ensures .0) (omega (arith, start .pre .1, start .pre .0 .sections .few-nodes)) _ _
+    (sym (after-is-constant .is-constant .ensures) ∙ not-false (after-is-constant .is-constant .result) (else1 .if1 .left)) _ _ _ _ _ _ (else2 .if2 .left)
+    (after-add-exclusive-rows .add-exclusive-rows .ensures)
 
 pub add-constant-rows-spec : {M : Type 1} → statement M
 add-constant-rows-spec =

@@ -15,7 +15,8 @@ use Rattle.build_constants.proofs.add_exclusive_rows.Tie as tie
 
 abbrev Inv-loop : tie.InvT-loop
 Inv-loop s c first-in next-in first-out next-out edge-to-col edge-columns first-membership next-membership node sentinel words₀ numbers₀ columns₀ k filled₀ link₀ words numbers columns filled link =
-    Walking sentinel (columnMap (networkOf s c)) (node .0) (nodeAt s (20 * node .0)) next-membership (setsWithNode (node .0) 0 (columnMap (networkOf s c) .sets)) words₀ numbers₀ filled₀ words numbers filled link
+    Walking sentinel (columnMap (networkOf s c)) (node .0) (nodeAt s (20 * node .0)) next-membership
+    (setsWithNode (node .0) 0 (columnMap (networkOf s c) .sets)) words₀ numbers₀ filled₀ words numbers filled link
     × (length words ≡ length words₀) × (length numbers ≡ length numbers₀)
 
 abbrev μ-loop : tie.MeasureT-loop
@@ -76,7 +77,18 @@ add-bounded-rows-requires : tie.Need-add-bounded-rows-requires Inv-loop μ-loop
 add-bounded-rows-requires c κs =
     let start = to-start (to-wide16 c) in
     let w = to-loop c .loop .inv in
-    let u = membership-under _ _ _ _ _ _ _ _ _ _ _ _ _ (w .0) (c .before .before .before .loop-test .taken) in (start .pre .0, start .pre .1, start .pre .2, omega arith, record { words-room = omega (arith, w .1, start .pre .4 .words-room); numbers-room = omega (arith, w .2, start .pre .4 .numbers-room) }, adding-holding _ _ _ _ _ _ (w .0 .adding (start .pre .5 .rows) (start .pre .5 .held)))
+    let u = membership-under _ _ _ _ _ _ _ _ _ _ _ _ _ (w .0) (c .before .before .before .loop-test .taken) in (
+      start .pre .0,
+      start .pre .1,
+      start .pre .2,
+      omega arith,
+      record {
+        words-room = omega (arith, w .1, start .pre .4 .words-room);
+        numbers-room = omega
+            (arith, w .2, start .pre .4 .numbers-room);
+      },
+      adding-holding _ _ _ _ _ _ (w .0 .adding (start .pre .5 .rows) (start .pre .5 .held)),
+    )
 
 same-length : tie.Need-same-length Inv-loop μ-loop
 same-length c =
@@ -115,7 +127,8 @@ loop-again : tie.Need-loop-again Inv-loop μ-loop
 loop-again c =
     let after-add-bounded-rows = to-add-bounded-rows (to-slice-known4 c) in
     let at-loop = to-loop (to-add-bounded-rows-arg3 (to-slice-known4 c)) in (
-      walk-next _ _ _ _ _ _ _ _ _ _ _ _ _ (at-loop .loop .inv .0) (to-in-loop (to-add-bounded-rows (to-slice-known4 c)) .loop-test .taken) _ _ _ (after-add-bounded-rows .add-bounded-rows .ensures) _ _ (c .before .before .before .r .given .1) (c .wide163 .ensures .0),
+      walk-next _ _ _ _ _ _ _ _ _ _ _ _ _ (at-loop .loop .inv .0) (to-in-loop (to-add-bounded-rows (to-slice-known4 c)) .loop-test .taken) _ _ _
+          (after-add-bounded-rows .add-bounded-rows .ensures) _ _ (c .before .before .before .r .given .1) (c .wide163 .ensures .0),
       after-add-bounded-rows .add-bounded-rows .kept .1 .1 .1 .1 .1 .1 .1 .1 .1 .1 .1 .0 ∙ at-loop .loop .inv .1,
       after-add-bounded-rows .add-bounded-rows .kept .1 .1 .1 .1 .1 .1 .1 .1 .1 .1 .1 .1 .0 ∙ at-loop .loop .inv .2,
     )

@@ -55,8 +55,18 @@ add-fixed-row-requires c κs =
     let after-add-node = to-add-node (c .before) in
     let start = to-start (after-add-node .before) in
     let few = held-few _ _ _ _ (start .pre .3 .held) in
-    let a = after-add-node .add-node .ensures in
-    (record { words-room = start .pre .2 .words-room; numbers-room = lent-long (start .args .numbers .now) (after-add-node .add-node .last .1 .1 .1 .1 .1 .1 .1 .1 .1 .1 .0) (2048 + start .args .f .elements) (after-add-node .add-node .kept .1 .1 .1 .1 .1 .1 .1 .1 .1 .1 .0) (start .pre .2 .numbers-room) }, a .few, few .0, few .1, a .rising)
+    let a = after-add-node .add-node .ensures in (
+      record {
+        words-room = start .pre .2 .words-room;
+        numbers-room = lent-long (start .args .numbers .now)
+            (after-add-node .add-node .last .1 .1 .1 .1 .1 .1 .1 .1 .1 .1 .0) (2048 + start .args .f .elements)
+            (after-add-node .add-node .kept .1 .1 .1 .1 .1 .1 .1 .1 .1 .1 .0) (start .pre .2 .numbers-room);
+      },
+      a .few,
+      few .0,
+      few .1,
+      a .rising,
+    )
 
 returns : tie.Need-returns
 unfolding one64 ofBits
@@ -67,7 +77,8 @@ returns c =
     let after-add-node = to-add-node after-min in
     let start = to-start (after-add-node .before) in
     let room = lent-room _ _ _ (start .pre .3) (start .pre .2 .numbers-room) in
-    lent-row _ _ _ _ _ refl (room .0) _ _ _ _ _ _ _ _ _ _ (after-min .min .ensures) (after-max .max .ensures) (node-row _ _ _ _ _ _ _ _ _ refl (after-add-node .add-node .ensures)) (after-add-fixed-row .add-fixed-row .ensures)
+    lent-row _ _ _ _ _ refl (room .0) _ _ _ _ _ _ _ _ _ _ (after-min .min .ensures) (after-max .max .ensures)
+    (node-row _ _ _ _ _ _ _ _ _ refl (after-add-node .add-node .ensures)) (after-add-fixed-row .add-fixed-row .ensures)
 
 pub add-node-row-spec : {M : Type 1} → statement M
 add-node-row-spec =

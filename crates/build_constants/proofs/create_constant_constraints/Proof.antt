@@ -19,7 +19,8 @@ use Rattle.build_constants.proofs.create_constant_constraints.Tie as ti
 abbrev Inv-loop : tie.InvT-loop
 Inv-loop s c first-in next-in first-out next-out edge-to-col edge-columns first-membership next-membership sentinel words₀ numbers₀ columns₀ nodes filled₀ i₀ words numbers columns filled i =
     (i ≤ nodes) × ((rows : List Row) → RowsHeld rows words₀ numbers₀ filled₀
-    → Adding (rows ++ constantRowsFrom sentinel (columnMap (networkOf s c)) 0 (networkOf s c .nodes)) (constantRowsFrom sentinel (columnMap (networkOf s c)) i (drop i (networkOf s c .nodes))) words₀ words numbers filled)
+    → Adding (rows ++ constantRowsFrom sentinel (columnMap (networkOf s c)) 0 (networkOf s c .nodes))
+    (constantRowsFrom sentinel (columnMap (networkOf s c)) i (drop i (networkOf s c .nodes))) words₀ words numbers filled)
     × (length words ≡ length words₀) × (length numbers ≡ length numbers₀)
 
 abbrev μ-loop : tie.MeasureT-loop
@@ -67,8 +68,18 @@ add-constant-rows-requires c κs =
     let in-loop = after-narrow16 .before in
     let at-loop = in-loop .before in
     let start = to-start at-loop in
-    let l = at-loop .loop .inv in
-    (start .pre .0, omega (arith, after-narrow16 .narrow16 .ensures, in-loop .loop-test .taken), start .pre .1, start .pre .2, record { words-room = omega (arith, l .2, start .pre .3 .words-room); numbers-room = omega (arith, l .3, start .pre .3 .numbers-room) }, adding-holding _ _ _ _ _ _ (l .1 (start .pre .4 .rows) (start .pre .4 .held)))
+    let l = at-loop .loop .inv in (
+      start .pre .0,
+      omega (arith, after-narrow16 .narrow16 .ensures, in-loop .loop-test .taken),
+      start .pre .1,
+      start .pre .2,
+      record {
+        words-room = omega (arith, l .2, start .pre .3 .words-room);
+        numbers-room = omega
+            (arith, l .3, start .pre .3 .numbers-room);
+      },
+      adding-holding _ _ _ _ _ _ (l .1 (start .pre .4 .rows) (start .pre .4 .held)),
+    )
 
 same-length : tie.Need-same-length Inv-loop μ-loop
 same-length c =
@@ -85,7 +96,8 @@ returns c =
     let in-loop = after-narrow16 .before in
     let at-loop = in-loop .before in
     let start = to-start at-loop in
-    λ rows h. node-over (constantRowsFrom (start .args .sentinel) (columnMap (networkOf (start .args .s .now) (start .args .c)))) (by-node _ _) _ _ _ _ _ _ _ _ _ _ _ (at-loop .loop .inv .1 rows h) (in-loop .loop-test .taken) _ (after-narrow16 .narrow16 .ensures) _ _ _ (after-add-constant-rows .add-constant-rows .ensures) (c .enum-told .given .1)
+    λ rows h. node-over (constantRowsFrom (start .args .sentinel) (columnMap (networkOf (start .args .s .now) (start .args .c)))) (by-node _ _) _ _ _ _ _ _ _ _
+    _ _ _ (at-loop .loop .inv .1 rows h) (in-loop .loop-test .taken) _ (after-narrow16 .narrow16 .ensures) _ _ _ (after-add-constant-rows .add-constant-rows .ensures) (c .enum-told .given .1)
 
 loop-again : tie.Need-loop-again Inv-loop μ-loop
 loop-again c =
@@ -93,7 +105,9 @@ loop-again c =
     let at-loop = to-loop (c .before .before .before) in
     let start = to-start at-loop in (
       omega (arith, to-in-loop c .loop-test .taken),
-      (λ rows h. node-more (constantRowsFrom (start .args .sentinel) (columnMap (networkOf (start .args .s .now) (start .args .c)))) (by-node _ _) _ _ _ _ _ _ _ _ _ _ _ (at-loop .loop .inv .1 rows h) (to-in-loop c .loop-test .taken) _ (to-narrow16 (to-add-constant-rows (c .before .before .before)) .narrow16 .ensures) _ _ _ (after-add-constant-rows .add-constant-rows .ensures) _ (c .before .r .given .1)),
+      (λ rows h. node-more (constantRowsFrom (start .args .sentinel) (columnMap (networkOf (start .args .s .now) (start .args .c)))) (by-node _ _) _ _ _ _ _ _ _
+          _ _ _ _ (at-loop .loop .inv .1 rows h) (to-in-loop c .loop-test .taken) _
+          (to-narrow16 (to-add-constant-rows (c .before .before .before)) .narrow16 .ensures) _ _ _ (after-add-constant-rows .add-constant-rows .ensures) _ (c .before .r .given .1)),
       after-add-constant-rows .add-constant-rows .kept .1 .1 .1 .1 .1 .1 .1 .1 .1 .1 .1 .1 .0 ∙ at-loop .loop .inv .2,
       after-add-constant-rows .add-constant-rows .kept .1 .1 .1 .1 .1 .1 .1 .1 .1 .1 .1 .1 .1 .0 ∙ at-loop .loop .inv .3,
     )
@@ -110,7 +124,8 @@ returns-2 : tie.Need-returns-2 Inv-loop μ-loop
 returns-2 c =
     let at-loop = c .before in
     let start = to-start at-loop in
-    λ rows h. nodes-done (constantRowsFrom (start .args .sentinel) (columnMap (networkOf (start .args .s .now) (start .args .c)))) (by-node _ _) _ _ _ _ _ _ _ _ _ _ _ (at-loop .loop .inv .1 rows h) (c .loop-test .left)
+    λ rows h. nodes-done (constantRowsFrom (start .args .sentinel) (columnMap (networkOf (start .args .s .now) (start .args .c)))) (by-node _ _) _ _ _ _ _ _ _ _
+    _ _ _ (at-loop .loop .inv .1 rows h) (c .loop-test .left)
 
 pub create-constant-constraints-spec : {M : Type 1} → statement M
 create-constant-constraints-spec =

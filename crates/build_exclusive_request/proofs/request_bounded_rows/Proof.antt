@@ -92,7 +92,8 @@ returns c =
     let after-wide16 = after-narrow16 .before in
     let start = to-start after-wide16 in
     λ asks h.
-    upper-full _ _ _ _ _ _ (set-column _ (start .args .c) _ _ _ _ (start .pre .2) (after-wide16 .wide16 .ensures .0) (after-narrow16 .narrow16 .ensures)) refl refl _ asks _ _ _ (after-request-bounded-row .request-bounded-row .ensures binaryUpper refl asks h) (c .enum-told .given .1)
+    upper-full _ _ _ _ _ _ (set-column _ (start .args .c) _ _ _ _ (start .pre .2) (after-wide16 .wide16 .ensures .0) (after-narrow16 .narrow16 .ensures)) refl
+    refl _ asks _ _ _ (after-request-bounded-row .request-bounded-row .ensures binaryUpper refl asks h) (c .enum-told .given .1)
 
 returns-2 : tie.Need-returns-2
 unfolding rowTypeWord one64 ofBits
@@ -105,7 +106,8 @@ returns-2 c =
     let start = to-start after-wide16 in
     λ asks h.
     let upper = after-request-bounded-row .request-bounded-row .ensures binaryUpper refl asks h .done _ (after-r .r .given .1) in
-    both-asked _ _ _ _ _ _ (set-column _ (start .args .c) _ _ _ _ (start .pre .2) (after-wide16 .wide16 .ensures .0) (after-narrow16 .narrow16 .ensures)) refl refl _ asks _ _ _ (after-request-bounded-row2 .request-bounded-row2 .ensures binaryLower refl _ upper)
+    both-asked _ _ _ _ _ _ (set-column _ (start .args .c) _ _ _ _ (start .pre .2) (after-wide16 .wide16 .ensures .0) (after-narrow16 .narrow16 .ensures)) refl
+    refl _ asks _ _ _ (after-request-bounded-row2 .request-bounded-row2 .ensures binaryLower refl _ upper)
 
 pub request-bounded-rows-spec : {M : Type 1} → statement M
 request-bounded-rows-spec =

@@ -68,8 +68,19 @@ request-bounded-rows-requires c κs =
     let p = to-start (to-wide16 c) .pre in
     let w = at-loop .loop .inv .0 in
     let ne = c .before .before .before .loop-test .taken in
-    let under = membership-under _ _ _ _ _ _ _ _ w ne in
-    (p .0, p .1, p .2, omega arith, record { words-room = omega (arith, p .4 .words-room, at-loop .loop .inv .1); numbers-room = omega (arith, p .4 .numbers-room, at-loop .loop .inv .2) }, record { asks = w .asks; held = w .rows }, room _ _ _ _ _ _ _ _ w ne (p .6))
+    let under = membership-under _ _ _ _ _ _ _ _ w ne in (
+      p .0,
+      p .1,
+      p .2,
+      omega arith,
+      record {
+        words-room = omega (arith, p .4 .words-room, at-loop .loop .inv .1);
+        numbers-room = omega
+            (arith, p .4 .numbers-room, at-loop .loop .inv .2);
+      },
+      record { asks = w .asks; held = w .rows },
+      room _ _ _ _ _ _ _ _ w ne (p .6),
+    )
 
 same-length : tie.Need-same-length Inv-loop μ-loop
 same-length c =
@@ -108,8 +119,13 @@ loop-again c =
     let after-request-bounded-rows = to-request-bounded-rows (after-r .before .before) in
     let in-loop = to-in-loop after-request-bounded-rows in
     let at-loop = in-loop .before in
-    let w = at-loop .loop .inv .0 in
-    (walk-next _ _ _ _ _ _ _ _ w (in-loop .loop-test .taken) _ _ _ (after-request-bounded-rows .request-bounded-rows .ensures (w .asks) (w .rows)) _ _ (after-r .r .given .1) (after-wide162 .wide162 .ensures .0), after-request-bounded-rows .request-bounded-rows .kept .1 .1 .1 .1 .1 .1 .1 .1 .1 .1 .1 .0 ∙ at-loop .loop .inv .1, after-request-bounded-rows .request-bounded-rows .kept .1 .1 .1 .1 .1 .1 .1 .1 .1 .1 .1 .1 .0 ∙ at-loop .loop .inv .2)
+    let w = at-loop .loop .inv .0 in (
+      walk-next _ _ _ _ _ _ _ _ w (in-loop .loop-test .taken) _ _ _ (after-request-bounded-rows .request-bounded-rows .ensures (w .asks) (w .rows)) _ _
+          (after-r .r .given .1) (after-wide162 .wide162 .ensures .0),
+      after-request-bounded-rows .request-bounded-rows .kept .1 .1 .1 .1 .1 .1 .1 .1 .1 .1 .1 .0
+          ∙ at-loop .loop .inv .1,
+      after-request-bounded-rows .request-bounded-rows .kept .1 .1 .1 .1 .1 .1 .1 .1 .1 .1 .1 .1 .0 ∙ at-loop .loop .inv .2,
+    )
 
 same-length-3 : tie.Need-same-length-3 Inv-loop μ-loop
 same-length-3 c =

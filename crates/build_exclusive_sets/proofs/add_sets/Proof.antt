@@ -82,7 +82,8 @@ loop-again-2 c =
     let after-set-number = else1 .before in
     let in-loop = after-set-number .before .before in
     let at-loop = in-loop .before in
-    rw (c .set-end2 .ensures, after-narrow16 .narrow16 .ensures) (adding-new _ _ _ _ _ _ _ _ _ (at-loop .loop .inv) (in-loop .loop-test .taken) (rw (after-set-number .set-number .ensures) at (else1 .if1 .left)) (else2 .if2 .left) (fits (in-loop)))
+    rw (c .set-end2 .ensures, after-narrow16 .narrow16 .ensures)
+    (adding-new _ _ _ _ _ _ _ _ _ (at-loop .loop .inv) (in-loop .loop-test .taken) (rw (after-set-number .set-number .ensures) at (else1 .if1 .left)) (else2 .if2 .left) (fits (in-loop)))
 
 returns-2 : tie.Need-returns-2 Inv-loop μ-loop
 returns-2 c =

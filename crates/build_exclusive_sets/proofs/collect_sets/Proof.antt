@@ -59,7 +59,9 @@ returns c =
     let at-loop = in-loop .before in
     let start = to-start at-loop in
     let p = start .args in
-    of-network (p .s .now) (p .c .nodes) (p .c .edges) (p .c .aggregates) _ _ _ (collecting-over _ _ _ _ _ _ _ (at-loop .loop .inv) (in-loop .loop-test .taken) (sym (after-is-exclusive .is-exclusive .ensures) ∙ then1 .if1 .taken) _ _ (after-add-sets .add-sets .ensures) (c .enum-told .given .1))
+    of-network (p .s .now) (p .c .nodes) (p .c .edges) (p .c .aggregates) _ _ _
+    (collecting-over _ _ _ _ _ _ _ (at-loop .loop .inv) (in-loop .loop-test .taken) (sym (after-is-exclusive .is-exclusive .ensures) ∙ then1 .if1 .taken) _ _
+    (after-add-sets .add-sets .ensures) (c .enum-told .given .1))
 
 aggregate-end-requires : tie.Need-aggregate-end-requires Inv-loop μ-loop
 aggregate-end-requires c κs =
@@ -73,7 +75,8 @@ loop-again c =
     let after-is-exclusive = then1 .before in
     let in-loop = after-is-exclusive .before in
     let at-loop = in-loop .before in
-    rw (c .aggregate-end .ensures) (collecting-more _ _ _ _ _ _ _ (at-loop .loop .inv) (in-loop .loop-test .taken) (sym (after-is-exclusive .is-exclusive .ensures) ∙ then1 .if1 .taken) _ _ (after-add-sets .add-sets .ensures) _ (after-r .r .given .1))
+    rw (c .aggregate-end .ensures) (collecting-more _ _ _ _ _ _ _ (at-loop .loop .inv) (in-loop .loop-test .taken)
+    (sym (after-is-exclusive .is-exclusive .ensures) ∙ then1 .if1 .taken) _ _ (after-add-sets .add-sets .ensures) _ (after-r .r .given .1))
 
 aggregate-end-requires-2 : tie.Need-aggregate-end-requires-2 Inv-loop μ-loop
 aggregate-end-requires-2 c κs =
@@ -83,7 +86,8 @@ loop-again-2 : tie.Need-loop-again-2 Inv-loop μ-loop
 loop-again-2 c =
     let in-loop = c .before .before .before in
     let at-loop = in-loop .before in
-    rw (c .aggregate-end2 .ensures) (collecting-plain _ _ _ _ _ _ _ (at-loop .loop .inv) (c .before .before .before .loop-test .taken) (sym (c .before .before .is-exclusive .ensures) ∙ c .before .if1 .left))
+    rw (c .aggregate-end2 .ensures) (collecting-plain _ _ _ _ _ _ _ (at-loop .loop .inv) (c .before .before .before .loop-test .taken)
+    (sym (c .before .before .is-exclusive .ensures) ∙ c .before .if1 .left))
 
 returns-2 : tie.Need-returns-2 Inv-loop μ-loop
 returns-2 c =

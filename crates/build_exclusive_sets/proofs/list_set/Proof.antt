@@ -37,8 +37,11 @@ small c =
 
 loop-holds : tie.Need-loop-holds Inv-loop μ-loop
 loop-holds c =
-    let p = c .before .before .args in
-    (omega (arith, c .set-size .ensures .0), λ of h. members-none (p .s .now) (p .k) (p .at) of (p .first .now) (p .next .now) (c .set-size .result) (c .set-size .ensures .0) (omega (arith, c .set-size .ensures .0, c .before .before .pre .1 .most)) h)
+    let p = c .before .before .args in (
+      omega (arith, c .set-size .ensures .0),
+      λ of h. members-none (p .s .now) (p .k) (p .at) of (p .first .now) (p .next .now) (c .set-size .result)
+          (c .set-size .ensures .0) (omega (arith, c .set-size .ensures .0, c .before .before .pre .1 .most)) h,
+    )
 
 element-copy-out-next : tie.Need-element-copy-out-next Inv-loop μ-loop
 element-copy-out-next c =
@@ -58,7 +61,8 @@ loop-again c =
     let p = start .args in
     let e : l .i ≡ l .i - 1 + 1 = omega arith in (
       omega arith,
-      λ of h. rw (c .narrow16 .ensures) (members-more (p .s .now) (p .k) (p .at) of (l .first) (l .next) (l .i - 1) (after-wide16 .wide16 .result) (omega arith) (after-wide16 .wide16 .ensures .0 ∙ after-member .member .ensures) (small (after-wide16)) (omega (arith, start .pre .1 .most))
+      λ of h. rw (c .narrow16 .ensures) (members-more (p .s .now) (p .k) (p .at) of (l .first) (l .next) (l .i - 1) (after-wide16 .wide16 .result) (omega arith)
+          (after-wide16 .wide16 .ensures .0 ∙ after-member .member .ensures) (small (after-wide16)) (omega (arith, start .pre .1 .most))
           (subst (λ (i : ℕ). Memberships (16 * p .k + i) (l .first) (l .next) (withMembers (p .s .now) (p .k) (p .at) of i)) e (l .inv .1 of h))),
     )
 

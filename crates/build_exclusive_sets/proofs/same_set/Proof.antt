@@ -30,7 +30,8 @@ to-start-from-loop c =
 returns : tie.Need-returns Inv-loop μ-loop
 returns c =
     let p = to-start-from-then1 c .args in
-    sym (other-size (setAt (p .s .now) (p .a)) (setAt (p .s .now) (p .b)) (λ e. c .if1 .taken (c .before .before .set-size .ensures .0 ∙ sym (set-length (p .s .now) (p .a)) ∙ e ∙ set-length (p .s .now) (p .b) ∙ sym (c .before .set-size2 .ensures .0))))
+    sym (other-size (setAt (p .s .now) (p .a)) (setAt (p .s .now) (p .b))
+    (λ e. c .if1 .taken (c .before .before .set-size .ensures .0 ∙ sym (set-length (p .s .now) (p .a)) ∙ e ∙ set-length (p .s .now) (p .b) ∙ sym (c .before .set-size2 .ensures .0))))
 
 loop-holds : tie.Need-loop-holds Inv-loop μ-loop
 loop-holds c =
@@ -43,7 +44,8 @@ returns-2 c =
     let at-loop = after-member .before .before in
     let start = to-start-from-loop at-loop in
     let p = start .args in
-    sym (at-loop .loop .inv .1 ∙ same-not (p .s .now) (p .a) (p .b) (at-loop .loop .i) (omega arith) (omega arith) (λ e. c .if2 .taken (after-member .member .ensures ∙ e ∙ sym (after-member2 .member2 .ensures))))
+    sym (at-loop .loop .inv .1 ∙ same-not (p .s .now) (p .a) (p .b) (at-loop .loop .i) (omega arith) (omega arith)
+    (λ e. c .if2 .taken (after-member .member .ensures ∙ e ∙ sym (after-member2 .member2 .ensures))))
 
 loop-again : tie.Need-loop-again Inv-loop μ-loop
 loop-again c =
@@ -51,8 +53,11 @@ loop-again c =
     let after-member = after-member2 .before in
     let at-loop = after-member .before .before in
     let start = to-start-from-loop at-loop in
-    let p = start .args in
-    (search needs, at-loop .loop .inv .1 ∙ same-more (p .s .now) (p .a) (p .b) (at-loop .loop .i) (omega arith) (omega arith) (sym (after-member .member .ensures) ∙ c .if2 .left ∙ after-member2 .member2 .ensures))
+    let p = start .args in (
+      search needs,
+      at-loop .loop .inv .1 ∙ same-more (p .s .now) (p .a) (p .b) (at-loop .loop .i) (omega arith) (omega arith)
+          (sym (after-member .member .ensures) ∙ c .if2 .left ∙ after-member2 .member2 .ensures),
+    )
 
 returns-3 : tie.Need-returns-3 Inv-loop μ-loop
 returns-3 c =

@@ -36,7 +36,8 @@ returns c =
     let at-loop = in-loop .before in
     let start = at-loop .before .before in
     let p = start .args in
-    sym (at-loop .loop .inv .1 ∙ number-here (p .s .now) (p .set-at .now) (p .count) (omega arith) (setAt (p .s .now) (p .at)) (at-loop .loop .k) (in-loop .loop-test .taken) (rw (after-wide16 .wide16 .ensures .0) at (sym (after-same-set .same-set .ensures) ∙ c .if1 .taken)))
+    sym (at-loop .loop .inv .1 ∙ number-here (p .s .now) (p .set-at .now) (p .count) (omega arith) (setAt (p .s .now) (p .at)) (at-loop .loop .k)
+    (in-loop .loop-test .taken) (rw (after-wide16 .wide16 .ensures .0) at (sym (after-same-set .same-set .ensures) ∙ c .if1 .taken)))
 
 loop-again : tie.Need-loop-again Inv-loop μ-loop
 loop-again c =
@@ -45,8 +46,11 @@ loop-again c =
     let in-loop = after-wide16 .before .before in
     let at-loop = in-loop .before in
     let start = at-loop .before .before in
-    let p = start .args in
-    (search needs, at-loop .loop .inv .1 ∙ number-more (p .s .now) (p .set-at .now) (p .count) (omega arith) (setAt (p .s .now) (p .at)) (at-loop .loop .k) (in-loop .loop-test .taken) (rw (after-wide16 .wide16 .ensures .0) at (sym (after-same-set .same-set .ensures) ∙ c .if1 .left)))
+    let p = start .args in (
+      search needs,
+      at-loop .loop .inv .1 ∙ number-more (p .s .now) (p .set-at .now) (p .count) (omega arith) (setAt (p .s .now) (p .at)) (at-loop .loop .k)
+          (in-loop .loop-test .taken) (rw (after-wide16 .wide16 .ensures .0) at (sym (after-same-set .same-set .ensures) ∙ c .if1 .left)),
+    )
 
 returns-2 : tie.Need-returns-2 Inv-loop μ-loop
 returns-2 c =

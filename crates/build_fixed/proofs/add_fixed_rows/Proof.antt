@@ -54,8 +54,24 @@ create-constant-constraints-requires : tie.Need-create-constant-constraints-requ
 create-constant-constraints-requires c κs =
     let after-m = to-m c in
     let after-create-mass-balance-constraints = to-create-mass-balance-constraints (after-m .before .before) in
-    let start = to-start after-create-mass-balance-constraints in
-    (start .pre .0, start .pre .2, record { setAt = _; sets = _; tables = start .pre .1 }, record { words-room = omega (arith, after-create-mass-balance-constraints .create-mass-balance-constraints .kept .1 .1 .1 .1 .1 .1 .1 .0, start .pre .3 .words-room); numbers-room = omega (arith, after-create-mass-balance-constraints .create-mass-balance-constraints .kept .1 .1 .1 .1 .1 .1 .1 .1 .0, start .pre .3 .numbers-room) }, mass-holding (start .args .sentinel) (networkOf (start .args .s .now) (start .args .c)) _ _ _ _ _ _ (after-create-mass-balance-constraints .create-mass-balance-constraints .ensures) _ (after-m .m .given .1) (start .pre .4))
+    let start = to-start after-create-mass-balance-constraints in (
+      start .pre .0,
+      start .pre .2,
+      record { setAt = _; sets = _; tables = start .pre .1 },
+      record {
+        words-room = omega (
+          arith,
+          after-create-mass-balance-constraints .create-mass-balance-constraints .kept .1 .1 .1 .1 .1 .1 .1 .0,
+          start .pre .3 .words-room,
+        );
+        numbers-room = omega (
+          arith,
+          after-create-mass-balance-constraints .create-mass-balance-constraints .kept .1 .1 .1 .1 .1 .1 .1 .1 .0,
+          start .pre .3 .numbers-room,
+        );
+      },
+      mass-holding (start .args .sentinel) (networkOf (start .args .s .now) (start .args .c)) _ _ _ _ _ _ (after-create-mass-balance-constraints .create-mass-balance-constraints .ensures) _ (after-m .m .given .1) (start .pre .4),
+    )
 
 create-mutual-exclusivity-constraints-requires : tie.Need-create-mutual-exclusivity-constraints-requires
 create-mutual-exclusivity-constraints-requires c κs =
@@ -63,8 +79,28 @@ create-mutual-exclusivity-constraints-requires c κs =
     let after-create-constant-constraints = to-create-constant-constraints (after-b .before .before) in
     let after-m = to-m (after-create-constant-constraints .before) in
     let after-create-mass-balance-constraints = to-create-mass-balance-constraints (after-m .before .before) in
-    let start = to-start after-create-mass-balance-constraints in
-    (start .pre .0 .sections, start .pre .1 .fit, start .pre .1 .held, start .pre .2, columns-most _ _ _ _ _ _ _ (start .pre .0) _ (start .pre .2), record { words-room = omega (arith, after-create-mass-balance-constraints .create-mass-balance-constraints .kept .1 .1 .1 .1 .1 .1 .1 .0, after-create-constant-constraints .create-constant-constraints .kept .1 .1 .1 .1 .1 .1 .1 .1 .1 .1 .1 .0, start .pre .3 .words-room); numbers-room = omega (arith, after-create-mass-balance-constraints .create-mass-balance-constraints .kept .1 .1 .1 .1 .1 .1 .1 .1 .0, after-create-constant-constraints .create-constant-constraints .kept .1 .1 .1 .1 .1 .1 .1 .1 .1 .1 .1 .1 .0, start .pre .3 .numbers-room) }, constant-holding (start .args .sentinel) (networkOf (start .args .s .now) (start .args .c)) _ _ _ _ _ _ (after-create-mass-balance-constraints .create-mass-balance-constraints .ensures) _ (after-m .m .given .1) _ _ _ (after-create-constant-constraints .create-constant-constraints .ensures) _ (after-b .b .given .1) (start .pre .4))
+    let start = to-start after-create-mass-balance-constraints in (
+      start .pre .0 .sections,
+      start .pre .1 .fit,
+      start .pre .1 .held,
+      start .pre .2,
+      columns-most _ _ _ _ _ _ _ (start .pre .0) _ (start .pre .2),
+      record {
+        words-room = omega (
+          arith,
+          after-create-mass-balance-constraints .create-mass-balance-constraints .kept .1 .1 .1 .1 .1 .1 .1 .0,
+          after-create-constant-constraints .create-constant-constraints .kept .1 .1 .1 .1 .1 .1 .1 .1 .1 .1 .1 .0,
+          start .pre .3 .words-room,
+        );
+        numbers-room = omega (
+          arith,
+          after-create-mass-balance-constraints .create-mass-balance-constraints .kept .1 .1 .1 .1 .1 .1 .1 .1 .0,
+          after-create-constant-constraints .create-constant-constraints .kept .1 .1 .1 .1 .1 .1 .1 .1 .1 .1 .1 .1 .0,
+          start .pre .3 .numbers-room,
+        );
+      },
+      constant-holding (start .args .sentinel) (networkOf (start .args .s .now) (start .args .c)) _ _ _ _ _ _ (after-create-mass-balance-constraints .create-mass-balance-constraints .ensures) _ (after-m .m .given .1) _ _ _ (after-create-constant-constraints .create-constant-constraints .ensures) _ (after-b .b .given .1) (start .pre .4),
+    )
 
 same-length : tie.Need-same-length
 same-length c =
@@ -78,19 +114,22 @@ returns : tie.Need-returns
 returns c =
     let after-create-mass-balance-constraints = to-create-mass-balance-constraints (c .before .before) in
     let start = to-start after-create-mass-balance-constraints in
-    mass-full (start .args .sentinel) (networkOf (start .args .s .now) (start .args .c)) _ _ _ _ _ _ (after-create-mass-balance-constraints .create-mass-balance-constraints .ensures) (c .enum-told .given .1)
+    mass-full (start .args .sentinel) (networkOf (start .args .s .now) (start .args .c)) _ _ _ _ _ _
+    (after-create-mass-balance-constraints .create-mass-balance-constraints .ensures) (c .enum-told .given .1)
 
 same-length-3 : tie.Need-same-length-3
 same-length-3 c =
     let after-create-constant-constraints = to-create-constant-constraints (c .before .before) in
     let after-create-mass-balance-constraints = to-create-mass-balance-constraints (to-slice-known4 after-create-constant-constraints) in
-    after-create-constant-constraints .create-constant-constraints .kept .1 .1 .1 .1 .1 .1 .1 .1 .1 .1 .1 .0 ∙ after-create-mass-balance-constraints .create-mass-balance-constraints .kept .1 .1 .1 .1 .1 .1 .1 .0
+    after-create-constant-constraints .create-constant-constraints .kept .1 .1 .1 .1 .1 .1 .1 .1 .1 .1 .1 .0
+    ∙ after-create-mass-balance-constraints .create-mass-balance-constraints .kept .1 .1 .1 .1 .1 .1 .1 .0
 
 same-length-4 : tie.Need-same-length-4
 same-length-4 c =
     let after-create-constant-constraints = to-create-constant-constraints (c .before .before) in
     let after-create-mass-balance-constraints = to-create-mass-balance-constraints (to-slice-known4 after-create-constant-constraints) in
-    after-create-constant-constraints .create-constant-constraints .kept .1 .1 .1 .1 .1 .1 .1 .1 .1 .1 .1 .1 .0 ∙ after-create-mass-balance-constraints .create-mass-balance-constraints .kept .1 .1 .1 .1 .1 .1 .1 .1 .0
+    after-create-constant-constraints .create-constant-constraints .kept .1 .1 .1 .1 .1 .1 .1 .1 .1 .1 .1 .1 .0
+    ∙ after-create-mass-balance-constraints .create-mass-balance-constraints .kept .1 .1 .1 .1 .1 .1 .1 .1 .0
 
 returns-2 : tie.Need-returns-2
 returns-2 c =
@@ -98,21 +137,27 @@ returns-2 c =
     let after-m = to-m (after-create-constant-constraints .before) in
     let after-create-mass-balance-constraints = to-create-mass-balance-constraints (after-m .before .before) in
     let start = to-start after-create-mass-balance-constraints in
-    constant-full (start .args .sentinel) (networkOf (start .args .s .now) (start .args .c)) _ _ _ _ _ _ (after-create-mass-balance-constraints .create-mass-balance-constraints .ensures) _ (after-m .m .given .1) _ _ _ (after-create-constant-constraints .create-constant-constraints .ensures) (c .enum-told2 .given .1)
+    constant-full (start .args .sentinel) (networkOf (start .args .s .now) (start .args .c)) _ _ _ _ _ _
+    (after-create-mass-balance-constraints .create-mass-balance-constraints .ensures) _ (after-m .m .given .1) _ _ _
+    (after-create-constant-constraints .create-constant-constraints .ensures) (c .enum-told2 .given .1)
 
 same-length-5 : tie.Need-same-length-5
 same-length-5 c =
     let after-create-mutual-exclusivity-constraints = to-create-mutual-exclusivity-constraints c in
     let after-create-constant-constraints = to-create-constant-constraints (to-slice-known6 after-create-mutual-exclusivity-constraints) in
     let after-create-mass-balance-constraints = to-create-mass-balance-constraints (to-slice-known4 after-create-constant-constraints) in
-    after-create-mutual-exclusivity-constraints .create-mutual-exclusivity-constraints .kept .1 .1 .1 .1 .1 .0 ∙ after-create-constant-constraints .create-constant-constraints .kept .1 .1 .1 .1 .1 .1 .1 .1 .1 .1 .1 .0 ∙ after-create-mass-balance-constraints .create-mass-balance-constraints .kept .1 .1 .1 .1 .1 .1 .1 .0
+    after-create-mutual-exclusivity-constraints .create-mutual-exclusivity-constraints .kept .1 .1 .1 .1 .1 .0
+    ∙ after-create-constant-constraints .create-constant-constraints .kept .1 .1 .1 .1 .1 .1 .1 .1 .1 .1 .1 .0
+    ∙ after-create-mass-balance-constraints .create-mass-balance-constraints .kept .1 .1 .1 .1 .1 .1 .1 .0
 
 same-length-6 : tie.Need-same-length-6
 same-length-6 c =
     let after-create-mutual-exclusivity-constraints = to-create-mutual-exclusivity-constraints c in
     let after-create-constant-constraints = to-create-constant-constraints (to-slice-known6 after-create-mutual-exclusivity-constraints) in
     let after-create-mass-balance-constraints = to-create-mass-balance-constraints (to-slice-known4 after-create-constant-constraints) in
-    after-create-mutual-exclusivity-constraints .create-mutual-exclusivity-constraints .kept .1 .1 .1 .1 .1 .1 .0 ∙ after-create-constant-constraints .create-constant-constraints .kept .1 .1 .1 .1 .1 .1 .1 .1 .1 .1 .1 .1 .0 ∙ after-create-mass-balance-constraints .create-mass-balance-constraints .kept .1 .1 .1 .1 .1 .1 .1 .1 .0
+    after-create-mutual-exclusivity-constraints .create-mutual-exclusivity-constraints .kept .1 .1 .1 .1 .1 .1 .0
+    ∙ after-create-constant-constraints .create-constant-constraints .kept .1 .1 .1 .1 .1 .1 .1 .1 .1 .1 .1 .1 .0
+    ∙ after-create-mass-balance-constraints .create-mass-balance-constraints .kept .1 .1 .1 .1 .1 .1 .1 .1 .0
 
 returns-3 : tie.Need-returns-3
 returns-3 c =
@@ -122,7 +167,10 @@ returns-3 c =
     let after-m = to-m (after-create-constant-constraints .before) in
     let after-create-mass-balance-constraints = to-create-mass-balance-constraints (after-m .before .before) in
     let start = to-start after-create-mass-balance-constraints in
-    all-fixed (start .args .sentinel) (networkOf (start .args .s .now) (start .args .c)) _ _ _ _ _ _ (after-create-mass-balance-constraints .create-mass-balance-constraints .ensures) _ (after-m .m .given .1) _ _ _ (after-create-constant-constraints .create-constant-constraints .ensures) _ (after-b .b .given .1) _ _ _ (after-create-mutual-exclusivity-constraints .create-mutual-exclusivity-constraints .ensures)
+    all-fixed (start .args .sentinel) (networkOf (start .args .s .now) (start .args .c)) _ _ _ _ _ _
+    (after-create-mass-balance-constraints .create-mass-balance-constraints .ensures) _ (after-m .m .given .1) _ _ _
+    (after-create-constant-constraints .create-constant-constraints .ensures) _ (after-b .b .given .1) _ _ _
+    (after-create-mutual-exclusivity-constraints .create-mutual-exclusivity-constraints .ensures)
 
 pub add-fixed-rows-spec : {M : Type 1} → statement M
 add-fixed-rows-spec =

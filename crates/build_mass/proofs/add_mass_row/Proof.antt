@@ -54,8 +54,12 @@ to-add-fixed-row c =
 mass-row-requires : tie.Need-mass-row-requires
 mass-row-requires c κs =
     let after-wide16 = to-wide16 c in
-    let start = to-start (after-wide16 .before .before) in
-    (lent-room _ _ _ (start .pre .3) (start .pre .2 .numbers-room) .1, in-listed _ _ _ _ _ _ _ (start .pre .0) (after-wide16 .wide16 .result), out-listed _ _ _ _ _ _ _ (start .pre .0) (after-wide16 .wide16 .result))
+    let start = to-start (after-wide16 .before .before) in (
+      lent-room _ _ _ (start .pre .3) (start .pre .2 .numbers-room) .1,
+      in-listed _ _ _ _ _ _ _ (start .pre .0) (after-wide16 .wide16 .result),
+      out-listed _ _ _
+          _ _ _ _ (start .pre .0) (after-wide16 .wide16 .result),
+    )
 
 part-row-end : tie.Need-part-row-end
 part-row-end c =
@@ -84,8 +88,17 @@ add-fixed-row-requires c κs =
     let after-wide16 = to-wide16 (after-mass-row .before) in
     let start = to-start (after-wide16 .before .before) in
     let g = mass-row _ _ _ _ _ _ _ (start .pre .0) _ (after-wide16 .wide16 .result) (after-wide16 .wide16 .ensures .0) _ _ _ (after-mass-row .mass-row .ensures) in
-    let few = held-few _ _ _ _ (start .pre .3 .held) in
-    (record { words-room = start .pre .2 .words-room; numbers-room = lent-long (start .args .numbers .now) (after-mass-row .mass-row .last .1 .1 .1 .1 .1 .1 .0) (2048 + start .args .f .elements) (after-mass-row .mass-row .kept .1 .1 .1 .1 .1 .1 .0) (start .pre .2 .numbers-room) }, g .few, few .0, few .1, g .rising)
+    let few = held-few _ _ _ _ (start .pre .3 .held) in (
+      record {
+        words-room = start .pre .2 .words-room;
+        numbers-room = lent-long (start .args .numbers .now) (after-mass-row .mass-row .last .1 .1 .1 .1 .1 .1 .0)
+            (2048 + start .args .f .elements) (after-mass-row .mass-row .kept .1 .1 .1 .1 .1 .1 .0) (start .pre .2 .numbers-room);
+      },
+      g .few,
+      few .0,
+      few .1,
+      g .rising,
+    )
 
 returns-3 : tie.Need-returns-3
 unfolding zero64 ofBits
@@ -101,7 +114,8 @@ returns-3 c =
     let room = lent-room _ _ _ (start .pre .3) (start .pre .2 .numbers-room) in
     let g = mass-row _ _ _ _ _ _ _ (start .pre .0) _ (after-wide16 .wide16 .result) (after-wide16 .wide16 .ensures .0) _ _ _ (after-mass-row .mass-row .ensures) in
     row-added _ _ _ _ _ _ _ (start .pre .0) _ (after-wide16 .wide16 .result) (after-wide16 .wide16 .ensures .0) _ _ _ g (sym (after-kind .kind .ensures) ∙ else1 .if1 .left)
-    (omega (arith, after-run2 .run2 .given .0)) (omega (arith, after-mass-row .mass-row .kept .1 .1 .1 .1 .1 .1 .0, room .1)) _ _ _ _ refl (room .0) _ _ _ _ _ (else2 .if2 .left) refl refl (after-add-fixed-row .add-fixed-row .ensures)
+    (omega (arith, after-run2 .run2 .given .0)) (omega (arith, after-mass-row .mass-row .kept .1 .1 .1 .1 .1 .1 .0, room .1)) _ _ _ _ refl (room .0) _ _ _ _ _
+    (else2 .if2 .left) refl refl (after-add-fixed-row .add-fixed-row .ensures)
 
 pub add-mass-row-spec : {M : Type 1} → statement M
 add-mass-row-spec =

@@ -67,8 +67,16 @@ add-mass-row-requires c κs =
     let in-loop = after-narrow16 .before in
     let at-loop = in-loop .before in
     let start = to-start at-loop in
-    let l = at-loop .loop .inv in
-    (start .pre .0, omega (arith, after-narrow16 .narrow16 .ensures, in-loop .loop-test .taken), record { words-room = omega (arith, l .2, start .pre .1 .words-room); numbers-room = omega (arith, l .3, start .pre .1 .numbers-room) }, adding-holding _ _ _ _ _ _ (l .1 (start .pre .2 .rows) (start .pre .2 .held)))
+    let l = at-loop .loop .inv in (
+      start .pre .0,
+      omega (arith, after-narrow16 .narrow16 .ensures, in-loop .loop-test .taken),
+      record {
+        words-room = omega (arith, l .2, start .pre .1 .words-room);
+        numbers-room = omega
+            (arith, l .3, start .pre .1 .numbers-room);
+      },
+      adding-holding _ _ _ _ _ _ (l .1 (start .pre .2 .rows) (start .pre .2 .held)),
+    )
 
 same-length : tie.Need-same-length Inv-loop μ-loop
 same-length c =
@@ -85,7 +93,8 @@ returns c =
     let in-loop = after-narrow16 .before in
     let at-loop = in-loop .before in
     let start = to-start at-loop in
-    λ rows h. node-over (massRowsFrom (columnMap (networkOf (start .args .s .now) (start .args .c)))) (by-node _) _ _ _ _ _ _ _ _ _ _ _ (at-loop .loop .inv .1 rows h) (in-loop .loop-test .taken) _ (after-narrow16 .narrow16 .ensures) _ _ _ (after-add-mass-row .add-mass-row .ensures) (c .enum-told .given .1)
+    λ rows h. node-over (massRowsFrom (columnMap (networkOf (start .args .s .now) (start .args .c)))) (by-node _) _ _ _ _ _ _ _ _ _ _ _
+    (at-loop .loop .inv .1 rows h) (in-loop .loop-test .taken) _ (after-narrow16 .narrow16 .ensures) _ _ _ (after-add-mass-row .add-mass-row .ensures) (c .enum-told .given .1)
 
 loop-again : tie.Need-loop-again Inv-loop μ-loop
 loop-again c =
@@ -93,7 +102,9 @@ loop-again c =
     let at-loop = to-loop (c .before .before .before) in
     let start = to-start at-loop in (
       omega (arith, to-in-loop c .loop-test .taken),
-      (λ rows h. node-more (massRowsFrom (columnMap (networkOf (start .args .s .now) (start .args .c)))) (by-node _) _ _ _ _ _ _ _ _ _ _ _ (at-loop .loop .inv .1 rows h) (to-in-loop c .loop-test .taken) _ (to-narrow16 (to-add-mass-row (c .before .before .before)) .narrow16 .ensures) _ _ _ (after-add-mass-row .add-mass-row .ensures) _ (c .before .r .given .1)),
+      (λ rows h. node-more (massRowsFrom (columnMap (networkOf (start .args .s .now) (start .args .c)))) (by-node _) _ _ _ _ _ _ _ _ _ _ _
+          (at-loop .loop .inv .1 rows h) (to-in-loop c .loop-test .taken) _ (to-narrow16 (to-add-mass-row (c .before .before .before)) .narrow16 .ensures) _ _ _
+          (after-add-mass-row .add-mass-row .ensures) _ (c .before .r .given .1)),
       after-add-mass-row .add-mass-row .kept .1 .1 .1 .1 .1 .1 .1 .1 .0 ∙ at-loop .loop .inv .2,
       after-add-mass-row .add-mass-row .kept .1 .1 .1 .1 .1 .1 .1 .1 .1 .0 ∙ at-loop .loop .inv .3,
     )

@@ -26,8 +26,13 @@ add-node-row-requires c κs =
     let after-bounded-row = to-bounded-row c in
     let start = to-start after-bounded-row in
     let h = start .pre .4 in
-    let ys = after-bounded-row .bounded-row .last .1 .1 .1 .1 .1 .1 .1 .1 .1 .1 .1 .1 .0 in
-    (record { words-room = search needs; numbers-room = search needs }, after-bounded-row .bounded-row .ensures .few, after-bounded-row .bounded-row .ensures .rising, record { asks = h .asks; held = rows-lent _ (h .asks) _ _ ys _ (start .pre .3 .numbers-room) (h .held) }, start .pre .5)
+    let ys = after-bounded-row .bounded-row .last .1 .1 .1 .1 .1 .1 .1 .1 .1 .1 .1 .1 .0 in (
+      record { words-room = search needs; numbers-room = search needs },
+      after-bounded-row .bounded-row .ensures .few,
+      after-bounded-row .bounded-row .ensures .rising,
+      record { asks = h .asks; held = rows-lent _ (h .asks) _ _ ys _ (start .pre .3 .numbers-room) (h .held) },
+      start .pre .5,
+    )
 
 returns : tie.Need-returns
 returns c =
@@ -36,7 +41,8 @@ returns c =
     let start = to-start after-bounded-row in
     let ys = after-bounded-row .bounded-row .last .1 .1 .1 .1 .1 .1 .1 .1 .1 .1 .1 .1 .0 in
     let long = start .pre .3 .numbers-room in
-    λ t et asks h. request-lent _ asks _ _ ys _ long h _ _ _ _ _ _ _ _ _ (after-bounded-row .bounded-row .ensures .is) (after-add-node-row .add-node-row .ensures t et asks (rows-lent _ asks _ _ ys _ long h))
+    λ t et asks h. request-lent _ asks _ _ ys _ long h _ _ _ _ _ _ _ _ _ (after-bounded-row .bounded-row .ensures .is)
+    (after-add-node-row .add-node-row .ensures t et asks (rows-lent _ asks _ _ ys _ long h))
 
 pub request-bounded-row-spec : {M : Type 1} → statement M
 request-bounded-row-spec =

@@ -38,8 +38,13 @@ add-node-row-requires c κs =
     let after-add-node = to-add-node c in
     let start = to-start after-add-node in
     let h = start .pre .3 in
-    let ys = after-add-node .add-node .last .1 .1 .1 .1 .1 .1 .1 .1 .1 .1 .0 in
-    (record { words-room = search needs; numbers-room = search needs }, after-add-node .add-node .ensures .few, after-add-node .add-node .ensures .rising, record { asks = h .asks; held = rows-lent _ (h .asks) _ _ ys _ (start .pre .2 .numbers-room) (h .held) }, start .pre .4)
+    let ys = after-add-node .add-node .last .1 .1 .1 .1 .1 .1 .1 .1 .1 .1 .0 in (
+      record { words-room = search needs; numbers-room = search needs },
+      after-add-node .add-node .ensures .few,
+      after-add-node .add-node .ensures .rising,
+      record { asks = h .asks; held = rows-lent _ (h .asks) _ _ ys _ (start .pre .2 .numbers-room) (h .held) },
+      start .pre .4,
+    )
 
 returns : tie.Need-returns
 unfolding one64 ofBits rowTypeWord
@@ -49,7 +54,8 @@ returns c =
     let start = to-start after-add-node in
     let ys = after-add-node .add-node .last .1 .1 .1 .1 .1 .1 .1 .1 .1 .1 .0 in
     let long = start .pre .2 .numbers-room in
-    λ asks h. request-lent _ asks _ _ ys _ long h _ _ _ _ _ _ _ _ _ (node-gathered _ _ _ _ _ _ _ _ _ refl (after-add-node .add-node .ensures) .is) (after-add-node-row .add-node-row .ensures continuous refl asks (rows-lent _ asks _ _ ys _ long h))
+    λ asks h. request-lent _ asks _ _ ys _ long h _ _ _ _ _ _ _ _ _ (node-gathered _ _ _ _ _ _ _ _ _ refl (after-add-node .add-node .ensures) .is)
+    (after-add-node-row .add-node-row .ensures continuous refl asks (rows-lent _ asks _ _ ys _ long h))
 
 pub request-node-row-spec : {M : Type 1} → statement M
 request-node-row-spec =

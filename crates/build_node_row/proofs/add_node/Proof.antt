@@ -53,7 +53,8 @@ returns c =
     let then1 = to-then1 after-add-columns in
     let after-wide16 = then1 .before .before in
     let start = after-wide16 .before .before .before in
-    output-added _ _ _ _ _ _ _ (start .pre .0) _ (after-wide16 .wide16 .result) (after-wide16 .wide16 .ensures .0) (start .pre .1) _ _ _ _ _ _ _ (then1 .if1 .taken) (after-add-columns .add-columns .ensures)
+    output-added _ _ _ _ _ _ _ (start .pre .0) _ (after-wide16 .wide16 .result) (after-wide16 .wide16 .ensures .0) (start .pre .1) _ _ _ _ _ _ _
+    (then1 .if1 .taken) (after-add-columns .add-columns .ensures)
 
 add-columns-requires-2 : tie.Need-add-columns-requires-2
 add-columns-requires-2 c κs =
@@ -65,8 +66,12 @@ add-columns-requires-3 : tie.Need-add-columns-requires-3
 add-columns-requires-3 c κs =
     let after-add-columns2 = to-add-columns2 c in
     let after-wide16 = to-wide16-from-add-columns-arg6 (after-add-columns2 .before) in
-    let start = after-wide16 .before .before .before in
-    (after-add-columns2 .add-columns2 .ensures .few, omega (arith, after-add-columns2 .add-columns2 .kept .1 .1 .1 .1 .1 .0, start .pre .3), after-add-columns2 .add-columns2 .ensures .rising, out-listed _ _ _ _ _ _ _ (start .pre .0) (after-wide16 .wide16 .result))
+    let start = after-wide16 .before .before .before in (
+      after-add-columns2 .add-columns2 .ensures .few,
+      omega (arith, after-add-columns2 .add-columns2 .kept .1 .1 .1 .1 .1 .0, start .pre .3),
+      after-add-columns2 .add-columns2 .ensures .rising,
+      out-listed _ _ _ _ _ _ _ (start .pre .0) (after-wide16 .wide16 .result),
+    )
 
 returns-2 : tie.Need-returns-2
 returns-2 c =
@@ -75,7 +80,8 @@ returns-2 c =
     let then2 = to-then2 after-add-columns2 in
     let after-wide16 = then2 .before .before .before in
     let start = after-wide16 .before .before .before in
-    storage-added _ _ _ _ _ _ _ (start .pre .0) _ (after-wide16 .wide16 .result) (after-wide16 .wide16 .ensures .0) (start .pre .1) _ _ _ _ _ _ _ _ _ _ (then2 .if2 .taken) (after-add-columns2 .add-columns2 .ensures) (after-add-columns3 .add-columns3 .ensures)
+    storage-added _ _ _ _ _ _ _ (start .pre .0) _ (after-wide16 .wide16 .result) (after-wide16 .wide16 .ensures .0) (start .pre .1) _ _ _ _ _ _ _ _ _ _
+    (then2 .if2 .taken) (after-add-columns2 .add-columns2 .ensures) (after-add-columns3 .add-columns3 .ensures)
 
 add-columns-requires-4 : tie.Need-add-columns-requires-4
 add-columns-requires-4 c κs =
@@ -90,7 +96,8 @@ returns-3 c =
     let else1 = else2 .before in
     let after-wide16 = else1 .before .before in
     let start = after-wide16 .before .before .before in
-    outgoing-added _ _ _ _ _ _ _ (start .pre .0) _ (after-wide16 .wide16 .result) (after-wide16 .wide16 .ensures .0) (start .pre .1) _ _ _ _ _ _ _ (else1 .if1 .left) (else2 .if2 .left) (after-add-columns4 .add-columns4 .ensures)
+    outgoing-added _ _ _ _ _ _ _ (start .pre .0) _ (after-wide16 .wide16 .result) (after-wide16 .wide16 .ensures .0) (start .pre .1) _ _ _ _ _ _ _
+    (else1 .if1 .left) (else2 .if2 .left) (after-add-columns4 .add-columns4 .ensures)
 
 pub add-node-spec : {M : Type 1} → statement M
 add-node-spec =

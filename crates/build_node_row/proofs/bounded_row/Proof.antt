@@ -24,7 +24,12 @@ unfolding gathered elementsOf
 returns c =
     let after-add-element = c .before .before in
     let after-add-node = to-add-node after-add-element in
-    record { is = after-add-element .add-element .ensures .row ∙ ap (addElement _ _) (after-add-node .add-node .ensures .row); rising = after-add-element .add-element .ensures .rising; few = after-add-element .add-element .ensures .few }
+    record {
+      is = after-add-element .add-element .ensures .row
+          ∙ ap (addElement _ _) (after-add-node .add-node .ensures .row);
+      rising = after-add-element .add-element .ensures .rising;
+      few = after-add-element .add-element .ensures .few;
+    }
 
 pub bounded-row-spec : {M : Type 1} → statement M
 bounded-row-spec =

@@ -57,8 +57,14 @@ request-rows-requires c κs =
     let after-shared-slice-known = at-loop .before .before .before in
     let start = after-shared-slice-known .before in
     let p = start .pre in
-    let l = at-loop .loop .inv in
-    (p .0, omega (arith, c .before .before .before .narrow16 .ensures, in-loop .loop-test .taken), p .1, p .2, record { words-room = omega (arith, p .3 .words-room, l .1); numbers-room = omega (arith, p .3 .numbers-room, l .2) }, rw (c .before .before .before .narrow16 .ensures) (l .0))
+    let l = at-loop .loop .inv in (
+      p .0,
+      omega (arith, c .before .before .before .narrow16 .ensures, in-loop .loop-test .taken),
+      p .1,
+      p .2,
+      record { words-room = omega (arith, p .3 .words-room, l .1); numbers-room = omega (arith, p .3 .numbers-room, l .2) },
+      rw (c .before .before .before .narrow16 .ensures) (l .0),
+    )
 
 same-length : tie.Need-same-length Inv-loop μ-loop
 same-length c =
@@ -82,8 +88,12 @@ loop-again c =
     let after-request-rows = after-numbers .before .before .before in
     let after-request-rows-arg = after-request-rows .before .before .before in
     let after-narrow16 = after-request-rows-arg .before in
-    let at-loop = after-narrow16 .before .before in
-    (rw (after-narrow16 .narrow16 .ensures) at (after-request-rows .request-rows .ensures .done _ (after-r .r .given .1)), after-request-rows .request-rows .kept .1 .1 .1 .1 .1 .1 .1 .1 .1 .1 .1 .1 .0 ∙ at-loop .loop .inv .1, after-request-rows .request-rows .kept .1 .1 .1 .1 .1 .1 .1 .1 .1 .1 .1 .1 .1 .0 ∙ at-loop .loop .inv .2)
+    let at-loop = after-narrow16 .before .before in (
+      rw (after-narrow16 .narrow16 .ensures) at (after-request-rows .request-rows .ensures .done _ (after-r .r .given .1)),
+      after-request-rows .request-rows .kept .1 .1 .1 .1 .1 .1 .1 .1 .1 .1 .1 .1 .0
+          ∙ at-loop .loop .inv .1,
+      after-request-rows .request-rows .kept .1 .1 .1 .1 .1 .1 .1 .1 .1 .1 .1 .1 .1 .0 ∙ at-loop .loop .inv .2,
+    )
 
 same-length-3 : tie.Need-same-length-3 Inv-loop μ-loop
 same-length-3 c =

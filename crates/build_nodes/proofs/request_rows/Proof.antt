@@ -53,8 +53,14 @@ request-node-row-requires c κs =
     let else1 = after-wide16 .before in
     let after-is-constant = else1 .before in
     let start = to-start after-is-constant in
-    let p = start .pre in
-    (p .0, p .1, p .4, record { asks = _; held = p .5 }, own-room _ _ _ _ _ _ _ (p .0) _ _ (p .3) _ _ (after-wide16 .wide16 .ensures .0) (p .1) _ (after-is-constant .is-constant .ensures) (else1 .if1 .left) (then2 .if2 .taken) _ _ _ _ (p .5))
+    let p = start .pre in (
+      p .0,
+      p .1,
+      p .4,
+      record { asks = _; held = p .5 },
+      own-room _ _ _ _ _ _ _ (p .0) _ _ (p .3) _ _ (after-wide16 .wide16 .ensures .0) (p .1) _
+          (after-is-constant .is-constant .ensures) (else1 .if1 .left) (then2 .if2 .taken) _ _ _ _ (p .5),
+    )
 
 returns-2 : tie.Need-returns-2
 returns-2 c =
@@ -65,7 +71,8 @@ returns-2 c =
     let after-is-constant = else1 .before in
     let start = to-start after-is-constant in
     let p = start .pre in
-    own-after _ _ _ _ _ _ _ (p .0) _ _ (p .3) _ _ (after-wide16 .wide16 .ensures .0) (p .1) _ (after-is-constant .is-constant .ensures) (else1 .if1 .left) (then2 .if2 .taken) _ _ _ _ (after-request-node-row .request-node-row .ensures _ (p .5))
+    own-after _ _ _ _ _ _ _ (p .0) _ _ (p .3) _ _ (after-wide16 .wide16 .ensures .0) (p .1) _ (after-is-constant .is-constant .ensures) (else1 .if1 .left)
+    (then2 .if2 .taken) _ _ _ _ (after-request-node-row .request-node-row .ensures _ (p .5))
 
 request-exclusive-rows-requires : tie.Need-request-exclusive-rows-requires
 request-exclusive-rows-requires c κs =
@@ -74,8 +81,16 @@ request-exclusive-rows-requires c κs =
     let else1 = after-wide16 .before in
     let after-is-constant = else1 .before in
     let start = to-start after-is-constant in
-    let p = start .pre in
-    (p .0, p .1, p .2, p .3, p .4, p .5, listed-room _ _ _ _ _ _ _ (p .0) _ _ (p .3) _ _ (after-wide16 .wide16 .ensures .0) (p .1) _ (after-is-constant .is-constant .ensures) (else1 .if1 .left) (else2 .if2 .left))
+    let p = start .pre in (
+      p .0,
+      p .1,
+      p .2,
+      p .3,
+      p .4,
+      p .5,
+      listed-room _ _ _ _ _ _ _ (p .0) _ _ (p .3) _ _ (after-wide16 .wide16 .ensures .0) (p .1) _
+          (after-is-constant .is-constant .ensures) (else1 .if1 .left) (else2 .if2 .left),
+    )
 
 returns-3 : tie.Need-returns-3
 returns-3 c =
@@ -86,7 +101,8 @@ returns-3 c =
     let after-is-constant = else1 .before in
     let start = to-start after-is-constant in
     let p = start .pre in
-    listed-after _ _ _ _ _ _ _ (p .0) _ _ (p .3) _ _ (after-wide16 .wide16 .ensures .0) (p .1) _ (after-is-constant .is-constant .ensures) (else1 .if1 .left) (else2 .if2 .left) _ _ _ _ (after-request-exclusive-rows .request-exclusive-rows .ensures)
+    listed-after _ _ _ _ _ _ _ (p .0) _ _ (p .3) _ _ (after-wide16 .wide16 .ensures .0) (p .1) _ (after-is-constant .is-constant .ensures) (else1 .if1 .left)
+    (else2 .if2 .left) _ _ _ _ (after-request-exclusive-rows .request-exclusive-rows .ensures)
 
 pub request-rows-spec : {M : Type 1} → statement M
 request-rows-spec =

@@ -50,8 +50,17 @@ assemble-rows-requires c κs =
     let after-list-edges = after-list-edges2 .before .before .before in
     let start = to-start (after-list-edges .before) in
     let c₀ = start .args .c in
-    let m = after-map-edges .map-edges .ensures (c₀ .aggregates) (c₀ .«virtual_storages») in
-    (record { parsed = start .pre .0; sections = start .pre .1; into = after-list-edges .list-edges .ensures; outOf = after-list-edges2 .list-edges2 .ensures; mapped = mapped-so _ _ _ m }, m .count-is, start .pre .2)
+    let m = after-map-edges .map-edges .ensures (c₀ .aggregates) (c₀ .«virtual_storages») in (
+      record {
+        parsed = start .pre .0;
+        sections = start .pre .1;
+        into = after-list-edges .list-edges .ensures;
+        outOf = after-list-edges2 .list-edges2 .ensures;
+        mapped = mapped-so _ _ _ m;
+      },
+      m .count-is,
+      start .pre .2,
+    )
 
 pub assemble-columns-spec : {M : Type 1} → statement M
 assemble-columns-spec =

@@ -36,8 +36,18 @@ add-fixed-row-requires c κs =
     let after-bounded-row = to-bounded-row c in
     let start = to-start (after-bounded-row .before) in
     let few = held-few _ _ _ _ (start .pre .4 .held) in
-    let g = after-bounded-row .bounded-row .ensures in
-    (record { words-room = start .pre .3 .words-room; numbers-room = lent-long (start .args .numbers .now) (after-bounded-row .bounded-row .last .1 .1 .1 .1 .1 .1 .1 .1 .1 .1 .1 .1 .0) (2048 + start .args .f .elements) (after-bounded-row .bounded-row .kept .1 .1 .1 .1 .1 .1 .1 .1 .1 .1 .1 .1 .0) (start .pre .3 .numbers-room) }, g .few, few .0, few .1, g .rising)
+    let g = after-bounded-row .bounded-row .ensures in (
+      record {
+        words-room = start .pre .3 .words-room;
+        numbers-room = lent-long (start .args .numbers .now)
+            (after-bounded-row .bounded-row .last .1 .1 .1 .1 .1 .1 .1 .1 .1 .1 .1 .1 .0) (2048 + start .args .f .elements)
+            (after-bounded-row .bounded-row .kept .1 .1 .1 .1 .1 .1 .1 .1 .1 .1 .1 .1 .0) (start .pre .3 .numbers-room);
+      },
+      g .few,
+      few .0,
+      few .1,
+      g .rising,
+    )
 
 returns : tie.Need-returns
 unfolding zero64 ofBits

@@ -104,7 +104,10 @@ returns c =
     let after-max = after-narrow16 .before in
     let after-min = after-max .before in
     let start = to-start after-min in
-    upper-only _ (columnMap _) _ _ (nodeAt (start .args .s .now) (20 * start .args .node .0)) _ (after-narrow16 .narrow16 .ensures ∙ ap (λ (j : ℕ). j + start .args .set) (start .pre .2)) _ _ _ _ (upper-is _ _ _ (after-max .max .ensures) (after-lesser .lesser .ensures)) _ _ _ (after-add-bounded-row .add-bounded-row .ensures) _ (after-r .r .given .1) (ap (λ (v : Float). eq v zero64) (sym (after-min .min .ensures)) ∙ c .if1 .taken)
+    upper-only _ (columnMap _) _ _ (nodeAt (start .args .s .now) (20 * start .args .node .0)) _
+    (after-narrow16 .narrow16 .ensures ∙ ap (λ (j : ℕ). j + start .args .set) (start .pre .2)) _ _ _ _
+    (upper-is _ _ _ (after-max .max .ensures) (after-lesser .lesser .ensures)) _ _ _ (after-add-bounded-row .add-bounded-row .ensures) _
+    (after-r .r .given .1) (ap (λ (v : Float). eq v zero64) (sym (after-min .min .ensures)) ∙ c .if1 .taken)
 
 add-bounded-row-requires-2 : tie.Need-add-bounded-row-requires-2
 add-bounded-row-requires-2 c κs =
@@ -113,7 +116,20 @@ add-bounded-row-requires-2 c κs =
     let after-narrow16 = to-narrow16 (after-add-bounded-row .before) in
     let start = to-start (after-narrow16 .before .before) in
     let u = set-column-under _ _ _ _ _ _ _ (start .pre .0) _ _ (start .pre .2) (start .pre .3) in
-    let h = start .pre .5 in (start .pre .0, start .pre .1, omega (arith, after-narrow16 .narrow16 .ensures), record { words-room = omega (arith, after-add-bounded-row .add-bounded-row .kept .1 .1 .1 .1 .1 .1 .1 .1 .1 .1 .1 .1 .0, start .pre .4 .words-room); numbers-room = omega (arith, after-add-bounded-row .add-bounded-row .kept .1 .1 .1 .1 .1 .1 .1 .1 .1 .1 .1 .1 .1 .0, start .pre .4 .numbers-room) }, record { rows = _; held = after-add-bounded-row .add-bounded-row .ensures (h .rows) (h .held) .held _ (after-r .r .given .1) })
+    let h = start .pre .5 in (
+      start .pre .0,
+      start .pre .1,
+      omega (arith, after-narrow16 .narrow16 .ensures),
+      record {
+        words-room = omega (arith, after-add-bounded-row .add-bounded-row .kept .1 .1 .1 .1 .1 .1 .1 .1 .1 .1 .1 .1 .0, start .pre .4 .words-room);
+        numbers-room = omega (
+          arith,
+          after-add-bounded-row .add-bounded-row .kept .1 .1 .1 .1 .1 .1 .1 .1 .1 .1 .1 .1 .1 .0,
+          start .pre .4 .numbers-room,
+        );
+      },
+      record { rows = _; held = after-add-bounded-row .add-bounded-row .ensures (h .rows) (h .held) .held _ (after-r .r .given .1) },
+    )
 
 same-length-3 : tie.Need-same-length-3
 same-length-3 c =
@@ -131,7 +147,9 @@ returns-2 c =
     let after-narrow16 = after-lesser .before in
     let after-max = after-narrow16 .before in
     let start = to-start (after-max .before) in
-    upper-over _ (columnMap _) _ _ (nodeAt (start .args .s .now) (20 * start .args .node .0)) _ (after-narrow16 .narrow16 .ensures ∙ ap (λ (j : ℕ). j + start .args .set) (start .pre .2)) _ _ _ _ (upper-is _ _ _ (after-max .max .ensures) (after-lesser .lesser .ensures)) _ _ _ (after-add-bounded-row .add-bounded-row .ensures) (c .enum-told .given .1)
+    upper-over _ (columnMap _) _ _ (nodeAt (start .args .s .now) (20 * start .args .node .0)) _
+    (after-narrow16 .narrow16 .ensures ∙ ap (λ (j : ℕ). j + start .args .set) (start .pre .2)) _ _ _ _
+    (upper-is _ _ _ (after-max .max .ensures) (after-lesser .lesser .ensures)) _ _ _ (after-add-bounded-row .add-bounded-row .ensures) (c .enum-told .given .1)
 
 same-length-5 : tie.Need-same-length-5
 same-length-5 c =
@@ -158,7 +176,11 @@ returns-3 c =
     let after-max = after-narrow16 .before in
     let after-min = after-max .before in
     let start = to-start after-min in
-    both-rows _ (columnMap _) _ _ (nodeAt (start .args .s .now) (20 * start .args .node .0)) _ (after-narrow16 .narrow16 .ensures ∙ ap (λ (j : ℕ). j + start .args .set) (start .pre .2)) _ _ _ _ (upper-is _ _ _ (after-max .max .ensures) (after-lesser .lesser .ensures)) _ _ _ (after-add-bounded-row .add-bounded-row .ensures) _ (after-r .r .given .1) (ap (λ (v : Float). eq v zero64) (sym (after-min .min .ensures)) ∙ else1 .if1 .left) _ (lower-is _ _ _ (after-min .min .ensures) (after-greater .greater .ensures)) _ _ _ (after-add-bounded-row2 .add-bounded-row2 .ensures)
+    both-rows _ (columnMap _) _ _ (nodeAt (start .args .s .now) (20 * start .args .node .0)) _
+    (after-narrow16 .narrow16 .ensures ∙ ap (λ (j : ℕ). j + start .args .set) (start .pre .2)) _ _ _ _
+    (upper-is _ _ _ (after-max .max .ensures) (after-lesser .lesser .ensures)) _ _ _ (after-add-bounded-row .add-bounded-row .ensures) _
+    (after-r .r .given .1) (ap (λ (v : Float). eq v zero64) (sym (after-min .min .ensures)) ∙ else1 .if1 .left) _
+    (lower-is _ _ _ (after-min .min .ensures) (after-greater .greater .ensures)) _ _ _ (after-add-bounded-row2 .add-bounded-row2 .ensures)
 
 pub add-bounded-rows-spec : {M : Type 1} → statement M
 add-bounded-rows-spec =

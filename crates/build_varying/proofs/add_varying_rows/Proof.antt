@@ -55,8 +55,19 @@ create-aggregated-node-constraints-requires c κs =
     let after-n = to-n c in
     let after-create-node-constraints = to-create-node-constraints (after-n .before .before) in
     let start = to-start after-create-node-constraints in
-    let h = after-create-node-constraints .create-node-constraints .ensures .done _ (after-n .n .given .1) in
-    (start .pre .0, record { words-room = omega (arith, after-create-node-constraints .create-node-constraints .kept .1 .1 .1 .1 .1 .1 .1 .1 .1 .1 .1 .0, start .pre .3 .words-room); numbers-room = omega (arith, after-create-node-constraints .create-node-constraints .kept .1 .1 .1 .1 .1 .1 .1 .1 .1 .1 .1 .1 .0, start .pre .3 .numbers-room) }, nodes-holding (start .args .sentinel) (networkOf (start .args .s .now) (start .args .c)) _ _ _ h)
+    let h = after-create-node-constraints .create-node-constraints .ensures .done _ (after-n .n .given .1) in (
+      start .pre .0,
+      record {
+        words-room = omega
+            (arith, after-create-node-constraints .create-node-constraints .kept .1 .1 .1 .1 .1 .1 .1 .1 .1 .1 .1 .0, start .pre .3 .words-room);
+        numbers-room = omega (
+          arith,
+          after-create-node-constraints .create-node-constraints .kept .1 .1 .1 .1 .1 .1 .1 .1 .1 .1 .1 .1 .0,
+          start .pre .3 .numbers-room,
+        );
+      },
+      nodes-holding (start .args .sentinel) (networkOf (start .args .s .now) (start .args .c)) _ _ _ h,
+    )
 
 create-virtual-storage-constraints-requires : tie.Need-create-virtual-storage-constraints-requires
 create-virtual-storage-constraints-requires c κs =
@@ -66,8 +77,19 @@ create-virtual-storage-constraints-requires c κs =
     let after-create-node-constraints = to-create-node-constraints (after-n .before .before) in
     let start = to-start after-create-node-constraints in
     let h = after-create-node-constraints .create-node-constraints .ensures .done _ (after-n .n .given .1) in
-    let g = after-create-aggregated-node-constraints .create-aggregated-node-constraints .ensures (rows₁ (start .args .sentinel) (networkOf (start .args .s .now) (start .args .c))) (h .held) in
-    (start .pre .0, record { words-room = omega (arith, after-create-node-constraints .create-node-constraints .kept .1 .1 .1 .1 .1 .1 .1 .1 .1 .1 .1 .0, after-create-aggregated-node-constraints .create-aggregated-node-constraints .kept .1 .1 .1 .1 .1 .1 .1 .1 .0, start .pre .3 .words-room); numbers-room = omega (arith, after-create-node-constraints .create-node-constraints .kept .1 .1 .1 .1 .1 .1 .1 .1 .1 .1 .1 .1 .0, after-create-aggregated-node-constraints .create-aggregated-node-constraints .kept .1 .1 .1 .1 .1 .1 .1 .1 .1 .0, start .pre .3 .numbers-room) }, aggregates-holding (start .args .sentinel) (networkOf (start .args .s .now) (start .args .c)) _ _ _ _ _ g _ (after-a .a .given .1))
+    let g = after-create-aggregated-node-constraints .create-aggregated-node-constraints .ensures (rows₁ (start .args .sentinel) (networkOf (start .args .s .now) (start .args .c))) (h .held) in (
+      start .pre .0,
+      record {
+        words-room = omega (
+          arith,
+          after-create-node-constraints .create-node-constraints .kept .1 .1 .1 .1 .1 .1 .1 .1 .1 .1 .1 .0,
+          after-create-aggregated-node-constraints .create-aggregated-node-constraints .kept .1 .1 .1 .1 .1 .1 .1 .1 .0,
+          start .pre .3 .words-room,
+        );
+        numbers-room = omega (arith, after-create-node-constraints .create-node-constraints .kept .1 .1 .1 .1 .1 .1 .1 .1 .1 .1 .1 .1 .0, after-create-aggregated-node-constraints .create-aggregated-node-constraints .kept .1 .1 .1 .1 .1 .1 .1 .1 .1 .0, start .pre .3 .numbers-room);
+      },
+      aggregates-holding (start .args .sentinel) (networkOf (start .args .s .now) (start .args .c)) _ _ _ _ _ g _ (after-a .a .given .1),
+    )
 
 same-length : tie.Need-same-length
 same-length c =
@@ -85,13 +107,15 @@ same-length-3 : tie.Need-same-length-3
 same-length-3 c =
     let after-create-aggregated-node-constraints = to-create-aggregated-node-constraints (c .before .before) in
     let after-create-node-constraints = to-create-node-constraints (to-slice-known4 after-create-aggregated-node-constraints) in
-    after-create-aggregated-node-constraints .create-aggregated-node-constraints .kept .1 .1 .1 .1 .1 .1 .1 .1 .0 ∙ after-create-node-constraints .create-node-constraints .kept .1 .1 .1 .1 .1 .1 .1 .1 .1 .1 .1 .0
+    after-create-aggregated-node-constraints .create-aggregated-node-constraints .kept .1 .1 .1 .1 .1 .1 .1 .1 .0
+    ∙ after-create-node-constraints .create-node-constraints .kept .1 .1 .1 .1 .1 .1 .1 .1 .1 .1 .1 .0
 
 same-length-4 : tie.Need-same-length-4
 same-length-4 c =
     let after-create-aggregated-node-constraints = to-create-aggregated-node-constraints (c .before .before) in
     let after-create-node-constraints = to-create-node-constraints (to-slice-known4 after-create-aggregated-node-constraints) in
-    after-create-aggregated-node-constraints .create-aggregated-node-constraints .kept .1 .1 .1 .1 .1 .1 .1 .1 .1 .0 ∙ after-create-node-constraints .create-node-constraints .kept .1 .1 .1 .1 .1 .1 .1 .1 .1 .1 .1 .1 .0
+    after-create-aggregated-node-constraints .create-aggregated-node-constraints .kept .1 .1 .1 .1 .1 .1 .1 .1 .1 .0
+    ∙ after-create-node-constraints .create-node-constraints .kept .1 .1 .1 .1 .1 .1 .1 .1 .1 .1 .1 .1 .0
 
 returns-2 : tie.Need-returns-2
 returns-2 c =
@@ -100,21 +124,27 @@ returns-2 c =
     let after-create-node-constraints = to-create-node-constraints (after-n .before .before) in
     let start = to-start after-create-node-constraints in
     let h = after-create-node-constraints .create-node-constraints .ensures .done _ (after-n .n .given .1) in
-    full-only _ _ _ _ (aggregates-full (start .args .sentinel) (networkOf (start .args .s .now) (start .args .c)) (after-create-aggregated-node-constraints .create-aggregated-node-constraints .ensures (rows₁ (start .args .sentinel) (networkOf (start .args .s .now) (start .args .c))) (h .held) .full (c .enum-told2 .given .1)))
+    full-only _ _ _ _ (aggregates-full (start .args .sentinel) (networkOf (start .args .s .now) (start .args .c))
+    (after-create-aggregated-node-constraints .create-aggregated-node-constraints .ensures
+    (rows₁ (start .args .sentinel) (networkOf (start .args .s .now) (start .args .c))) (h .held) .full (c .enum-told2 .given .1)))
 
 same-length-5 : tie.Need-same-length-5
 same-length-5 c =
     let after-create-virtual-storage-constraints = to-create-virtual-storage-constraints (c .before .before) in
     let after-create-aggregated-node-constraints = to-create-aggregated-node-constraints (to-slice-known6 after-create-virtual-storage-constraints) in
     let after-create-node-constraints = to-create-node-constraints (to-slice-known4 after-create-aggregated-node-constraints) in
-    after-create-virtual-storage-constraints .create-virtual-storage-constraints .kept .1 .1 .1 .1 .1 .1 .1 .1 .0 ∙ after-create-aggregated-node-constraints .create-aggregated-node-constraints .kept .1 .1 .1 .1 .1 .1 .1 .1 .0 ∙ after-create-node-constraints .create-node-constraints .kept .1 .1 .1 .1 .1 .1 .1 .1 .1 .1 .1 .0
+    after-create-virtual-storage-constraints .create-virtual-storage-constraints .kept .1 .1 .1 .1 .1 .1 .1 .1 .0
+    ∙ after-create-aggregated-node-constraints .create-aggregated-node-constraints .kept .1 .1 .1 .1 .1 .1 .1 .1 .0
+    ∙ after-create-node-constraints .create-node-constraints .kept .1 .1 .1 .1 .1 .1 .1 .1 .1 .1 .1 .0
 
 same-length-6 : tie.Need-same-length-6
 same-length-6 c =
     let after-create-virtual-storage-constraints = to-create-virtual-storage-constraints (c .before .before) in
     let after-create-aggregated-node-constraints = to-create-aggregated-node-constraints (to-slice-known6 after-create-virtual-storage-constraints) in
     let after-create-node-constraints = to-create-node-constraints (to-slice-known4 after-create-aggregated-node-constraints) in
-    after-create-virtual-storage-constraints .create-virtual-storage-constraints .kept .1 .1 .1 .1 .1 .1 .1 .1 .1 .0 ∙ after-create-aggregated-node-constraints .create-aggregated-node-constraints .kept .1 .1 .1 .1 .1 .1 .1 .1 .1 .0 ∙ after-create-node-constraints .create-node-constraints .kept .1 .1 .1 .1 .1 .1 .1 .1 .1 .1 .1 .1 .0
+    after-create-virtual-storage-constraints .create-virtual-storage-constraints .kept .1 .1 .1 .1 .1 .1 .1 .1 .1 .0
+    ∙ after-create-aggregated-node-constraints .create-aggregated-node-constraints .kept .1 .1 .1 .1 .1 .1 .1 .1 .1 .0
+    ∙ after-create-node-constraints .create-node-constraints .kept .1 .1 .1 .1 .1 .1 .1 .1 .1 .1 .1 .1 .0
 
 returns-3 : tie.Need-returns-3
 returns-3 c =
@@ -126,21 +156,27 @@ returns-3 c =
     let start = to-start after-create-node-constraints in
     let h = after-create-node-constraints .create-node-constraints .ensures .done _ (after-n .n .given .1) in
     let g = after-create-aggregated-node-constraints .create-aggregated-node-constraints .ensures (rows₁ (start .args .sentinel) (networkOf (start .args .s .now) (start .args .c))) (h .held) in
-    full-only _ _ _ _ (virtual-storages-full (start .args .sentinel) (networkOf (start .args .s .now) (start .args .c)) (after-create-virtual-storage-constraints .create-virtual-storage-constraints .ensures (rows₂ (start .args .sentinel) (networkOf (start .args .s .now) (start .args .c))) (g .held _ (after-a .a .given .1)) .full (c .enum-told3 .given .1)))
+    full-only _ _ _ _ (virtual-storages-full (start .args .sentinel) (networkOf (start .args .s .now) (start .args .c))
+    (after-create-virtual-storage-constraints .create-virtual-storage-constraints .ensures
+    (rows₂ (start .args .sentinel) (networkOf (start .args .s .now) (start .args .c))) (g .held _ (after-a .a .given .1)) .full (c .enum-told3 .given .1)))
 
 same-length-7 : tie.Need-same-length-7
 same-length-7 c =
     let after-create-virtual-storage-constraints = to-create-virtual-storage-constraints (c .before .before .before) in
     let after-create-aggregated-node-constraints = to-create-aggregated-node-constraints (to-slice-known6 after-create-virtual-storage-constraints) in
     let after-create-node-constraints = to-create-node-constraints (to-slice-known4 after-create-aggregated-node-constraints) in
-    after-create-virtual-storage-constraints .create-virtual-storage-constraints .kept .1 .1 .1 .1 .1 .1 .1 .1 .0 ∙ after-create-aggregated-node-constraints .create-aggregated-node-constraints .kept .1 .1 .1 .1 .1 .1 .1 .1 .0 ∙ after-create-node-constraints .create-node-constraints .kept .1 .1 .1 .1 .1 .1 .1 .1 .1 .1 .1 .0
+    after-create-virtual-storage-constraints .create-virtual-storage-constraints .kept .1 .1 .1 .1 .1 .1 .1 .1 .0
+    ∙ after-create-aggregated-node-constraints .create-aggregated-node-constraints .kept .1 .1 .1 .1 .1 .1 .1 .1 .0
+    ∙ after-create-node-constraints .create-node-constraints .kept .1 .1 .1 .1 .1 .1 .1 .1 .1 .1 .1 .0
 
 same-length-8 : tie.Need-same-length-8
 same-length-8 c =
     let after-create-virtual-storage-constraints = to-create-virtual-storage-constraints (c .before .before .before) in
     let after-create-aggregated-node-constraints = to-create-aggregated-node-constraints (to-slice-known6 after-create-virtual-storage-constraints) in
     let after-create-node-constraints = to-create-node-constraints (to-slice-known4 after-create-aggregated-node-constraints) in
-    after-create-virtual-storage-constraints .create-virtual-storage-constraints .kept .1 .1 .1 .1 .1 .1 .1 .1 .1 .0 ∙ after-create-aggregated-node-constraints .create-aggregated-node-constraints .kept .1 .1 .1 .1 .1 .1 .1 .1 .1 .0 ∙ after-create-node-constraints .create-node-constraints .kept .1 .1 .1 .1 .1 .1 .1 .1 .1 .1 .1 .1 .0
+    after-create-virtual-storage-constraints .create-virtual-storage-constraints .kept .1 .1 .1 .1 .1 .1 .1 .1 .1 .0
+    ∙ after-create-aggregated-node-constraints .create-aggregated-node-constraints .kept .1 .1 .1 .1 .1 .1 .1 .1 .1 .0
+    ∙ after-create-node-constraints .create-node-constraints .kept .1 .1 .1 .1 .1 .1 .1 .1 .1 .1 .1 .1 .0
 
 returns-4 : tie.Need-returns-4
 returns-4 c =
@@ -154,8 +190,25 @@ returns-4 c =
     let c₀ = start .args .c in
     let h = after-create-node-constraints .create-node-constraints .ensures .done _ (after-n .n .given .1) in
     let g = after-create-aggregated-node-constraints .create-aggregated-node-constraints .ensures (rows₁ (start .args .sentinel) (networkOf (start .args .s .now) (start .args .c))) (h .held) in
-    let v = after-create-virtual-storage-constraints .create-virtual-storage-constraints .ensures (rows₂ (start .args .sentinel) (networkOf (start .args .s .now) (start .args .c))) (g .held _ (after-a .a .given .1)) in
-    all-laid (start .args .sentinel) (networkOf (start .args .s .now) (start .args .c)) (c₀ .aggregates) (c₀ .«virtual_storages») (sym (aggregate-count _ (c₀ .nodes) (c₀ .edges) (c₀ .aggregates) (c₀ .«virtual_storages»))) (sym (virtual-storage-count _ (c₀ .nodes) (c₀ .edges) (c₀ .aggregates) (c₀ .«virtual_storages»))) _ _ _ _ _ _ _ _ _ _ _ (omega (arith, h .counted, asks-few _ _ _ _ _ _ _ _ _ (start .pre .0) (start .pre .1))) (omega (arith, after-create-node-constraints .create-node-constraints .kept .1 .1 .1 .1 .1 .1 .1 .1 .1 .1 .1 .0, start .pre .3 .words-room)) (omega (arith, after-create-node-constraints .create-node-constraints .kept .1 .1 .1 .1 .1 .1 .1 .1 .1 .1 .1 .0, after-create-aggregated-node-constraints .create-aggregated-node-constraints .kept .1 .1 .1 .1 .1 .1 .1 .1 .0, start .pre .3 .words-room)) (omega (arith, after-create-node-constraints .create-node-constraints .kept .1 .1 .1 .1 .1 .1 .1 .1 .1 .1 .1 .0, after-create-aggregated-node-constraints .create-aggregated-node-constraints .kept .1 .1 .1 .1 .1 .1 .1 .1 .0, after-create-virtual-storage-constraints .create-virtual-storage-constraints .kept .1 .1 .1 .1 .1 .1 .1 .1 .0, start .pre .3 .words-room)) (start .pre .0 .sections .few-aggregates) h g (after-a .a .given .1) v (after-v .v .given .1)
+    let v = after-create-virtual-storage-constraints .create-virtual-storage-constraints .ensures
+    (rows₂ (start .args .sentinel) (networkOf (start .args .s .now) (start .args .c))) (g .held _ (after-a .a .given .1)) in
+    all-laid (start .args .sentinel) (networkOf (start .args .s .now) (start .args .c)) (c₀ .aggregates) (c₀ .«virtual_storages»)
+    (sym (aggregate-count _ (c₀ .nodes) (c₀ .edges) (c₀ .aggregates) (c₀ .«virtual_storages»)))
+    (sym (virtual-storage-count _ (c₀ .nodes) (c₀ .edges) (c₀ .aggregates) (c₀ .«virtual_storages»))) _ _ _ _ _ _ _ _ _ _ _
+    (omega (arith, h .counted, asks-few _ _ _ _ _ _ _ _ _ (start .pre .0) (start .pre .1)))
+    (omega (arith, after-create-node-constraints .create-node-constraints .kept .1 .1 .1 .1 .1 .1 .1 .1 .1 .1 .1 .0, start .pre .3 .words-room))
+    (omega (
+      arith,
+      after-create-node-constraints .create-node-constraints .kept .1 .1 .1 .1 .1 .1 .1 .1 .1 .1 .1 .0,
+      after-create-aggregated-node-constraints .create-aggregated-node-constraints .kept .1 .1 .1 .1 .1 .1 .1 .1 .0,
+      start .pre .3 .words-room,
+    )) (omega (
+      arith,
+      after-create-node-constraints .create-node-constraints .kept .1 .1 .1 .1 .1 .1 .1 .1 .1 .1 .1 .0,
+      after-create-aggregated-node-constraints .create-aggregated-node-constraints .kept .1 .1 .1 .1 .1 .1 .1 .1 .0,
+      after-create-virtual-storage-constraints .create-virtual-storage-constraints .kept .1 .1 .1 .1 .1 .1 .1 .1 .0,
+      start .pre .3 .words-room,
+    )) (start .pre .0 .sections .few-aggregates) h g (after-a .a .given .1) v (after-v .v .given .1)
 
 pub add-varying-rows-spec : {M : Type 1} → statement M
 add-varying-rows-spec =

@@ -147,7 +147,18 @@ write-matrix-requires c κs =
     let after-a = to-a (to-write-columns (to-write-rows c .before) .before) in
     let made = to-assembled after-a in
     let h = roomy (to-room made) in
-    let laid = made .assemble .ensures .made _ (after-a .a .given .1) .laid in (laid .few, row-starts _ _ _ _ _ laid, record { words-room = omega (arith, made .assemble .kept .1 .1 .0, h .work .words-room); numbers-room = omega (arith, made .assemble .kept .1 .1 .1 .0, h .work .numbers-room) }, h .store .elements, h .store .columns, h .store .rowStarts)
+    let laid = made .assemble .ensures .made _ (after-a .a .given .1) .laid in (
+      laid .few,
+      row-starts _ _ _ _ _ laid,
+      record {
+        words-room = omega (arith, made .assemble .kept .1 .1 .0, h .work .words-room);
+        numbers-room = omega
+            (arith, made .assemble .kept .1 .1 .1 .0, h .work .numbers-room);
+      },
+      h .store .elements,
+      h .store .columns,
+      h .store .rowStarts,
+    )
 
 write-shape-requires : tie.Need-write-shape-requires
 write-shape-requires c κs =

@@ -109,7 +109,8 @@ returns-2 c =
     let judge = judged (told .before .before) in
     let s = start (judge .before .before .before) in
     rw (refused .refuse .ensures .0)
-    (refuse (s .args .file .now) (lent s) (s .args .work .now) (enough-room (judge .before .before)) (judge .judge .result) _ (judge .judge .ensures (lent s) refl refl refl) _ (refused .refuse .ensures .1) (judge .judge .kept .1 .1 .1 .1 .0) (told .answer .given .1))
+    (refuse (s .args .file .now) (lent s) (s .args .work .now) (enough-room (judge .before .before)) (judge .judge .result) _
+    (judge .judge .ensures (lent s) refl refl refl) _ (refused .refuse .ensures .1) (judge .judge .kept .1 .1 .1 .1 .0) (told .answer .given .1))
 
 same-length-2 : tie.Need-same-length-2
 same-length-2 c = search needs
@@ -134,7 +135,8 @@ returns-3 c =
     let s = start (judge .before .before .before) in
     let j = judge .judge .ensures (lent s) refl refl refl in
     let yes = told .enum-told .given .1 in
-    finish (s .args .file .now) (lent s) (s .args .work .now) (enough-room (judge .before .before)) (judge .judge .result) _ j _ (c .before .before .zero-f64 .ensures) (judge .judge .kept .1 .1 .1 .1 .0) yes
+    finish (s .args .file .now) (lent s) (s .args .work .now) (enough-room (judge .before .before)) (judge .judge .result) _ j _
+    (c .before .before .zero-f64 .ensures) (judge .judge .kept .1 .1 .1 .1 .0) yes
     (call .ensures .0 (lent s) _ _ refl)
     (call .ensures .1 (lent s) _ (record { row-lower = refl; row-upper = refl; elements-are = refl; columns-are = refl; row-starts = refl; shape-is = refl }) (j .ready yes .held))
 

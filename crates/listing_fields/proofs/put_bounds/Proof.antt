@@ -17,7 +17,11 @@ unfolding boundsFields
 returns c =
     let after-put-double2 = c .before .before in
     let after-put-double = to-put-double after-put-double2 in
-    record { put = put-then (after-put-double .put-double .ensures .put) (after-put-double2 .put-double2 .ensures .put); end = omega (arith, after-put-double .put-double .ensures .end, after-put-double2 .put-double2 .ensures .end) }
+    record {
+      put = put-then (after-put-double .put-double .ensures .put) (after-put-double2 .put-double2 .ensures .put);
+      end = omega
+          (arith, after-put-double .put-double .ensures .end, after-put-double2 .put-double2 .ensures .end);
+    }
 
 pub put-bounds-spec : {M : Type 1} → statement M
 put-bounds-spec =

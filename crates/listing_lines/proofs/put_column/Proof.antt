@@ -21,8 +21,17 @@ returns c =
     let after-put-head = after-out .before in
     let e = after-kind-letter .kind-letter .ensures in
     record {
-      put = rw (← e) (put-then (after-put-head .put-head .ensures .put) (put-then (after-put-letter .put-letter .ensures .put) (put-then (after-put-bounds .put-bounds .ensures .put) (put-then (after-put-double .put-double .ensures .put) (after-put .put .ensures)))));
-      end = omega (arith, after-put-head .put-head .ensures .end, after-put-letter .put-letter .ensures .end, after-put-bounds .put-bounds .ensures .end, after-put-double .put-double .ensures .end, after-put .put .ensures .next);
+      put = rw (← e) (put-then (after-put-head .put-head .ensures .put)
+          (put-then (after-put-letter .put-letter .ensures .put)
+          (put-then (after-put-bounds .put-bounds .ensures .put) (put-then (after-put-double .put-double .ensures .put) (after-put .put .ensures)))));
+      end = omega (
+        arith,
+        after-put-head .put-head .ensures .end,
+        after-put-letter .put-letter .ensures .end,
+        after-put-bounds .put-bounds .ensures .end,
+        after-put-double .put-double .ensures .end,
+        after-put .put .ensures .next,
+      );
     }
 
 pub put-column-spec : {M : Type 1} → statement M

@@ -36,8 +36,17 @@ returns c =
     let after-put-number = to-put-number after-put-number2 in
     let after-put-head = to-put-head after-put-number in
     record {
-      put = put-then (after-put-head .put-head .ensures .put) (put-then (after-put-number .put-number .ensures .put) (put-then (after-put-number2 .put-number2 .ensures .put) (put-then (after-put-number3 .put-number3 .ensures .put) (after-put .put .ensures))));
-      end = omega (arith, after-put-head .put-head .ensures .end, after-put-number .put-number .ensures .end, after-put-number2 .put-number2 .ensures .end, after-put-number3 .put-number3 .ensures .end, after-put .put .ensures .next);
+      put = put-then (after-put-head .put-head .ensures .put)
+          (put-then (after-put-number .put-number .ensures .put)
+          (put-then (after-put-number2 .put-number2 .ensures .put) (put-then (after-put-number3 .put-number3 .ensures .put) (after-put .put .ensures))));
+      end = omega (
+        arith,
+        after-put-head .put-head .ensures .end,
+        after-put-number .put-number .ensures .end,
+        after-put-number2 .put-number2 .ensures .end,
+        after-put-number3 .put-number3 .ensures .end,
+        after-put .put .ensures .next,
+      );
     }
 
 pub put-programme-spec : {M : Type 1} → statement M

@@ -21,8 +21,17 @@ returns c =
     let after-put-head = after-out .before in
     let e = after-varying-flag .varying-flag .ensures in
     record {
-      put = rw (← e) (put-then (after-put-head .put-head .ensures .put) (put-then (after-put-number .put-number .ensures .put) (put-then (after-put-bounds .put-bounds .ensures .put) (put-then (after-put-number2 .put-number2 .ensures .put) (after-put .put .ensures)))));
-      end = omega (arith, after-put-head .put-head .ensures .end, after-put-number .put-number .ensures .end, after-put-bounds .put-bounds .ensures .end, after-put-number2 .put-number2 .ensures .end, after-put .put .ensures .next);
+      put = rw (← e) (put-then (after-put-head .put-head .ensures .put)
+          (put-then (after-put-number .put-number .ensures .put)
+          (put-then (after-put-bounds .put-bounds .ensures .put) (put-then (after-put-number2 .put-number2 .ensures .put) (after-put .put .ensures)))));
+      end = omega (
+        arith,
+        after-put-head .put-head .ensures .end,
+        after-put-number .put-number .ensures .end,
+        after-put-bounds .put-bounds .ensures .end,
+        after-put-number2 .put-number2 .ensures .end,
+        after-put .put .ensures .next,
+      );
     }
 
 pub put-row-spec : {M : Type 1} → statement M

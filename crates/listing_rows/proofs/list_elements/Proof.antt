@@ -11,7 +11,8 @@ use Rattle.listing_rows.proofs.list_elements.Tie as tie
 
 abbrev Inv-loop : tie.InvT-loop
 Inv-loop out₀ from so-far columns elements first end at₀ written₀ bytes₀ i₀ out at written bytes i =
-    (at ≤ length out) × (length out ≡ length out₀) × (first ≤ i) × (i ≤ end) × (bytes ≤ 128 * (i - first)) × (bytes + bytesFrom columns elements i end ≡ bytesFrom columns elements first end) × (so-far ≡ false → written ≡ false)
+    (at ≤ length out) × (length out ≡ length out₀) × (first ≤ i) × (i ≤ end) × (bytes ≤ 128 * (i - first))
+    × (bytes + bytesFrom columns elements i end ≡ bytesFrom columns elements first end) × (so-far ≡ false → written ≡ false)
 
 abbrev μ-loop : tie.MeasureT-loop
 μ-loop out₀ from so-far columns elements first end at₀ written₀ bytes₀ i₀ out at written bytes i = end - i

@@ -49,7 +49,8 @@ returns c =
     let row = after-put-stored-row .put-stored-row in
     let listed = after-list-elements .list-elements in (
       λ s el eu ex ec es eh.
-          let e = row-bytes s (a .elements .now) (a .columns .now) (a .row-starts .now) (a .row) (known .result) (last .result) (first .result) (known .ensures .0) (last .ensures .0) (first .ensures .0) ex ec es in
+          let e = row-bytes s (a .elements .now) (a .columns .now) (a .row-starts .now) (a .row) (known .result) (last .result) (first .result)
+          (known .ensures .0) (last .ensures .0) (first .ensures .0) ex ec es in
           omega (arith, row .ensures .0 s el eu eh .next, listed .ensures .0),
       omega (arith, listed .ensures .1),
       omega (arith, row .ensures .1, listed .ensures .2, last .ensures .2),

@@ -10,8 +10,18 @@ returns c =
     let after-word4 = after-word5 .before in
     let after-word3 = after-word4 .before in
     let after-word2 = after-word3 .before in
-    let after-word = after-word2 .before in
-    (λ s e. rw (e, ← (after-word .word .ensures .0), ← (after-word2 .word2 .ensures .0), ← (after-word3 .word3 .ensures .0), ← (after-word4 .word4 .ensures .0), ← (after-word5 .word5 .ensures .0)) (after-put-programme .put-programme .ensures .put), after-put-programme .put-programme .ensures .end)
+    let after-word = after-word2 .before in (
+      λ s e. rw (
+        e,
+        ← (after-word .word .ensures .0),
+        ← (after-word2 .word2 .ensures .0),
+        ← (after-word3 .word3 .ensures .0),
+        ←
+            (after-word4 .word4 .ensures .0),
+        ← (after-word5 .word5 .ensures .0),
+      ) (after-put-programme .put-programme .ensures .put),
+      after-put-programme .put-programme .ensures .end,
+    )
 
 pub put-counts-spec : {M : Type 1} → statement M
 put-counts-spec =

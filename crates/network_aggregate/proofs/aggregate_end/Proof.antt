@@ -50,7 +50,11 @@ set-end-requires c κs =
     let at-loop = c .before in
     let after-set-count = at-loop .before in
     let start = after-set-count .before .before in
-    omega (arith, set-inside (start .args .s .now) (start .args .at) (after-set-count .set-count .result) (at-loop .loop .i) (at-loop .loop .here) (start .pre) (at-loop .loop .inv) (c .loop-test .taken))
+    omega (
+      arith,
+      set-inside (start .args .s .now) (start .args .at) (after-set-count .set-count .result) (at-loop .loop .i) (at-loop .loop .here) (start .pre)
+          (at-loop .loop .inv) (c .loop-test .taken),
+    )
 
 loop-again : tie.Need-loop-again Inv-loop μ-loop
 loop-again c =

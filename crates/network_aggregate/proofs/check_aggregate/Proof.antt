@@ -32,8 +32,18 @@ returns-3 c =
     let after-c2 = after-active-field .before .before in
     let after-byte-field2 = after-c2 .before .before in
     let after-k2 = after-byte-field2 .before .before in
-    let after-byte-field = after-k2 .before .before in
-    (rw (← (after-byte-field .byte-field .ensures), after-k2 .k2 .given .1, ← (after-byte-field2 .byte-field2 .ensures), after-c2 .c2 .given .1, ← (after-active-field .active-field .ensures), after-l .l .given .1), tt)
+    let after-byte-field = after-k2 .before .before in (
+      rw (
+        ← (after-byte-field .byte-field .ensures),
+        after-k2 .k2 .given .1,
+        ← (after-byte-field2 .byte-field2 .ensures),
+        after-c2 .c2 .given .1,
+        ←
+            (after-active-field .active-field .ensures),
+        after-l .l .given .1,
+      ),
+      tt,
+    )
 
 returns-4 : tie.Need-returns-4
 unfolding checkAggregate
@@ -45,8 +55,20 @@ returns-4 c =
     let after-c2 = after-active-field .before .before in
     let after-byte-field2 = after-c2 .before .before in
     let after-k2 = after-byte-field2 .before .before in
-    let after-byte-field = after-k2 .before .before in
-    (rw (← (after-byte-field .byte-field .ensures), after-k2 .k2 .given .1, ← (after-byte-field2 .byte-field2 .ensures), after-c2 .c2 .given .1, ← (after-active-field .active-field .ensures), after-l2 .l2 .given .1, ← (after-active-field2 .active-field2 .ensures), after-m .m .given .1), tt)
+    let after-byte-field = after-k2 .before .before in (
+      rw (
+        ← (after-byte-field .byte-field .ensures),
+        after-k2 .k2 .given .1,
+        ← (after-byte-field2 .byte-field2 .ensures),
+        after-c2 .c2 .given .1,
+        ←
+            (after-active-field .active-field .ensures),
+        after-l2 .l2 .given .1,
+        ← (after-active-field2 .active-field2 .ensures),
+        after-m .m .given .1,
+      ),
+      tt,
+    )
 
 returns-5 : tie.Need-returns-5
 unfolding checkAggregate
@@ -58,7 +80,17 @@ returns-5 c =
     let after-byte-field2 = after-c2 .before .before in
     let after-k2 = after-byte-field2 .before .before in
     let after-byte-field = after-k2 .before .before in (
-      rw (← (after-byte-field .byte-field .ensures), after-k2 .k2 .given .1, ← (after-byte-field2 .byte-field2 .ensures), after-c2 .c2 .given .1, ← (after-active-field .active-field .ensures), after-l2 .l2 .given .1, ← (c .before .before .before .active-field2 .ensures), c .before .enum-told .given .1) (c .check-sets .ensures .0),
+      rw (
+        ← (after-byte-field .byte-field .ensures),
+        after-k2 .k2 .given .1,
+        ← (after-byte-field2 .byte-field2 .ensures),
+        after-c2 .c2 .given .1,
+        ←
+            (after-active-field .active-field .ensures),
+        after-l2 .l2 .given .1,
+        ← (c .before .before .before .active-field2 .ensures),
+        c .before .enum-told .given .1,
+      ) (c .check-sets .ensures .0),
       c .check-sets .ensures .1,
     )
 

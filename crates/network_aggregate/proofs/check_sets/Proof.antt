@@ -47,7 +47,8 @@ returns-2 c =
     let after-byte-field = after-f2 .before .before in
     let in-loop = after-byte-field .before in
     let at-loop = in-loop .before in (
-      sym (at-loop .loop .inv .1 ∙ each-refused _ _ _ _ _ _ (in-loop .loop-test .taken) (rw (← (after-byte-field .byte-field .ensures), after-f2 .f2 .given .1) (sym (c .before .before .before .check-members .ensures .0) ∙ c .before .r .given .1))),
+      sym (at-loop .loop .inv .1 ∙ each-refused _ _ _ _ _ _ (in-loop .loop-test .taken)
+          (rw (← (after-byte-field .byte-field .ensures), after-f2 .f2 .given .1) (sym (c .before .before .before .check-members .ensures .0) ∙ c .before .r .given .1))),
       tt,
     )
 
@@ -60,7 +61,8 @@ loop-again c =
     let in-loop = after-byte-field .before in
     let at-loop = in-loop .before in (
       (rw (c .before .r2 .given .1) at (c .before .before .before .check-members .ensures .1)),
-      at-loop .loop .inv .1 ∙ each-more _ _ _ _ _ (in-loop .loop-test .taken) (rw (← (after-byte-field .byte-field .ensures), after-f2 .f2 .given .1) (sym (c .before .before .before .check-members .ensures .0) ∙ c .before .r2 .given .1)),
+      at-loop .loop .inv .1 ∙ each-more _ _ _ _ _ (in-loop .loop-test .taken)
+          (rw (← (after-byte-field .byte-field .ensures), after-f2 .f2 .given .1) (sym (c .before .before .before .check-members .ensures .0) ∙ c .before .r2 .given .1)),
     )
 
 returns-3 : tie.Need-returns-3 Inv-loop μ-loop

@@ -64,7 +64,9 @@ returns-2 c =
     let then1 = after-narrow16 .before in
     let at-loop = then1 .before .before in
     let start = at-loop .before .before in
-    let bad = unbounded (networkOf (start .args .s .now) (start .args .c)) _ _ _ (start .pre .2 _ (then1 .if1 .taken)) (sym (rw (after-narrow16 .narrow16 .ensures) at (after-is-crossed .is-crossed .ensures)) ∙ else2 .if2 .left) (sym (rw (after-narrow16 .narrow16 .ensures) at (after-is-unbounded .is-unbounded .ensures)) ∙ c .if3 .taken) in
+    let bad = unbounded (networkOf (start .args .s .now) (start .args .c)) _ _ _ (start .pre .2 _ (then1 .if1 .taken))
+    (sym (rw (after-narrow16 .narrow16 .ensures) at (after-is-crossed .is-crossed .ensures)) ∙ else2 .if2 .left)
+    (sym (rw (after-narrow16 .narrow16 .ensures) at (after-is-unbounded .is-unbounded .ensures)) ∙ c .if3 .taken) in
     sym (at-loop .loop .inv .1 ∙ refused-here _ (start .args .s .now) _ _ _ (then1 .if1 .taken) bad)
 
 loop-again : tie.Need-loop-again Inv-loop μ-loop
@@ -76,7 +78,9 @@ loop-again c =
     let then1 = after-narrow16 .before in
     let at-loop = then1 .before .before in
     let start = at-loop .before .before in
-    let good = bounded (networkOf (start .args .s .now) (start .args .c)) _ _ _ (start .pre .2 _ (then1 .if1 .taken)) (sym (rw (after-narrow16 .narrow16 .ensures) at (after-is-crossed .is-crossed .ensures)) ∙ else2 .if2 .left) (sym (rw (after-narrow16 .narrow16 .ensures) at (after-is-unbounded .is-unbounded .ensures)) ∙ c .if3 .left) in
+    let good = bounded (networkOf (start .args .s .now) (start .args .c)) _ _ _ (start .pre .2 _ (then1 .if1 .taken))
+    (sym (rw (after-narrow16 .narrow16 .ensures) at (after-is-crossed .is-crossed .ensures)) ∙ else2 .if2 .left)
+    (sym (rw (after-narrow16 .narrow16 .ensures) at (after-is-unbounded .is-unbounded .ensures)) ∙ c .if3 .left) in
     (search needs, at-loop .loop .inv .1 ∙ refused-later _ (start .args .s .now) _ _ (then1 .if1 .taken) good)
 
 returns-3 : tie.Need-returns-3 Inv-loop μ-loop

@@ -43,7 +43,8 @@ returns c =
     let at-loop = then1 .before .before in
     let start = at-loop .before .before in
     sym (at-loop .loop .inv .1 ∙ refused-here _ (start .args .s .now) _ _ _ (then1 .if1 .taken)
-    (unconnected _ _ _ _ _ (start .pre .2 _ (then1 .if1 .taken)) (start .pre .3 _ (then1 .if1 .taken)) (sym (rw (after-is-unconnected .before .narrow16 .ensures) at (after-is-unconnected .is-unconnected .ensures)) ∙ c .if2 .taken)))
+    (unconnected _ _ _ _ _ (start .pre .2 _ (then1 .if1 .taken)) (start .pre .3 _ (then1 .if1 .taken))
+    (sym (rw (after-is-unconnected .before .narrow16 .ensures) at (after-is-unconnected .is-unconnected .ensures)) ∙ c .if2 .taken)))
 
 loop-again : tie.Need-loop-again Inv-loop μ-loop
 loop-again c =
@@ -53,7 +54,8 @@ loop-again c =
     let start = at-loop .before .before in (
       search needs,
       at-loop .loop .inv .1 ∙ refused-later _ (start .args .s .now) _ _ (then1 .if1 .taken)
-          (connected _ _ _ _ _ (start .pre .2 _ (then1 .if1 .taken)) (start .pre .3 _ (then1 .if1 .taken)) (sym (rw (after-is-unconnected .before .narrow16 .ensures) at (after-is-unconnected .is-unconnected .ensures)) ∙ c .if2 .left)),
+          (connected _ _ _ _ _ (start .pre .2 _ (then1 .if1 .taken)) (start .pre .3 _ (then1 .if1 .taken))
+          (sym (rw (after-is-unconnected .before .narrow16 .ensures) at (after-is-unconnected .is-unconnected .ensures)) ∙ c .if2 .left)),
     )
 
 returns-2 : tie.Need-returns-2 Inv-loop μ-loop

@@ -47,8 +47,11 @@ loop-again c =
     let after-member = c .before in
     let in-loop = after-member .before in
     let at-loop = in-loop .before in
-    let start = at-loop .before .before .before in
-    (search needs, at-loop .loop .inv .1 ∙ mark-member (start .args .s .now) (start .args .at) _ _ (at-loop .loop .marks) _ (in-loop .loop-test .taken) (c .wide16 .ensures .0 ∙ after-member .member .ensures))
+    let start = at-loop .before .before .before in (
+      search needs,
+      at-loop .loop .inv .1 ∙ mark-member (start .args .s .now) (start .args .at) _ _ (at-loop .loop .marks) _ (in-loop .loop-test .taken)
+          (c .wide16 .ensures .0 ∙ after-member .member .ensures),
+    )
 
 returns : tie.Need-returns Inv-loop μ-loop
 unfolding markAll

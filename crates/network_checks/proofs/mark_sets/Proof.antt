@@ -63,7 +63,8 @@ unfolding markSets
 returns c =
     let after-shared-slice-known = c .before .before .before in
     let start = after-shared-slice-known .before in (
-      c .before .loop .inv .1 ∙ ap (λ (k : ℕ). recordsEnd (setEnd (start .args .s .now)) k (start .args .at + 12)) (let q : c .before .loop .i ≡ c .before .before .set-count .result = omega arith in q ∙ c .before .before .set-count .ensures .0),
+      c .before .loop .inv .1 ∙ ap (λ (k : ℕ). recordsEnd (setEnd (start .args .s .now)) k (start .args .at + 12))
+          (let q : c .before .loop .i ≡ c .before .before .set-count .result = omega arith in q ∙ c .before .before .set-count .ensures .0),
       sym (c .before .loop .inv .2 ∙ rw (records-over (setEnd (start .args .s .now)) _ _ _ (c .loop-test .left) (setAt (start .args .s .now)))),
     )
 

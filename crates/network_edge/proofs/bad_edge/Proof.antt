@@ -31,7 +31,15 @@ returns-4 c =
     let else2 = c .before .before in
     let else1 = else2 .before .before in
     let after-wide162 = else1 .before .before in
-    rw (← (after-wide162 .before .wide16 .ensures .0), ← (after-wide162 .wide162 .ensures .0), ne-eqb _ _ (else1 .if1 .left), ne-eqb _ _ (else2 .if2 .left), ne-eqb _ _ (c .before .if3 .left), after-wide162 .before .wide16 .ensures .0, after-wide162 .wide162 .ensures .0) (c .pair-among .ensures)
+    rw (
+      ← (after-wide162 .before .wide16 .ensures .0),
+      ← (after-wide162 .wide162 .ensures .0),
+      ne-eqb _ _ (else1 .if1 .left),
+      ne-eqb _ _ (else2 .if2 .left),
+      ne-eqb _ _ (c .before .if3 .left),
+      after-wide162 .before .wide16 .ensures .0,
+      after-wide162 .wide162 .ensures .0,
+    ) (c .pair-among .ensures)
 
 pub bad-edge-spec : {M : Type 1} → statement M
 bad-edge-spec =

@@ -37,8 +37,20 @@ returns c =
     let after-t2 = after-narrow16 .before .before in
     let after-node-field2 = after-t2 .before .before in
     let after-f2 = after-node-field2 .before .before in
-    let after-node-field = after-f2 .before .before in
-    (rw (← (after-node-field .node-field .ensures), after-f2 .f2 .given .1, ← (after-node-field2 .node-field2 .ensures), after-t2 .t2 .given .1, ← (after-narrow16 .narrow16 .ensures), ← (after-narrow162 .narrow162 .ensures), ← (c .before .bad-edge .ensures), c .if1 .taken), tt)
+    let after-node-field = after-f2 .before .before in (
+      rw (
+        ← (after-node-field .node-field .ensures),
+        after-f2 .f2 .given .1,
+        ← (after-node-field2 .node-field2 .ensures),
+        after-t2 .t2 .given .1,
+        ←
+            (after-narrow16 .narrow16 .ensures),
+        ← (after-narrow162 .narrow162 .ensures),
+        ← (c .before .bad-edge .ensures),
+        c .if1 .taken,
+      ),
+      tt,
+    )
 
 returns-2 : tie.Need-returns-2
 unfolding checkEdge
@@ -61,8 +73,24 @@ returns-4 c =
     let after-t2 = after-narrow16 .before .before in
     let after-node-field2 = after-t2 .before .before in
     let after-f2 = after-node-field2 .before .before in
-    let after-node-field = after-f2 .before .before in
-    (rw (← (after-node-field .node-field .ensures), after-f2 .f2 .given .1, ← (after-node-field2 .node-field2 .ensures), after-t2 .t2 .given .1, ← (after-narrow16 .narrow16 .ensures), ← (after-narrow162 .narrow162 .ensures), ← (c .before .bad-edge .ensures), c .if1 .left), omega (arith, node-within _ _ _ _ _ (sym (after-node-field2 .node-field2 .ensures) ∙ after-t2 .t2 .given .1) .0))
+    let after-node-field = after-f2 .before .before in (
+      rw (
+        ← (after-node-field .node-field .ensures),
+        after-f2 .f2 .given .1,
+        ← (after-node-field2 .node-field2 .ensures),
+        after-t2 .t2 .given .1,
+        ←
+            (after-narrow16 .narrow16 .ensures),
+        ← (after-narrow162 .narrow162 .ensures),
+        ← (c .before .bad-edge .ensures),
+        c .if1 .left,
+      ),
+      omega (
+        arith,
+        node-within _ _
+            _ _ _ (sym (after-node-field2 .node-field2 .ensures) ∙ after-t2 .t2 .given .1) .0,
+      ),
+    )
 
 pub check-edge-spec : {M : Type 1} → statement M
 check-edge-spec =

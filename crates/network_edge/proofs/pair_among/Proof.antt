@@ -37,13 +37,19 @@ returns c =
     let after-wide16 = after-wide162 .before in
     let after-shared-slice-known = after-wide16 .before in
     let k = at-loop .loop .at + 2 in
-    let h : le16 (after-shared-slice-known .before .args .s .now) k < 65536 = omega (arith, after-shared-slice-known .shared-slice-known .given k, after-shared-slice-known .shared-slice-known .given (k + 1)) in
+    let h : le16 (after-shared-slice-known .before .args .s .now) k < 65536 = omega
+    (arith, after-shared-slice-known .shared-slice-known .given k, after-shared-slice-known .shared-slice-known .given (k + 1)) in
     rw (← (after-wide16 .wide16 .ensures .0), ← (after-wide162 .wide162 .ensures .0))
-    (sym (at-loop .loop .inv .2 ∙ pair-here _ _ _ _ _ _ (in-loop .loop-test .taken) h (after-wide16 .wide16 .ensures .1) (sym (after-wide32 .wide32 .ensures .0 ∙ after-u32-at .u32-at .ensures) ∙ c .if1 .taken)))
+    (sym (at-loop .loop .inv .2 ∙ pair-here _ _ _ _ _ _ (in-loop .loop-test .taken) h (after-wide16 .wide16 .ensures .1)
+    (sym (after-wide32 .wide32 .ensures .0 ∙ after-u32-at .u32-at .ensures) ∙ c .if1 .taken)))
 
 loop-again : tie.Need-loop-again Inv-loop μ-loop
-loop-again c =
-    (search needs, search needs, to-loop c .loop .inv .2 ∙ pair-next _ _ _ _ _ _ (c .before .before .before .loop-test .taken) (λ q. c .if1 .left (c .before .wide32 .ensures .0 ∙ c .before .before .u32-at .ensures ∙ q)))
+loop-again c = (
+  search needs,
+  search needs,
+  to-loop c .loop .inv .2
+      ∙ pair-next _ _ _ _ _ _ (c .before .before .before .loop-test .taken) (λ q. c .if1 .left (c .before .wide32 .ensures .0 ∙ c .before .before .u32-at .ensures ∙ q)),
+)
 
 returns-2 : tie.Need-returns-2 Inv-loop μ-loop
 returns-2 c =

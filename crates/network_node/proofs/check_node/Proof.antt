@@ -31,8 +31,19 @@ returns-3 c =
     let after-byte-field2 = after-c2 .before .before in
     let after-most-constant = after-byte-field2 .before in
     let after-k2 = after-most-constant .before .before in
-    let after-byte-field = after-k2 .before .before in
-    (rw (← (after-byte-field .byte-field .ensures), after-k2 .k2 .given .1, ← (after-most-constant .most-constant .ensures), ← (after-byte-field2 .byte-field2 .ensures), after-c2 .c2 .given .1, ← (after-check-bound .check-bound .ensures), after-lo .lo .given .1), tt)
+    let after-byte-field = after-k2 .before .before in (
+      rw (
+        ← (after-byte-field .byte-field .ensures),
+        after-k2 .k2 .given .1,
+        ← (after-most-constant .most-constant .ensures),
+        ←
+            (after-byte-field2 .byte-field2 .ensures),
+        after-c2 .c2 .given .1,
+        ← (after-check-bound .check-bound .ensures),
+        after-lo .lo .given .1,
+      ),
+      tt,
+    )
 
 returns-4 : tie.Need-returns-4
 unfolding checkNode
@@ -45,8 +56,22 @@ returns-4 c =
     let after-byte-field2 = after-c2 .before .before in
     let after-most-constant = after-byte-field2 .before in
     let after-k2 = after-most-constant .before .before in
-    let after-byte-field = after-k2 .before .before in
-    (rw (← (after-byte-field .byte-field .ensures), after-k2 .k2 .given .1, ← (after-most-constant .most-constant .ensures), ← (after-byte-field2 .byte-field2 .ensures), after-c2 .c2 .given .1, ← (after-check-bound .check-bound .ensures), after-enum-told .enum-told .given .1, ← (after-check-bound2 .check-bound2 .ensures), after-hi .hi .given .1), tt)
+    let after-byte-field = after-k2 .before .before in (
+      rw (
+        ← (after-byte-field .byte-field .ensures),
+        after-k2 .k2 .given .1,
+        ← (after-most-constant .most-constant .ensures),
+        ←
+            (after-byte-field2 .byte-field2 .ensures),
+        after-c2 .c2 .given .1,
+        ← (after-check-bound .check-bound .ensures),
+        after-enum-told .enum-told .given .1,
+        ←
+            (after-check-bound2 .check-bound2 .ensures),
+        after-hi .hi .given .1,
+      ),
+      tt,
+    )
 
 returns-5 : tie.Need-returns-5
 unfolding checkNode
@@ -58,7 +83,18 @@ returns-5 c =
     let after-most-constant = after-byte-field2 .before in
     let after-k2 = after-most-constant .before .before in
     let after-byte-field = after-k2 .before .before in (
-      rw (← (after-byte-field .byte-field .ensures), after-k2 .k2 .given .1, ← (after-most-constant .most-constant .ensures), ← (after-byte-field2 .byte-field2 .ensures), after-c2 .c2 .given .1, ← (after-check-bound .check-bound .ensures), c .before .before .before .enum-told .given .1, ← (c .before .before .check-bound2 .ensures), c .enum-told2 .given .1),
+      rw (
+        ← (after-byte-field .byte-field .ensures),
+        after-k2 .k2 .given .1,
+        ← (after-most-constant .most-constant .ensures),
+        ←
+            (after-byte-field2 .byte-field2 .ensures),
+        after-c2 .c2 .given .1,
+        ← (after-check-bound .check-bound .ensures),
+        c .before .before .before .enum-told .given .1,
+        ← (c .before .before .check-bound2 .ensures),
+        c .enum-told2 .given .1,
+      ),
       omega (arith, bound-within _ _ _ _ _ (sym (c .before .before .check-bound2 .ensures) ∙ c .enum-told2 .given .1) .0),
     )
 

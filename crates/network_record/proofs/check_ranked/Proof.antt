@@ -54,8 +54,17 @@ returns-7 : tie.Need-returns-7
 unfolding checkRanked
 returns-7 c =
     let else3 = c .before .before .before in
-    let else1 = else3 .before in
-    (rw (ne-eqb _ _ (else1 .if1 .left), ne-eqb _ _ (c .before .before .before .if3 .left), ne-eqb _ _ (c .before .before .if5 .left), eq-eqb _ _ (c .before .if7 .taken), le-ltb _ _ (c .if8 .taken)), tt)
+    let else1 = else3 .before in (
+      rw (
+        ne-eqb _ _ (else1 .if1 .left),
+        ne-eqb _ _ (c .before .before .before .if3 .left),
+        ne-eqb _ _ (c .before .before .if5 .left),
+        eq-eqb _ _
+            (c .before .if7 .taken),
+        le-ltb _ _ (c .if8 .taken),
+      ),
+      tt,
+    )
 
 returns-8 : tie.Need-returns-8
 unfolding checkRanked
@@ -63,7 +72,14 @@ returns-8 c =
     let else5 = c .before .before .before in
     let else3 = else5 .before in
     let else1 = else3 .before in (
-      rw (ne-eqb _ _ (else1 .if1 .left), ne-eqb _ _ (else3 .if3 .left), ne-eqb _ _ (c .before .before .before .if5 .left), eq-eqb _ _ (c .before .before .if7 .taken), lt-ltb _ _ (c .before .if8 .left)) (c .check-virtual-storage .ensures .0),
+      rw (
+        ne-eqb _ _ (else1 .if1 .left),
+        ne-eqb _ _ (else3 .if3 .left),
+        ne-eqb _ _ (c .before .before .before .if5 .left),
+        eq-eqb _ _
+            (c .before .before .if7 .taken),
+        lt-ltb _ _ (c .before .if8 .left),
+      ) (c .check-virtual-storage .ensures .0),
       c .check-virtual-storage .ensures .1,
     )
 

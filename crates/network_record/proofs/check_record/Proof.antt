@@ -78,13 +78,17 @@ returns-5 c =
     let after-mark-rank = else2 .before in
     let e = sym (after-check-ranked .check-ranked .ensures .0) ∙ after-r2 .r2 .given .1 in
     let h = ranked-aggregate _ _ _ _ _ _ _ _ e (c .if5 .taken) in (
-      sym (in-order _ _ _ _ _ _ _ _ _ (omega arith) (after-mark-rank .mark-rank .ensures) (else2 .if2 .left) e ∙ rw (ne-eqb _ _ (else3 .if3 .left), ne-eqb _ _ (else4 .if4 .left), eq-eqb _ _ (c .if5 .taken))),
+      sym (in-order _ _ _ _ _ _ _ _ _ (omega arith) (after-mark-rank .mark-rank .ensures) (else2 .if2 .left) e
+          ∙ rw (ne-eqb _ _ (else3 .if3 .left), ne-eqb _ _ (else4 .if4 .left), eq-eqb _ _ (c .if5 .taken))),
       (omega arith, h .0, h .1, (rw (after-r2 .r2 .given .1) at (after-check-ranked .check-ranked .ensures .1))),
     )
 
 returns-6 : tie.Need-returns-6
-returns-6 c =
-    (sym (in-order _ _ _ _ _ _ _ _ _ (omega arith) (to-mark-rank c .mark-rank .ensures) (to-else2 c .if2 .left) (sym (c .before .before .before .check-ranked .ensures .0) ∙ c .before .r .given .1)), tt)
+returns-6 c = (
+  sym (in-order _ _ _ _ _ _ _ _ _ (omega arith) (to-mark-rank c .mark-rank .ensures) (to-else2 c .if2 .left)
+      (sym (c .before .before .before .check-ranked .ensures .0) ∙ c .before .r .given .1)),
+  tt,
+)
 
 returns-7 : tie.Need-returns-7
 returns-7 c =
@@ -96,7 +100,8 @@ returns-7 c =
     let after-mark-rank = else2 .before in
     let e = sym (after-check-ranked .check-ranked .ensures .0) ∙ after-r2 .r2 .given .1 in
     let h = ranked-last _ _ _ _ _ _ _ _ e (else3 .if3 .left) (else4 .if4 .left) (c .if5 .left) in (
-      sym (in-order _ _ _ _ _ _ _ _ _ (omega arith) (after-mark-rank .mark-rank .ensures) (else2 .if2 .left) e ∙ rw (ne-eqb _ _ (else3 .if3 .left), ne-eqb _ _ (else4 .if4 .left), ne-eqb _ _ (c .if5 .left))),
+      sym (in-order _ _ _ _ _ _ _ _ _ (omega arith) (after-mark-rank .mark-rank .ensures) (else2 .if2 .left) e
+          ∙ rw (ne-eqb _ _ (else3 .if3 .left), ne-eqb _ _ (else4 .if4 .left), ne-eqb _ _ (c .if5 .left))),
       (omega (arith, h .0), h .1, h .2, (rw (after-r2 .r2 .given .1) at (after-check-ranked .check-ranked .ensures .1))),
     )
 

@@ -22,7 +22,16 @@ returns-2 c =
     let after-most-date2 = after-byte-field .before in
     let after-most-date = after-most-date2 .before in
     let after-least-date = after-most-date .before in
-    rw (← (after-least-date .least-date .ensures), ← (after-most-date .most-date .ensures), ← (after-most-date2 .most-date2 .ensures), ← (after-byte-field .byte-field .ensures), after-enum-told .enum-told .given .1, ← (after-byte-field2 .byte-field2 .ensures), after-b .b .given .1)
+    rw (
+      ← (after-least-date .least-date .ensures),
+      ← (after-most-date .most-date .ensures),
+      ← (after-most-date2 .most-date2 .ensures),
+      ←
+          (after-byte-field .byte-field .ensures),
+      after-enum-told .enum-told .given .1,
+      ← (after-byte-field2 .byte-field2 .ensures),
+      after-b .b .given .1,
+    )
 
 returns-3 : tie.Need-returns-3
 unfolding checkDates
@@ -36,7 +45,18 @@ returns-3 c =
     let after-most-date2 = after-byte-field .before in
     let after-most-date = after-most-date2 .before in
     let after-least-date = after-most-date .before in
-    rw (← (after-least-date .least-date .ensures), ← (after-most-date .most-date .ensures), ← (after-most-date2 .most-date2 .ensures), ← (after-byte-field .byte-field .ensures), after-enum-told .enum-told .given .1, ← (after-byte-field2 .byte-field2 .ensures), after-enum-told2 .enum-told2 .given .1, ← (after-byte-field3 .byte-field3 .ensures), after-c .c .given .1)
+    rw (
+      ← (after-least-date .least-date .ensures),
+      ← (after-most-date .most-date .ensures),
+      ← (after-most-date2 .most-date2 .ensures),
+      ←
+          (after-byte-field .byte-field .ensures),
+      after-enum-told .enum-told .given .1,
+      ← (after-byte-field2 .byte-field2 .ensures),
+      after-enum-told2 .enum-told2 .given .1,
+      ← (after-byte-field3 .byte-field3 .ensures),
+      after-c .c .given .1,
+    )
 
 returns-4 : tie.Need-returns-4
 unfolding checkDates
@@ -52,7 +72,20 @@ returns-4 c =
     let after-most-date2 = after-byte-field .before in
     let after-most-date = after-most-date2 .before in
     let after-least-date = after-most-date .before in
-    rw (← (after-least-date .least-date .ensures), ← (after-most-date .most-date .ensures), ← (after-most-date2 .most-date2 .ensures), ← (after-byte-field .byte-field .ensures), after-enum-told .enum-told .given .1, ← (after-byte-field2 .byte-field2 .ensures), after-enum-told2 .enum-told2 .given .1, ← (after-byte-field3 .byte-field3 .ensures), after-enum-told3 .enum-told3 .given .1, ← (after-byte-field4 .byte-field4 .ensures), after-d .d .given .1)
+    rw (
+      ← (after-least-date .least-date .ensures),
+      ← (after-most-date .most-date .ensures),
+      ← (after-most-date2 .most-date2 .ensures),
+      ←
+          (after-byte-field .byte-field .ensures),
+      after-enum-told .enum-told .given .1,
+      ← (after-byte-field2 .byte-field2 .ensures),
+      after-enum-told2 .enum-told2 .given .1,
+      ← (after-byte-field3 .byte-field3 .ensures),
+      after-enum-told3 .enum-told3 .given .1,
+      ← (after-byte-field4 .byte-field4 .ensures),
+      after-d .d .given .1,
+    )
 
 returns-5 : tie.Need-returns-5
 unfolding checkDates
@@ -67,7 +100,20 @@ returns-5 c =
     let after-most-date2 = after-byte-field .before in
     let after-most-date = after-most-date2 .before in
     let after-least-date = after-most-date .before in
-    rw (← (after-least-date .least-date .ensures), ← (after-most-date .most-date .ensures), ← (after-most-date2 .most-date2 .ensures), ← (after-byte-field .byte-field .ensures), after-enum-told .enum-told .given .1, ← (after-byte-field2 .byte-field2 .ensures), after-enum-told2 .enum-told2 .given .1, ← (after-byte-field3 .byte-field3 .ensures), after-enum-told3 .enum-told3 .given .1, ← (after-byte-field4 .byte-field4 .ensures), c .enum-told4 .given .1)
+    rw (
+      ← (after-least-date .least-date .ensures),
+      ← (after-most-date .most-date .ensures),
+      ← (after-most-date2 .most-date2 .ensures),
+      ←
+          (after-byte-field .byte-field .ensures),
+      after-enum-told .enum-told .given .1,
+      ← (after-byte-field2 .byte-field2 .ensures),
+      after-enum-told2 .enum-told2 .given .1,
+      ← (after-byte-field3 .byte-field3 .ensures),
+      after-enum-told3 .enum-told3 .given .1,
+      ← (after-byte-field4 .byte-field4 .ensures),
+      c .enum-told4 .given .1,
+    )
 
 pub check-dates-spec : {M : Type 1} → statement M
 check-dates-spec =

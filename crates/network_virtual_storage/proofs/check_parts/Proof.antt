@@ -43,8 +43,11 @@ returns-2 c =
     let after-enum-told = after-check-factor .before in
     let after-node-field = after-enum-told .before .before in
     let in-loop = after-node-field .before in
-    let at-loop = in-loop .before in
-    (sym (at-loop .loop .inv .1 ∙ each-refused _ _ _ _ _ _ (in-loop .loop-test .taken) (rw (← (after-node-field .node-field .ensures), after-enum-told .enum-told .given .1, ← (after-check-factor .check-factor .ensures), after-r .r .given .1))), tt)
+    let at-loop = in-loop .before in (
+      sym (at-loop .loop .inv .1 ∙ each-refused _ _ _ _ _ _ (in-loop .loop-test .taken)
+          (rw (← (after-node-field .node-field .ensures), after-enum-told .enum-told .given .1, ← (after-check-factor .check-factor .ensures), after-r .r .given .1))),
+      tt,
+    )
 
 add-here : tie.Need-add-here Inv-loop μ-loop
 add-here c =
@@ -58,7 +61,8 @@ loop-again c =
     let in-loop = after-node-field .before in
     let at-loop = in-loop .before in (
       omega (arith, factor-within _ _ _ _ (sym (c .before .before .check-factor .ensures) ∙ c .enum-told2 .given .1) .0),
-      at-loop .loop .inv .1 ∙ each-more _ _ _ _ _ (in-loop .loop-test .taken) (rw (← (after-node-field .node-field .ensures), c .before .before .before .enum-told .given .1, ← (c .before .before .check-factor .ensures), c .enum-told2 .given .1)),
+      at-loop .loop .inv .1 ∙ each-more _ _ _ _ _ (in-loop .loop-test .taken)
+          (rw (← (after-node-field .node-field .ensures), c .before .before .before .enum-told .given .1, ← (c .before .before .check-factor .ensures), c .enum-told2 .given .1)),
     )
 
 returns-3 : tie.Need-returns-3 Inv-loop μ-loop

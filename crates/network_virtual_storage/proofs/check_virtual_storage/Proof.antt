@@ -32,8 +32,18 @@ returns-3 c =
     let after-enum-told = after-byte-field2 .before in
     let after-check-dates = after-enum-told .before .before in
     let after-k2 = after-check-dates .before .before in
-    let after-byte-field = after-k2 .before .before in
-    (rw (← (after-byte-field .byte-field .ensures), after-k2 .k2 .given .1, ← (after-check-dates .check-dates .ensures), after-enum-told .enum-told .given .1, ← (after-byte-field2 .byte-field2 .ensures), after-c .c .given .1), tt)
+    let after-byte-field = after-k2 .before .before in (
+      rw (
+        ← (after-byte-field .byte-field .ensures),
+        after-k2 .k2 .given .1,
+        ← (after-check-dates .check-dates .ensures),
+        after-enum-told .enum-told .given .1,
+        ←
+            (after-byte-field2 .byte-field2 .ensures),
+        after-c .c .given .1,
+      ),
+      tt,
+    )
 
 returns-4 : tie.Need-returns-4
 unfolding checkVirtualStorage
@@ -43,8 +53,18 @@ returns-4 c =
     let after-enum-told = after-byte-field2 .before in
     let after-check-dates = after-enum-told .before .before in
     let after-k2 = after-check-dates .before .before in
-    let after-byte-field = after-k2 .before .before in
-    (rw (← (after-byte-field .byte-field .ensures), after-k2 .k2 .given .1, ← (after-check-dates .check-dates .ensures), after-enum-told .enum-told .given .1, ← (after-byte-field2 .byte-field2 .ensures), after-c2 .c2 .given .1) (c .check-parts .ensures .0), c .check-parts .ensures .1)
+    let after-byte-field = after-k2 .before .before in (
+      rw (
+        ← (after-byte-field .byte-field .ensures),
+        after-k2 .k2 .given .1,
+        ← (after-check-dates .check-dates .ensures),
+        after-enum-told .enum-told .given .1,
+        ←
+            (after-byte-field2 .byte-field2 .ensures),
+        after-c2 .c2 .given .1,
+      ) (c .check-parts .ensures .0),
+      c .check-parts .ensures .1,
+    )
 
 pub check-virtual-storage-spec : {M : Type 1} → statement M
 check-virtual-storage-spec =

@@ -47,8 +47,15 @@ find-intervals-requires c κs =
     let start = to-start after-well-shaped in
     let s = ofRuns (start .args .columns .now) (start .args .row-starts .now) (start .args .shape .now) in
     let ok = sym (after-well-shaped .well-shaped .ensures s refl refl refl) ∙ not-false (after-well-shaped .well-shaped .result) (else1 .if1 .left) in
-    let n = shaped s ok .counts in
-    (start .pre .2, start .pre .3, n .nodes, n .aggregates, n .virtualStorages, long s (start .args .file .now) (start .args .work .now) ok (sym (after-enum-told .enum-told .given .1) ∙ after-read-step .read-step .ensures s refl))
+    let n = shaped s ok .counts in (
+      start .pre .2,
+      start .pre .3,
+      n .nodes,
+      n .aggregates,
+      n .virtualStorages,
+      long s (start .args .file .now) (start .args .work .now) ok
+          (sym (after-enum-told .enum-told .given .1) ∙ after-read-step .read-step .ensures s refl),
+    )
 
 returns-2 : tie.Need-returns-2
 returns-2 c =

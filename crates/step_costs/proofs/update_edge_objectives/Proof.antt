@@ -48,7 +48,8 @@ loop-holds c =
     let after-shared-slice-known3 = after-wide2 .before .before .before in
     let after-shared-slice-known = after-shared-slice-known3 .before .before .before in
     let start = after-shared-slice-known .before in
-    added-none (start .args .file .now) (start .args .shape .now) (start .args .col-obj-coef .now) _ (omega arith) (after-fill-f64 .fill-f64 .ensures ∙ rw (after-wide2 .wide2 .ensures .0, after-wide3 .wide3 .ensures .0, zero-literal))
+    added-none (start .args .file .now) (start .args .shape .now) (start .args .col-obj-coef .now) _ (omega arith)
+    (after-fill-f64 .fill-f64 .ensures ∙ rw (after-wide2 .wide2 .ensures .0, after-wide3 .wide3 .ensures .0, zero-literal))
 
 edge-cost-requires : tie.Need-edge-cost-requires Inv-loop μ-loop
 edge-cost-requires c κs =

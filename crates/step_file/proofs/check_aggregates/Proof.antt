@@ -26,15 +26,20 @@ returns c =
     let in-loop = after-check-aggregate .before in
     let at-loop = in-loop .before in
     let start = at-loop .before .before in
-    sym (at-loop .loop .inv .2 ∙ records-refused (checkAggregate (start .args .file .now)) 18 _ _ _ _ _ (in-loop .loop-test .taken) (sym (after-check-aggregate .check-aggregate .ensures) ∙ c .before .aggregate .given .1))
+    sym (at-loop .loop .inv .2 ∙ records-refused (checkAggregate (start .args .file .now)) 18 _ _ _ _ _ (in-loop .loop-test .taken)
+    (sym (after-check-aggregate .check-aggregate .ensures) ∙ c .before .aggregate .given .1))
 
 loop-again : tie.Need-loop-again Inv-loop μ-loop
 loop-again c =
     let after-check-aggregate = c .before .before in
     let in-loop = after-check-aggregate .before in
     let at-loop = in-loop .before in
-    let start = at-loop .before .before in
-    (search needs, search needs, at-loop .loop .inv .2 ∙ records-more (checkAggregate (start .args .file .now)) 18 _ _ _ (in-loop .loop-test .taken) (sym (after-check-aggregate .check-aggregate .ensures) ∙ c .enum-told .given .1))
+    let start = at-loop .before .before in (
+      search needs,
+      search needs,
+      at-loop .loop .inv .2
+          ∙ records-more (checkAggregate (start .args .file .now)) 18 _ _ _ (in-loop .loop-test .taken) (sym (after-check-aggregate .check-aggregate .ensures) ∙ c .enum-told .given .1),
+    )
 
 returns-2 : tie.Need-returns-2 Inv-loop μ-loop
 returns-2 c =

@@ -63,7 +63,8 @@ returns-2 c =
     let after-wide = c .before .before in
     let after-shared-slice-known = after-wide .before .before .before in
     let start = after-shared-slice-known .before in
-    λ s e. rw (nodes-of s (start .args .shape .now) e, ← (after-wide .wide .ensures .0)) (sym (c .before .loop .inv .3 ∙ nodes-done _ (nodeEntry (ofShape (start .args .shape .now))) _ _ _ _ (c .loop-test .left)))
+    λ s e. rw (nodes-of s (start .args .shape .now) e, ← (after-wide .wide .ensures .0))
+    (sym (c .before .loop .inv .3 ∙ nodes-done _ (nodeEntry (ofShape (start .args .shape .now))) _ _ _ _ (c .loop-test .left)))
 
 pub check-nodes-spec : {M : Type 1} → statement M
 check-nodes-spec =

@@ -26,15 +26,21 @@ returns c =
     let in-loop = after-check-virtual-storage-step .before in
     let at-loop = in-loop .before in
     let start = at-loop .before .before in
-    sym (at-loop .loop .inv .2 ∙ records-refused (checkVirtualStorageStep (start .args .file .now)) 26 _ _ _ _ _ (in-loop .loop-test .taken) (sym (after-check-virtual-storage-step .check-virtual-storage-step .ensures) ∙ c .before .storage .given .1))
+    sym (at-loop .loop .inv .2 ∙ records-refused (checkVirtualStorageStep (start .args .file .now)) 26 _ _ _ _ _ (in-loop .loop-test .taken)
+    (sym (after-check-virtual-storage-step .check-virtual-storage-step .ensures) ∙ c .before .storage .given .1))
 
 loop-again : tie.Need-loop-again Inv-loop μ-loop
 loop-again c =
     let after-check-virtual-storage-step = c .before .before in
     let in-loop = after-check-virtual-storage-step .before in
     let at-loop = in-loop .before in
-    let start = at-loop .before .before in
-    (search needs, search needs, at-loop .loop .inv .2 ∙ records-more (checkVirtualStorageStep (start .args .file .now)) 26 _ _ _ (in-loop .loop-test .taken) (sym (after-check-virtual-storage-step .check-virtual-storage-step .ensures) ∙ c .enum-told .given .1))
+    let start = at-loop .before .before in (
+      search needs,
+      search needs,
+      at-loop .loop .inv .2
+          ∙ records-more (checkVirtualStorageStep (start .args .file .now)) 26 _ _ _ (in-loop .loop-test .taken)
+          (sym (after-check-virtual-storage-step .check-virtual-storage-step .ensures) ∙ c .enum-told .given .1),
+    )
 
 returns-2 : tie.Need-returns-2 Inv-loop μ-loop
 returns-2 c =

@@ -13,7 +13,12 @@ returns c =
     let after-wide3 = after-check-date .before in
     let after-wide2 = after-wide3 .before .before in
     let after-wide = after-wide2 .before .before in
-    λ s e. rw (step-answer s _ _ _ _ _ e (after-wide .wide .ensures .0) (after-wide2 .wide2 .ensures .0) (after-wide3 .wide3 .ensures .0), ← (after-check-date .check-date .ensures), c .before .date .given .1)
+    λ s e. rw (
+      step-answer s _ _ _ _ _ e (after-wide .wide .ensures .0) (after-wide2 .wide2 .ensures .0) (after-wide3 .wide3 .ensures .0),
+      ←
+          (after-check-date .check-date .ensures),
+      c .before .date .given .1,
+    )
 
 returns-2 : tie.Need-returns-2
 unfolding checkFile answerThen

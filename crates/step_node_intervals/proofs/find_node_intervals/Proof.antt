@@ -63,7 +63,8 @@ loop-again c =
     let start = to-start at-loop in
     let a = start .args in
     let is = after-node-interval .node-interval .ensures ∙ ap (nodeNumbered (a .sentinel) (a .days) (a .shape .now) (a .file .now)) (after-narrow16 .narrow16 .ensures) in
-    passed-more _ _ (in-loop .loop-test .taken) is (c .before .is-crossed .ensures) (at-loop .loop .inv) (at-loop .loop .i) (sym (zero-add (at-loop .loop .i))) (search needs) (search needs) (c .if1 .left)
+    passed-more _ _ (in-loop .loop-test .taken) is (c .before .is-crossed .ensures) (at-loop .loop .inv) (at-loop .loop .i) (sym (zero-add (at-loop .loop .i)))
+    (search needs) (search needs) (c .if1 .left)
 
 same-length-2 : tie.Need-same-length-2 Inv-loop μ-loop
 same-length-2 c =

@@ -39,7 +39,14 @@ returns-3 c =
     let after-f64-at = after-f64-at2 .before in
     let else1 = after-f64-at .before in
     let after-wide = else1 .before .before in
-    rw (← (after-wide .wide .ensures .0), ne-eqb _ _ (else1 .if1 .left), ne-eqb _ _ (c .before .if2 .left), ← (after-f64-at .f64-at .ensures), ← (after-f64-at2 .f64-at2 .ensures)) (c .interval-of2 .ensures)
+    rw (
+      ← (after-wide .wide .ensures .0),
+      ne-eqb _ _ (else1 .if1 .left),
+      ne-eqb _ _ (c .before .if2 .left),
+      ← (after-f64-at .f64-at .ensures),
+      ←
+          (after-f64-at2 .f64-at2 .ensures),
+    ) (c .interval-of2 .ensures)
 
 pub node-interval-spec : {M : Type 1} → statement M
 node-interval-spec =

@@ -46,7 +46,8 @@ loop-again c =
     let start = after-slice-known3 .before .before .before in
     let l = at-loop .loop in
     applied-more _ _ _ _ _ _ _ _ (l .inv) _ _ _ (in-loop .loop-test .taken)
-    (rw (l .inv .place) (start .pre .3 (l .i) (omega (arith, in-loop .loop-test .taken, after-wide .wide .ensures .0)) .node)) (after-update-node-row .update-node-row .kept .0) (after-update-node-row .update-node-row .kept .1 .0)
+    (rw (l .inv .place) (start .pre .3 (l .i) (omega (arith, in-loop .loop-test .taken, after-wide .wide .ensures .0)) .node))
+    (after-update-node-row .update-node-row .kept .0) (after-update-node-row .update-node-row .kept .1 .0)
     (after-update-node-row .update-node-row .kept .1 .1 .0) (after-update-node-row .update-node-row .ensures)
 
 same-length : tie.Need-same-length Inv-loop μ-loop

@@ -32,7 +32,14 @@ returns-3 c =
     let after-check-byte = after-enum-told2 .before .before in
     let after-enum-told = after-check-byte .before in
     let after-check-mark = after-enum-told .before .before in
-    rw (← (after-check-mark .check-mark .ensures), after-enum-told .enum-told .given .1, ← (after-check-byte .check-byte .ensures), after-enum-told2 .enum-told2 .given .1, ← (after-days-in .days-in .ensures), ← (c .before .check-byte2 .ensures))
+    rw (
+      ← (after-check-mark .check-mark .ensures),
+      after-enum-told .enum-told .given .1,
+      ← (after-check-byte .check-byte .ensures),
+      after-enum-told2 .enum-told2 .given .1,
+      ← (after-days-in .days-in .ensures),
+      ← (c .before .check-byte2 .ensures),
+    )
     (c .field-after .ensures)
 
 pub check-date-spec : {M : Type 1} → statement M

@@ -70,8 +70,10 @@ loop-again c =
     let at-loop = in-loop .before in
     let start = to-start at-loop in
     let h = entry-row (start .pre .0) _ _ (in-loop .loop-test .taken) (at-loop .loop .inv .place) in
-    applied-more _ _ _ _ _ _ _ _ (at-loop .loop .inv) _ _ _ _ (in-loop .loop-test .taken) (after-wide .wide .ensures .0) (after-held-interval .held-interval .ensures) (omega (arith, h, after-wide .wide .ensures .0))
-    (omega (arith, start .pre .0 .varying, start .pre .1)) (omega (arith, start .pre .0 .varying, start .pre .2)) (after-apply-row-bounds .apply-row-bounds .kept .0) (after-apply-row-bounds .apply-row-bounds .kept .1 .0)
+    applied-more _ _ _ _ _ _ _ _ (at-loop .loop .inv) _ _ _ _ (in-loop .loop-test .taken) (after-wide .wide .ensures .0)
+    (after-held-interval .held-interval .ensures) (omega (arith, h, after-wide .wide .ensures .0))
+    (omega (arith, start .pre .0 .varying, start .pre .1)) (omega (arith, start .pre .0 .varying, start .pre .2))
+    (after-apply-row-bounds .apply-row-bounds .kept .0) (after-apply-row-bounds .apply-row-bounds .kept .1 .0)
     (after-apply-row-bounds .apply-row-bounds .ensures)
 
 same-length : tie.Need-same-length Inv-loop μ-loop

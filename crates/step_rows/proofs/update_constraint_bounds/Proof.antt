@@ -112,8 +112,20 @@ apply-intervals-requires-2 c κs =
     let p = start .pre in
     let f = fits (start) in (
       rw (after-wide2 .wide2 .ensures .0) (f .virtualStorages),
-      omega (arith, after-apply-intervals .apply-intervals .kept .0, after-update-node-constraint-bounds .update-node-constraint-bounds .kept .0, after-reset-row-bounds .reset-row-bounds .kept .0, p .row-lower-long),
-      omega (arith, after-apply-intervals .apply-intervals .kept .1 .0, after-update-node-constraint-bounds .update-node-constraint-bounds .kept .1 .0, after-reset-row-bounds .reset-row-bounds .kept .1 .0, p .row-upper-long),
+      omega (
+        arith,
+        after-apply-intervals .apply-intervals .kept .0,
+        after-update-node-constraint-bounds .update-node-constraint-bounds .kept .0,
+        after-reset-row-bounds .reset-row-bounds .kept .0,
+        p .row-lower-long,
+      ),
+      omega (
+        arith,
+        after-apply-intervals .apply-intervals .kept .1 .0,
+        after-update-node-constraint-bounds .update-node-constraint-bounds .kept .1 .0,
+        after-reset-row-bounds .reset-row-bounds .kept .1 .0,
+        p .row-upper-long,
+      ),
       p .work-long,
       omega (arith, after-wide2 .wide2 .ensures .0, f .virtual-storages-few),
     )
@@ -124,7 +136,8 @@ same-length c =
     let after-apply-intervals = to-apply-intervals (after-apply-intervals2 .before .before .before) in
     let after-update-node-constraint-bounds = to-update-node-constraint-bounds (after-apply-intervals .before .before .before) in
     let after-reset-row-bounds = to-reset-row-bounds (after-update-node-constraint-bounds .before) in
-    after-apply-intervals2 .apply-intervals2 .kept .0 ∙ after-apply-intervals .apply-intervals .kept .0 ∙ after-update-node-constraint-bounds .update-node-constraint-bounds .kept .0 ∙ after-reset-row-bounds .reset-row-bounds .kept .0
+    after-apply-intervals2 .apply-intervals2 .kept .0 ∙ after-apply-intervals .apply-intervals .kept .0
+    ∙ after-update-node-constraint-bounds .update-node-constraint-bounds .kept .0 ∙ after-reset-row-bounds .reset-row-bounds .kept .0
 
 same-length-2 : tie.Need-same-length-2
 same-length-2 c =
@@ -132,7 +145,8 @@ same-length-2 c =
     let after-apply-intervals = to-apply-intervals (after-apply-intervals2 .before .before .before) in
     let after-update-node-constraint-bounds = to-update-node-constraint-bounds (after-apply-intervals .before .before .before) in
     let after-reset-row-bounds = to-reset-row-bounds (after-update-node-constraint-bounds .before) in
-    after-apply-intervals2 .apply-intervals2 .kept .1 .0 ∙ after-apply-intervals .apply-intervals .kept .1 .0 ∙ after-update-node-constraint-bounds .update-node-constraint-bounds .kept .1 .0 ∙ after-reset-row-bounds .reset-row-bounds .kept .1 .0
+    after-apply-intervals2 .apply-intervals2 .kept .1 .0 ∙ after-apply-intervals .apply-intervals .kept .1 .0
+    ∙ after-update-node-constraint-bounds .update-node-constraint-bounds .kept .1 .0 ∙ after-reset-row-bounds .reset-row-bounds .kept .1 .0
 
 same-length-3 : tie.Need-same-length-3
 same-length-3 c =

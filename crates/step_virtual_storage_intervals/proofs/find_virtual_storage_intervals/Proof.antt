@@ -39,13 +39,19 @@ returns c =
     let after-wide = at-loop .before in
     let after-stores-at = after-wide .before .before in
     rw (← (after-wide .wide .ensures .0))
-    (passed-stops _ _ (in-loop .loop-test .taken) (after-virtual-storage-interval .virtual-storage-interval .ensures ∙ rw (after-stores-at .virtual-storages-at .ensures)) (c .before .is-crossed .ensures) (at-loop .loop .inv) 15 (c .if1 .taken))
+    (passed-stops _ _ (in-loop .loop-test .taken)
+    (after-virtual-storage-interval .virtual-storage-interval .ensures ∙ rw (after-stores-at .virtual-storages-at .ensures)) (c .before .is-crossed .ensures) (at-loop .loop .inv) 15 (c .if1 .taken))
 
 slice-write-work-2 : tie.Need-slice-write-work-2 Inv-loop μ-loop
 slice-write-work-2 c =
     let after-virtual-storage-interval = c .before .before in
     let at-loop = after-virtual-storage-interval .before .before in
-    omega (arith, length-set (at-loop .loop .work) (virtualStoragesHeldAt + at-loop .loop .i) (after-virtual-storage-interval .virtual-storage-interval .result .lower), at-loop .loop .inv .writing .long)
+    omega (
+      arith,
+      length-set (at-loop .loop .work) (virtualStoragesHeldAt + at-loop .loop .i)
+          (after-virtual-storage-interval .virtual-storage-interval .result .lower),
+      at-loop .loop .inv .writing .long,
+    )
 
 loop-again : tie.Need-loop-again Inv-loop μ-loop
 unfolding virtualStorageNumbered
@@ -54,7 +60,8 @@ loop-again c =
     let in-loop = after-virtual-storage-interval .before in
     let at-loop = in-loop .before in
     let after-stores-at = at-loop .before .before .before in
-    passed-more _ _ (in-loop .loop-test .taken) (after-virtual-storage-interval .virtual-storage-interval .ensures ∙ rw (after-stores-at .virtual-storages-at .ensures)) (c .before .is-crossed .ensures) (at-loop .loop .inv) _ refl (search needs)
+    passed-more _ _ (in-loop .loop-test .taken)
+    (after-virtual-storage-interval .virtual-storage-interval .ensures ∙ rw (after-stores-at .virtual-storages-at .ensures)) (c .before .is-crossed .ensures) (at-loop .loop .inv) _ refl (search needs)
     (search needs) (c .if1 .left)
 
 same-length-2 : tie.Need-same-length-2 Inv-loop μ-loop

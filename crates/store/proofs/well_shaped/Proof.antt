@@ -103,7 +103,17 @@ returns-3 c =
     λ s ec er es.
     let at-starts = (after-starts-rise) in
     let at-columns = (after-columns-rise) in
-    rw (counts-and-sentinel (else1) s es, sym (at-starts .starts-rise .ensures s er es) ∙ not-false (at-starts .starts-rise .result) (else2 .if2 .left), at-columns .columns-rise .ensures s ec er es, after-nodes-fit .nodes-fit .ensures s es, after-edges-fit .edges-fit .ensures s es, after-node-rows-fit .node-rows-fit .ensures s ec er es, after-aggregates-fit .aggregates-fit .ensures s es, c .virtual-storages-fit .ensures s es)
+    rw (
+      counts-and-sentinel (else1) s es,
+      sym (at-starts .starts-rise .ensures s er es)
+          ∙ not-false (at-starts .starts-rise .result) (else2 .if2 .left),
+      at-columns .columns-rise .ensures s ec er es,
+      after-nodes-fit .nodes-fit .ensures s es,
+      after-edges-fit .edges-fit .ensures s es,
+      after-node-rows-fit .node-rows-fit .ensures s ec er es,
+      after-aggregates-fit .aggregates-fit .ensures s es,
+      c .virtual-storages-fit .ensures s es,
+    )
 
 pub well-shaped-spec : {M : Type 1} → statement M
 well-shaped-spec =

@@ -97,7 +97,20 @@ returns-6 c =
     let i3 = else3 .if3 in
     let i4 = else4 .if4 in
     let i5 = else5 .if5 in
-    rw (ec, er, es, lt-ltb _ _ (i1 .left), lt-ltb _ _ (i2 .left), le-leb _ _ (i3 .left), ne-eqb _ _ (i4 .left), lt-ltb _ _ (i5 .left), c .row-holds .ensures, after-wide-start .wide-start .ensures .0, after-wide-start2 .wide-start2 .ensures .0, after-wide .wide .ensures .0)
+    rw (
+      ec,
+      er,
+      es,
+      lt-ltb _ _ (i1 .left),
+      lt-ltb _ _ (i2 .left),
+      le-leb _ _ (i3 .left),
+      ne-eqb _ _ (i4 .left),
+      lt-ltb _ _ (i5 .left),
+      c .row-holds .ensures,
+      after-wide-start .wide-start .ensures .0,
+      after-wide-start2 .wide-start2 .ensures .0,
+      after-wide .wide .ensures .0,
+    )
 
 pub node-row-fits-spec : {M : Type 1} → statement M
 node-row-fits-spec =

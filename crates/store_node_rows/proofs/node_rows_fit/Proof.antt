@@ -32,7 +32,8 @@ returns c =
     let in-loop = after-node-row-fits .before in
     let at-loop = in-loop .before in
     let after-wide = at-loop .before in
-    λ s ec er es. rw (ec, er, es, ← (after-wide .wide .ensures .0)) (tested-fail (at-loop .loop .inv) (in-loop .loop-test .taken) (sym (after-node-row-fits .node-row-fits .ensures (ofRuns _ _ _) refl refl refl) ∙ c .if1 .left))
+    λ s ec er es. rw (ec, er, es, ← (after-wide .wide .ensures .0))
+    (tested-fail (at-loop .loop .inv) (in-loop .loop-test .taken) (sym (after-node-row-fits .node-row-fits .ensures (ofRuns _ _ _) refl refl refl) ∙ c .if1 .left))
 
 returns-2 : tie.Need-returns-2 Inv-loop μ-loop
 unfolding nodeRowFits columnsOfRow
