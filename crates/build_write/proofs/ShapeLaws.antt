@@ -1,12 +1,13 @@
 -- The shape run's parts written one behind the other, each call keeping the run's length. Assumes nothing.
 use mathlib.Core.Path.{_≡_, refl}
-use Prim.Native.Nat.{ℕ, _+_, _-_, _*_, _≤_}
+use Prim.Native.Nat.{ℕ, _+_, _*_, _≤_}
 use native.Mathlib.Omega.{arith}
 use mathlib.Core.List.{List}
+use lib.ListN.{length}
 use lib.Seq.{sets}
 use Rattle.layout.specs.Layout.{aggregatesAt, countsLength, edgesAt, nodeRowCeiling, nodeRowsAt, nodesAt, shapeLength, shapeMadeAt, virtualStoragesAt, wordsLength}
 use Rattle.laws.specs.Part.{part}
-use Rattle.laws.proofs.Tails.{tail, tail-part}
+use Rattle.laws.proofs.Tails.{tail, tail-length, tail-part}
 use Rattle.build_write.specs.declared.Sizes.{Sizes}
 use Rattle.build_write.specs.Lp.{shapeWritten}
 
@@ -19,15 +20,9 @@ aggregates-room n long l₁ l₂ l₃ l₄ d c b a few h = omega arith
 pub virtual-storages-room : (n long l₁ l₂ l₃ l₄ l₅ : ℕ) → l₅ ≡ l₄ → l₄ ≡ l₃ → l₃ ≡ l₂ → l₂ ≡ l₁ → l₁ ≡ long → n ≤ 32 → shapeLength ≤ long → virtualStoragesAt + 6 * n ≤ l₅
 virtual-storages-room n long l₁ l₂ l₃ l₄ l₅ e d c b a few h = omega arith
 
--- the same of the words made, which a run of the length `long` has from `shapeMadeAt` on
-pub node-rows-held : (n long made : ℕ) → made ≡ long - shapeMadeAt → n ≤ nodeRowCeiling → wordsLength ≤ long → nodeRowsAt + 4 * n ≤ made
-node-rows-held n long made e few h = omega arith
-
-pub aggregates-held : (n long made : ℕ) → made ≡ long - shapeMadeAt → n ≤ 64 → wordsLength ≤ long → aggregatesAt + n ≤ made
-aggregates-held n long made e few h = omega arith
-
-pub virtual-storages-held : (n long made : ℕ) → made ≡ long - shapeMadeAt → n ≤ 32 → wordsLength ≤ long → virtualStoragesAt + 6 * n ≤ made
-virtual-storages-held n long made e few h = omega arith
+-- the words made have room for the whole shape run
+pub made-room : (words : List ℕ) (end : ℕ) → wordsLength ≤ length words → end ≤ shapeLength → end ≤ length (tail shapeMadeAt words)
+made-room words end h e = omega (arith, tail-length shapeMadeAt words)
 
 module _ (z : Sizes) (words old s₁ s₂ s₃ s₄ s₅ s₆ : List ℕ) where
   -- where the shape run's words are made
