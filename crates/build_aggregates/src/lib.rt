@@ -1,9 +1,10 @@
 // The rows of the aggregated nodes (SolverBuilder::create_aggregated_node_constraints of builder.rs).
 ghost use mathlib.Core.Path.{_≡_};
-ghost use mathlib.Core.List.{List, map};
-ghost use Prim.Native.Nat.{ℕ, _<_, _≤_};
+ghost use mathlib.Core.List.{List, [], _∷_, map};
+ghost use Prim.Native.Nat.{ℕ, _+_, _<_, _≤_};
 ghost use lib.ListN.{length};
-ghost use Rattle.layout.specs.Layout.{columnCeiling, aggregatesMadeAt, wordsLength, numbersLength};
+ghost use lib.Seq.{sets};
+ghost use Rattle.layout.specs.Layout.{columnCeiling, aggregatesAt, aggregatesMadeAt, wordsLength, numbersLength};
 ghost use Rattle.pywr.specs.Bytes.{byte, le16};
 ghost use Rattle.pywr.specs.Rows.{Element, columnMap, addNodes, aggregateRow};
 ghost use Rattle.pywr.specs.VaryingRows.{freshRow};
@@ -20,11 +21,12 @@ ghost use Rattle.layout.specs.WorkRoom.{WorkRoom};
 use build_append::Filled;
 use build_append::RowsAdded;
 use build_join::VariableRow;
-use layout::AGGREGATES_MADE_AT;
+use layout::AGGREGATES_AT;
 use layout::COLUMN_CEILING;
 use layout::EDGE_CEILING;
 use layout::ELEMENTS_MADE_AT;
 use layout::NODE_CEILING;
+use layout::SHAPE_MADE_AT;
 use network_aggregate::SETS_OFFSET;
 use network_edge::EDGE_LENGTH;
 use network_node::NODE_LENGTH;
@@ -156,6 +158,14 @@ fn add_aggregate_row(
     build_join::add_variable_row(words, numbers, columns, n, f, sentinel)
 }
 
+// Aggregate i of the table: its row.
+fn put_aggregate(shape: &mut [u16], i: usize, row: u16)
+    requires { ⌜ aggregatesAt + i < length (now shape) ⌝ }
+    ensures { λ _. ⌜ now (shape .exit) ≡ sets (now (shape .entry)) (aggregatesAt + i) (row ∷ []) ⌝ }
+{
+    shape[AGGREGATES_AT + i] = row;
+}
+
 // Each aggregate asks for its row; the row's number is written to the aggregates' table.
 pub fn create_aggregated_node_constraints(
     s: &[u8],
@@ -201,7 +211,7 @@ pub fn create_aggregated_node_constraints(
                 return RowsAdded::Full;
             }
             VariableRow::At(row, more) => {
-                words[AGGREGATES_MADE_AT + i] = build_join::row_word(row);
+                put_aggregate(&mut words[SHAPE_MADE_AT..], i, build_join::row_word(row));
                 filled = more;
                 at = network_aggregate::aggregate_end(s, at);
                 i += 1;

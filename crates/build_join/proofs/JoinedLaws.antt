@@ -14,6 +14,7 @@ use Rattle.layout.specs.Layout.{shapeMadeAt}
 use Rattle.laws.specs.Part.{part}
 use Rattle.laws.proofs.Runs.{take-more}
 use Rattle.laws.proofs.Sets.{part-same, part-before}
+use Rattle.laws.proofs.Tails.{tail, putTail, tail-written}
 use Rattle.pywr.specs.declared.Sentinel.{Sentinel}
 use Rattle.pywr.specs.Rows.{Element}
 use Rattle.pywr.specs.VariableRows.{Joined, position, addVariableRow, addVariableRows}
@@ -153,12 +154,13 @@ module _ (s : Sentinel) (asked : List (List Element)) (at width : ℕ) (table : 
       pub place-fits : k < 65536
       place-fits = omega (arith, after .place k g e, position-most row (joined (take i asked) rows .rows), a .held .fewRows, length-map (joined (take i asked) rows .rows) (freshRow s))
 
-      -- its entry is written behind the others
-      pub asked-more : (b : ℕ) (entry words″ : List ℕ) → b ≡ at + width * i → length entry ≡ width → b + width ≤ length words′
+      -- its entry is written behind the others: the shape run's words come back as `shape`, with the entry at b
+      pub asked-more : (b : ℕ) (entry shape : List ℕ) → shapeMadeAt + b ≡ at + width * i → length entry ≡ width → shapeMadeAt + b + width ≤ length words′
           → ((places : List ℕ) → length places ≡ i → table (places ++ (k ∷ [])) ≡ table places ++ entry)
-          → words″ ≡ sets words′ b entry → Asked (i + 1) words″ numbers′ g
-      asked-more b entry words″ eb wide room more written =
-          rw written
+          → shape ≡ sets (tail shapeMadeAt words′) b entry → Asked (i + 1) (putTail shapeMadeAt words′ shape) numbers′ g
+      asked-more b₀ entry shape eb wide room more written =
+          let b : ℕ = shapeMadeAt + b₀ in
+          rw (tail-written shapeMadeAt words′ b₀ b shape entry refl written)
           (record {
             held = held-sets (map (freshRow s) (joined (take (i + 1) asked) rows .rows)) words′ numbers′ g b entry (omega arith) (rw rows-are at (after .held k g e));
             placed =

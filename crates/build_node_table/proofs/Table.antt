@@ -11,6 +11,7 @@ use borrow.Rule.Slice.PartMut.{putMid}
 use Rattle.layout.specs.Layout.{nodeRowsAt, nodeRowsMadeAt, numbersLength, shapeMadeAt}
 use Rattle.laws.specs.Part.{part}
 use Rattle.laws.proofs.Sets.{part-same, part-before}
+use Rattle.laws.proofs.Tails.{tail, putTail, tail-written}
 use Rattle.pywr.specs.declared.Sentinel.{Sentinel}
 use Rattle.pywr.specs.Rows.{Element}
 use Rattle.pywr.specs.VariableRows.{Joined, addVariableRow}
@@ -86,14 +87,16 @@ module _ (s : Sentinel) (asks : List RowRequest) (a : RowRequest) (words : List 
         ∙ ap (λ (p : ℕ). placedNodeRows (asks ++ (a ∷ [])) (joined asks .places ++ (p ∷ []))) (sym (after .place k f e))
         ∙ placed-snoc asks (joined asks .places) a k (joined-places asks)
 
-    pub row-placed : (w t : ℕ) (words₂ : List ℕ) → w ≡ k → rowTypeWord (a .rowType) ≡ t → nodeRowsMadeAt + 4 * r .count + 4 ≤ length words₁
-        → words₂ ≡ sets words₁ (nodeRowsMadeAt + 4 * r .count) (a .node ∷ w ∷ t ∷ a .set ∷ [])
-        → AfterRequests s (asks ++ (a ∷ [])) (Done (record { filled = f; count = r .count + 1 })) words₂ numbers₁
+    -- the shape run's words come back as `shape`, with the entry
+    pub row-placed : (w t : ℕ) (shape : List ℕ) → w ≡ k → rowTypeWord (a .rowType) ≡ t → nodeRowsMadeAt + 4 * r .count + 4 ≤ length words₁
+        → shape ≡ sets (tail shapeMadeAt words₁) (nodeRowsAt + 4 * r .count) (a .node ∷ w ∷ t ∷ a .set ∷ [])
+        → AfterRequests s (asks ++ (a ∷ [])) (Done (record { filled = f; count = r .count + 1 })) (putTail shapeMadeAt words₁ shape) numbers₁
     unfolding nodeRowWords
-    row-placed w t words₂ ew et room written =
+    row-placed w t shape ew et room written =
         let entry : List ℕ = nodeRowWords (placedAt a k) in
         let b : ℕ = nodeRowsMadeAt + 4 * r .count in
-        let is : words₂ ≡ sets words₁ b entry = written ∙ rw (ew, ← et) in
+        let words₂ : List ℕ = putTail shapeMadeAt words₁ shape in
+        let is : words₂ ≡ sets words₁ b entry = tail-written shapeMadeAt words₁ (nodeRowsAt + 4 * r .count) b shape entry (omega arith) (written ∙ rw (ew, ← et)) in
         let four : 4 * r .count + 4 ≡ 4 * (r .count + 1) = omega arith in
         requests-done s (asks ++ (a ∷ [])) words₂ numbers₁ (record { filled = f; count = r .count + 1 })
         (rw is

@@ -4,7 +4,7 @@ ghost use mathlib.Core.List.{List, [], _∷_, _++_};
 ghost use Prim.Native.Nat.{_+_, _*_, _<_, _≤_};
 ghost use lib.ListN.{length, drop};
 ghost use lib.Seq.{sets};
-ghost use Rattle.layout.specs.Layout.{columnCeiling, nodeRowCeiling, nodeRowWidth, nodeRowsMadeAt, wordsLength, elementsMadeAt, numbersLength};
+ghost use Rattle.layout.specs.Layout.{columnCeiling, nodeRowCeiling, nodeRowWidth, nodeRowsAt, wordsLength, elementsMadeAt, numbersLength};
 ghost use Rattle.pywr.specs.Programme.{RowType};
 ghost use Rattle.pywr.specs.VaryingRows.{RowRequest};
 ghost use Rattle.pywr.specs.Written.{rowTypeWord};
@@ -18,7 +18,8 @@ use layout::NODE_ROW_ROW;
 use layout::NODE_ROW_SET;
 use layout::NODE_ROW_TYPE;
 use layout::NODE_ROW_WIDTH;
-use layout::NODE_ROWS_MADE_AT;
+use layout::NODE_ROWS_AT;
+use layout::SHAPE_MADE_AT;
 use pywr::ColumnNumber;
 use pywr::NodeIndex;
 use pywr::Sentinel;
@@ -36,15 +37,15 @@ pub enum NodeRowsAdded {
 }
 
 // Node row i of the table: the node, its row, the row's type and the set's number.
-fn put_node_row(words: &mut [u16], i: usize, node: NodeIndex, row: u16, row_type: u16, set: u16)
-    requires { ⌜ nodeRowsMadeAt + nodeRowWidth * i + nodeRowWidth ≤ length (now words) ⌝ }
-    ensures { λ _. ⌜ now (words .exit) ≡ sets (now (words .entry)) (nodeRowsMadeAt + nodeRowWidth * i) (node .0 ∷ row ∷ «row_type» ∷ set ∷ []) ⌝ }
+fn put_node_row(shape: &mut [u16], i: usize, node: NodeIndex, row: u16, row_type: u16, set: u16)
+    requires { ⌜ nodeRowsAt + nodeRowWidth * i + nodeRowWidth ≤ length (now shape) ⌝ }
+    ensures { λ _. ⌜ now (shape .exit) ≡ sets (now (shape .entry)) (nodeRowsAt + nodeRowWidth * i) (node .0 ∷ row ∷ «row_type» ∷ set ∷ []) ⌝ }
 {
-    let at = NODE_ROWS_MADE_AT + NODE_ROW_WIDTH * i;
-    words[at] = node.0;
-    words[at + NODE_ROW_ROW] = row;
-    words[at + NODE_ROW_TYPE] = row_type;
-    words[at + NODE_ROW_SET] = set;
+    let at = NODE_ROWS_AT + NODE_ROW_WIDTH * i;
+    shape[at] = node.0;
+    shape[at + NODE_ROW_ROW] = row;
+    shape[at + NODE_ROW_TYPE] = row_type;
+    shape[at + NODE_ROW_SET] = set;
 }
 
 // A node asks for the gathered row, whose elements are already in place: an equal row that stands already serves, else it becomes the last row.
@@ -71,7 +72,14 @@ pub fn add_node_row(
     match r {
         VariableRow::Full => NodeRowsAdded::Full,
         VariableRow::At(row, filled) => {
-            put_node_row(words, count, node, build_join::row_word(row), row_type, set);
+            put_node_row(
+                &mut words[SHAPE_MADE_AT..],
+                count,
+                node,
+                build_join::row_word(row),
+                row_type,
+                set,
+            );
             NodeRowsAdded::Done(NodeRows {
                 filled: filled,
                 count: count + 1,

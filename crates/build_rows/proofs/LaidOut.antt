@@ -6,18 +6,50 @@ use native.Mathlib.Omega.{arith}
 use lib.ListN.{length, take}
 use lib.Seq.{sets, length-sets}
 use lib.Ieee.{Float}
-use Rattle.layout.specs.Layout.{aggregatesMadeAt, edgesMadeAt, nodeRowsMadeAt, nodesMadeAt, shapeMadeAt, virtualStoragesMadeAt, wordsLength}
+use Rattle.layout.specs.Layout.{aggregatesMadeAt, edgesAt, edgesMadeAt, nodeRowsMadeAt, nodesAt, nodesMadeAt, sentinelAt, shapeLength, shapeMadeAt, virtualStoragesMadeAt, wordsLength}
 use Rattle.laws.specs.Part.{part}
 use Rattle.laws.proofs.Sets.{part-same, part-before, part-after}
+use Rattle.laws.proofs.Tails.{tail, putTail, tail-length, tail-written}
 use Rattle.pywr.specs.declared.Sentinel.{Sentinel}
 use Rattle.pywr.specs.Programme.{Row, Built}
+use Rattle.pywr.specs.Build.{nodeShape}
 use Rattle.pywr.specs.Written.{nodeWords, edgeWords, nodeRowWords, virtualStorageWords, countWords, rowsOf}
+use Rattle.network_laws.specs.NetworkAt.{nodesAt as nodeRecords}
+use Rattle.build_shape.specs.ShapeTables.{edgeEntries, counts}
 use Rattle.build_write.specs.declared.Sizes.{Sizes}
 use Rattle.build_write.specs.Lp.{Few, columnsOf}
 use Rattle.build_append.specs.declared.Filled.{Filled}
 use Rattle.build_append.specs.LpBuilder.{RowsHeld}
 use Rattle.build_append.proofs.RowsHeldLaws.{held-agrees}
-use Rattle.build_rows.specs.Assembled.{Laid}
+use Rattle.build_rows.specs.Assembled.{Laid, tablesWritten}
+
+-- ---- the shape run's words, lent
+
+pub shape-room : (words : List ℕ) → wordsLength ≤ length words → shapeLength ≤ length (tail shapeMadeAt words)
+shape-room words h = omega (arith, tail-length shapeMadeAt words)
+
+-- the part comes back with the nodes' table, with the edges' and with the counts
+module _ (s : Sentinel) (file table : List ℕ) (z : Sizes) (varying : ℕ) (words s₁ s₂ s₃ : List ℕ) where
+  abbrev ns : List ℕ
+  ns = flatMap nodeWords (map nodeShape (nodeRecords file (z .nodes)))
+
+  abbrev es : List ℕ
+  es = flatMap edgeWords (edgeEntries file table (z .nodes) (z .edges))
+
+  abbrev words₁ : List ℕ
+  words₁ = putTail shapeMadeAt words s₁
+
+  abbrev words₂ : List ℕ
+  words₂ = putTail shapeMadeAt words₁ s₂
+
+  pub tables-lent : s₁ ≡ sets (tail shapeMadeAt words) nodesAt ns → s₂ ≡ sets (tail shapeMadeAt words₁) edgesAt es → s₃ ≡ sets (tail shapeMadeAt words₂) sentinelAt (counts s z varying)
+      → putTail shapeMadeAt words₂ s₃ ≡ tablesWritten s file table z varying words
+  tables-lent e₁ e₂ e₃ =
+      tail-written shapeMadeAt words₂ sentinelAt shapeMadeAt s₃ (counts s z varying) refl e₃
+      ∙ ap (λ (l : List ℕ). sets l shapeMadeAt (counts s z varying)) (tail-written shapeMadeAt words₁ edgesAt edgesMadeAt s₂ es refl e₂
+      ∙ ap (λ (l : List ℕ). sets l edgesMadeAt es) (tail-written shapeMadeAt words nodesAt nodesMadeAt s₁ ns refl e₁))
+
+-- ---- the tables, written
 
 -- what the passes over the rows leave: the rows, and the tables of node rows, aggregates and virtual storages
 pub record RowsLaid (b : Built) (z : Sizes) (words : List ℕ) (numbers : List Float) : Type 0 where

@@ -18,6 +18,7 @@ use layout::EDGE_CEILING;
 use layout::MEMBERSHIP_CEILING;
 use layout::NODE_CEILING;
 use layout::SET_CEILING;
+use layout::SHAPE_MADE_AT;
 use network_record::Counts;
 use pywr::ColumnNumber;
 use pywr::Sentinel;
@@ -43,9 +44,9 @@ fn write_tables(
 {
     let nodes = z.nodes;
     let edges = z.edges;
-    build_shape::write_nodes(s, nodes, words);
-    build_shape::write_edges(s, nodes, edges, edge_to_col, words);
-    build_shape::write_counts(words, sentinel, z, varying);
+    build_shape::write_nodes(s, nodes, &mut words[SHAPE_MADE_AT..]);
+    build_shape::write_edges(s, nodes, edges, edge_to_col, &mut words[SHAPE_MADE_AT..]);
+    build_shape::write_counts(&mut words[SHAPE_MADE_AT..], sentinel, z, varying);
 }
 
 // All rows, then the tables of nodes and edges and the counts.

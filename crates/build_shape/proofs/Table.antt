@@ -8,7 +8,7 @@ use native.Mathlib.Nat.{add-zero, add-suc, suc-add, zero-add}
 use native.Mathlib.Omega.{arith}
 use lib.ListN.{length, getD, set, length-append, length-set}
 use lib.Seq.{sets}
-use Rattle.layout.specs.Layout.{edgesMadeAt, nodesMadeAt}
+use Rattle.layout.specs.Layout.{edgesAt, nodesAt}
 use Rattle.laws.proofs.Sets.{sets-snoc}
 use Rattle.laws.proofs.Runs.{map-snoc, flat-snoc}
 use Rattle.pywr.specs.Network.{Node}
@@ -19,7 +19,7 @@ use Rattle.pywr.specs.Written.{flagWord, nodeWords, edgeWords}
 use Rattle.fields.specs.Records.{recordsAt, recordsEnd}
 use Rattle.fields.proofs.RecordLaws.{records-more, records-length, end-fixed}
 use Rattle.network_node.specs.Node.{nodeAt}
-use Rattle.network_laws.specs.NetworkAt.{nodesAt}
+use Rattle.network_laws.specs.NetworkAt.{nodesAt as nodeRecords}
 use Rattle.build_shape.specs.ShapeTables.{edgeEntry, edgesFrom, edgeEntries}
 
 -- ---- words put one behind the other
@@ -43,44 +43,44 @@ three-more l xs at k a b d e =
 -- ---- nodes
 
 unfoldable pub nodeTable : List ℕ → ℕ → List ℕ
-nodeTable file i = flatMap nodeWords (map nodeShape (nodesAt file i))
+nodeTable file i = flatMap nodeWords (map nodeShape (nodeRecords file i))
 
 node-snoc : (file : List ℕ) (i : ℕ) → nodeTable file (i + 1) ≡ nodeTable file i ++ nodeWords (nodeShape (nodeAt file (20 * i)))
 unfolding nodeTable flatMap
 node-snoc file i =
     let e : recordsEnd (λ at. at + 20) i 0 ≡ 20 * i = end-fixed 20 i 0 ∙ zero-add (20 * i) in
-    rw (records-more (nodeAt file) (λ at. at + 20) i 0, e, map-snoc nodeShape (nodesAt file i) (nodeAt file (20 * i)), flat-snoc nodeWords (map nodeShape (nodesAt file i)) (nodeShape (nodeAt file (20 * i))))
+    rw (records-more (nodeAt file) (λ at. at + 20) i 0, e, map-snoc nodeShape (nodeRecords file i) (nodeAt file (20 * i)), flat-snoc nodeWords (map nodeShape (nodeRecords file i)) (nodeShape (nodeAt file (20 * i))))
 
 node-long : (file : List ℕ) (i : ℕ) → length (nodeTable file i) ≡ 2 * i
 unfolding nodeTable nodeWords flatMap
-node-long file i = go (nodesAt file i) ∙ ap (λ (k : ℕ). 2 * k) (records-length (nodeAt file) (λ at. at + 20) i 0)
+node-long file i = go (nodeRecords file i) ∙ ap (λ (k : ℕ). 2 * k) (records-length (nodeAt file) (λ at. at + 20) i 0)
   where
     go : (xs : List Node) → length (flatMap nodeWords (map nodeShape xs)) ≡ 2 * length xs
     go [] = refl
     go (x ∷ xs) = let ih = go xs in omega (arith, length-append (nodeWords (nodeShape x)) (flatMap nodeWords (map nodeShape xs)))
 
-pub record NodesWritten (file words₀ : List ℕ) (nodes : ℕ) (words : List ℕ) (i : ℕ) : Type 0 where
+pub record NodesWritten (file shape₀ : List ℕ) (nodes : ℕ) (shape : List ℕ) (i : ℕ) : Type 0 where
   pub few : i ≤ nodes
-  pub run : words ≡ sets words₀ nodesMadeAt (nodeTable file i)
-  pub long : length words ≡ length words₀
+  pub run : shape ≡ sets shape₀ nodesAt (nodeTable file i)
+  pub long : length shape ≡ length shape₀
 
-pub nodes-none : (file words : List ℕ) (nodes : ℕ) → NodesWritten file words nodes words 0
+pub nodes-none : (file shape : List ℕ) (nodes : ℕ) → NodesWritten file shape nodes shape 0
 unfolding nodeTable recordsAt flatMap
-nodes-none file words nodes = record { few = omega arith; run = refl; long = refl }
+nodes-none file shape nodes = record { few = omega arith; run = refl; long = refl }
 
-pub nodes-more : (file words₀ : List ℕ) (nodes : ℕ) (words : List ℕ) (i k f : ℕ) → i < nodes → k ≡ nodeAt file (20 * i) .kind → f ≡ flagWord (nodeAt file (20 * i) .constant)
-    → NodesWritten file words₀ nodes words i → NodesWritten file words₀ nodes (set (set words (nodesMadeAt + 2 * i) k) (nodesMadeAt + 2 * i + 1) f) (i + 1)
+pub nodes-more : (file shape₀ : List ℕ) (nodes : ℕ) (shape : List ℕ) (i k f : ℕ) → i < nodes → k ≡ nodeAt file (20 * i) .kind → f ≡ flagWord (nodeAt file (20 * i) .constant)
+    → NodesWritten file shape₀ nodes shape i → NodesWritten file shape₀ nodes (set (set shape (nodesAt + 2 * i) k) (nodesAt + 2 * i + 1) f) (i + 1)
 unfolding nodeWords nodeShape
-nodes-more file words₀ nodes words i k f h ek ef w =
+nodes-more file shape₀ nodes shape i k f h ek ef w =
     record {
       few = omega arith;
-      run = rw (w .run, ek, ef) (two-more words₀ (nodeTable file i) nodesMadeAt (2 * i) _ _ (node-long file i) ∙ ap (sets words₀ nodesMadeAt) (sym (node-snoc file i)));
-      long = length-set (set words (nodesMadeAt + 2 * i) k) (nodesMadeAt + 2 * i + 1) f ∙ length-set words (nodesMadeAt + 2 * i) k ∙ w .long;
+      run = rw (w .run, ek, ef) (two-more shape₀ (nodeTable file i) nodesAt (2 * i) _ _ (node-long file i) ∙ ap (sets shape₀ nodesAt) (sym (node-snoc file i)));
+      long = length-set (set shape (nodesAt + 2 * i) k) (nodesAt + 2 * i + 1) f ∙ length-set shape (nodesAt + 2 * i) k ∙ w .long;
     }
 
-pub nodes-all : (file words₀ : List ℕ) (nodes : ℕ) (words : List ℕ) (i : ℕ) → nodes ≤ i → NodesWritten file words₀ nodes words i → words ≡ sets words₀ nodesMadeAt (flatMap nodeWords (map nodeShape (nodesAt file nodes)))
+pub nodes-all : (file shape₀ : List ℕ) (nodes : ℕ) (shape : List ℕ) (i : ℕ) → nodes ≤ i → NodesWritten file shape₀ nodes shape i → shape ≡ sets shape₀ nodesAt (flatMap nodeWords (map nodeShape (nodeRecords file nodes)))
 unfolding nodeTable flatMap
-nodes-all file words₀ nodes words i h w = let e : i ≡ nodes = omega (arith, w .few) in w .run ∙ ap (λ (k : ℕ). sets words₀ nodesMadeAt (nodeTable file k)) e
+nodes-all file shape₀ nodes shape i h w = let e : i ≡ nodes = omega (arith, w .few) in w .run ∙ ap (λ (k : ℕ). sets shape₀ nodesAt (nodeTable file k)) e
 
 pub flag-yes : (b : Bool) → b ≡ true → 1 ≡ flagWord b
 unfolding flagWord
@@ -90,7 +90,7 @@ pub flag-no : (b : Bool) → b ≡ false → 0 ≡ flagWord b
 unfolding flagWord
 flag-no b e = rw e
 
-pub nodes-length : (file : List ℕ) (n : ℕ) → length (flatMap nodeWords (map nodeShape (nodesAt file n))) ≡ 2 * n
+pub nodes-length : (file : List ℕ) (n : ℕ) → length (flatMap nodeWords (map nodeShape (nodeRecords file n))) ≡ 2 * n
 unfolding nodeTable
 nodes-length file n = node-long file n
 
@@ -120,33 +120,33 @@ module _ (file table : List ℕ) (nodes : ℕ) where
       go zero e = refl
       go (suc i) e = let ih = go i (e + 1) in omega (arith, length-append (edgeWords (edgeEntry file table nodes e)) (flatMap edgeWords (edgesFrom file table nodes i (e + 1))))
 
-  pub record EdgesWritten (words₀ : List ℕ) (edges : ℕ) (words : List ℕ) (i : ℕ) : Type 0 where
+  pub record EdgesWritten (shape₀ : List ℕ) (edges : ℕ) (shape : List ℕ) (i : ℕ) : Type 0 where
     pub few : i ≤ edges
-    pub run : words ≡ sets words₀ edgesMadeAt (edgeTable i)
-    pub long : length words ≡ length words₀
+    pub run : shape ≡ sets shape₀ edgesAt (edgeTable i)
+    pub long : length shape ≡ length shape₀
 
-  pub edges-none : (words : List ℕ) (edges : ℕ) → EdgesWritten words edges words 0
+  pub edges-none : (shape : List ℕ) (edges : ℕ) → EdgesWritten shape edges shape 0
   unfolding edgeTable edgesFrom flatMap
-  edges-none words edges = record { few = omega arith; run = refl; long = refl }
+  edges-none shape edges = record { few = omega arith; run = refl; long = refl }
 
-  pub edges-more : (words₀ : List ℕ) (edges : ℕ) (words : List ℕ) (i a b d : ℕ) → i < edges
+  pub edges-more : (shape₀ : List ℕ) (edges : ℕ) (shape : List ℕ) (i a b d : ℕ) → i < edges
       → a ≡ edgeEntry file table nodes i .from → b ≡ edgeEntry file table nodes i .to → d ≡ edgeEntry file table nodes i .column
-      → EdgesWritten words₀ edges words i → EdgesWritten words₀ edges (set (set (set words (edgesMadeAt + 3 * i) a) (edgesMadeAt + 3 * i + 1) b) (edgesMadeAt + 3 * i + 2) d) (i + 1)
+      → EdgesWritten shape₀ edges shape i → EdgesWritten shape₀ edges (set (set (set shape (edgesAt + 3 * i) a) (edgesAt + 3 * i + 1) b) (edgesAt + 3 * i + 2) d) (i + 1)
   unfolding edgeWords
-  edges-more words₀ edges words i a b d h ea eb ed w =
+  edges-more shape₀ edges shape i a b d h ea eb ed w =
       record {
         few = omega arith;
-        run = rw (w .run, ea, eb, ed) (three-more words₀ (edgeTable i) edgesMadeAt (3 * i) _ _ _ (edge-long i) ∙ ap (sets words₀ edgesMadeAt) (sym (edge-snoc i)));
+        run = rw (w .run, ea, eb, ed) (three-more shape₀ (edgeTable i) edgesAt (3 * i) _ _ _ (edge-long i) ∙ ap (sets shape₀ edgesAt) (sym (edge-snoc i)));
         long =
-            length-set (set (set words (edgesMadeAt + 3 * i) a) (edgesMadeAt + 3 * i + 1) b) (edgesMadeAt + 3 * i + 2) d
-            ∙ length-set (set words (edgesMadeAt + 3 * i) a) (edgesMadeAt + 3 * i + 1) b
-            ∙ length-set words (edgesMadeAt + 3 * i) a
+            length-set (set (set shape (edgesAt + 3 * i) a) (edgesAt + 3 * i + 1) b) (edgesAt + 3 * i + 2) d
+            ∙ length-set (set shape (edgesAt + 3 * i) a) (edgesAt + 3 * i + 1) b
+            ∙ length-set shape (edgesAt + 3 * i) a
             ∙ w .long;
       }
 
-  pub edges-all : (words₀ : List ℕ) (edges : ℕ) (words : List ℕ) (i : ℕ) → edges ≤ i → EdgesWritten words₀ edges words i → words ≡ sets words₀ edgesMadeAt (flatMap edgeWords (edgeEntries file table nodes edges))
+  pub edges-all : (shape₀ : List ℕ) (edges : ℕ) (shape : List ℕ) (i : ℕ) → edges ≤ i → EdgesWritten shape₀ edges shape i → shape ≡ sets shape₀ edgesAt (flatMap edgeWords (edgeEntries file table nodes edges))
   unfolding edgeTable
-  edges-all words₀ edges words i h w = let e : i ≡ edges = omega (arith, w .few) in w .run ∙ ap (λ (k : ℕ). sets words₀ edgesMadeAt (edgeTable k)) e
+  edges-all shape₀ edges shape i h w = let e : i ≡ edges = omega (arith, w .few) in w .run ∙ ap (λ (k : ℕ). sets shape₀ edgesAt (edgeTable k)) e
 
   pub edges-length : (n : ℕ) → length (flatMap edgeWords (edgeEntries file table nodes n)) ≡ 3 * n
   unfolding edgeTable

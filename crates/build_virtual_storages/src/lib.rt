@@ -5,7 +5,7 @@ ghost use mathlib.Core.Bool.{not};
 ghost use Prim.Native.Nat.{_+_, _*_, _≤_};
 ghost use lib.ListN.{length};
 ghost use lib.Seq.{sets};
-ghost use Rattle.layout.specs.Layout.{columnCeiling, virtualStorageWidth, virtualStoragesMadeAt, wordsLength, numbersLength};
+ghost use Rattle.layout.specs.Layout.{columnCeiling, virtualStorageWidth, virtualStoragesAt, virtualStoragesMadeAt, wordsLength, numbersLength};
 ghost use Rattle.pywr.specs.Rows.{Element, columnMap, virtualStorageRow};
 ghost use Rattle.pywr.specs.VaryingRows.{freshRow};
 ghost use Rattle.pywr.specs.Written.{flagWord, virtualStorageWords};
@@ -31,8 +31,9 @@ use layout::PERIOD_END_MONTH;
 use layout::PERIOD_FLAG;
 use layout::PERIOD_START_DAY;
 use layout::PERIOD_START_MONTH;
+use layout::SHAPE_MADE_AT;
 use layout::VIRTUAL_STORAGE_WIDTH;
-use layout::VIRTUAL_STORAGES_MADE_AT;
+use layout::VIRTUAL_STORAGES_AT;
 use network_record::Counts;
 use network_virtual_storage::Period;
 use pywr::ColumnNumber;
@@ -136,17 +137,18 @@ fn date_word(date: u8) -> u16
     date as u16
 }
 
-// Writes a virtual storage's entry from `at` on: its row, then its period.
-fn put_virtual_storage(words: &mut [u16], at: usize, row: u16, period: Period)
-    requires { ⌜ at + virtualStorageWidth ≤ length (now words) ⌝ }
-    ensures { λ _. ⌜ now (words .exit) ≡ sets (now (words .entry)) at (virtualStorageWords (record { row = row; period = periodOf period })) ⌝ }
+// Virtual storage i of the table: its row, then its period.
+fn put_virtual_storage(shape: &mut [u16], i: usize, row: u16, period: Period)
+    requires { ⌜ virtualStoragesAt + virtualStorageWidth * i + virtualStorageWidth ≤ length (now shape) ⌝ }
+    ensures { λ _. ⌜ now (shape .exit) ≡ sets (now (shape .entry)) (virtualStoragesAt + virtualStorageWidth * i) (virtualStorageWords (record { row = row; period = periodOf period })) ⌝ }
 {
-    words[at] = row;
-    words[at + PERIOD_FLAG] = period_word(period.always);
-    words[at + PERIOD_START_MONTH] = date_word(period.start_month);
-    words[at + PERIOD_START_DAY] = date_word(period.start_day);
-    words[at + PERIOD_END_MONTH] = date_word(period.end_month);
-    words[at + PERIOD_END_DAY] = date_word(period.end_day);
+    let at = VIRTUAL_STORAGES_AT + VIRTUAL_STORAGE_WIDTH * i;
+    shape[at] = row;
+    shape[at + PERIOD_FLAG] = period_word(period.always);
+    shape[at + PERIOD_START_MONTH] = date_word(period.start_month);
+    shape[at + PERIOD_START_DAY] = date_word(period.start_day);
+    shape[at + PERIOD_END_MONTH] = date_word(period.end_month);
+    shape[at + PERIOD_END_DAY] = date_word(period.end_day);
 }
 
 // Each virtual storage asks for its row; the row's number and the period are written to the virtual storages' table.
@@ -196,8 +198,8 @@ pub fn create_virtual_storage_constraints(
             VariableRow::At(row, more) => {
                 let period = network_virtual_storage::active_period(s, at);
                 put_virtual_storage(
-                    words,
-                    VIRTUAL_STORAGES_MADE_AT + VIRTUAL_STORAGE_WIDTH * i,
+                    &mut words[SHAPE_MADE_AT..],
+                    i,
                     build_join::row_word(row),
                     period,
                 );

@@ -1,15 +1,17 @@
 -- The elements written row by row, each row's into the tail of the run from its start on. Assumes nothing.
 use mathlib.Core.Path.{_≡_, refl, sym, _∙_, ap}
 use Prim.Native.Nat.{ℕ, suc, zero, _+_, _-_, _<_, _≤_}
+use native.Mathlib.Nat.{add-zero}
 use native.Mathlib.Omega.{arith}
-use mathlib.Core.List.{List, _++_, append-nil, append-assoc}
-use lib.ListN.{length, getD, take, drop, length-drop, drop-of-length-le}
-use lib.Seq.{sets, sets-eq, take-all, take-add, drop-drop}
+use mathlib.Core.List.{List, _++_}
+use lib.ListN.{length, getD, take, drop}
+use lib.Seq.{sets, take-all, take-add, drop-drop}
 use lib.Ieee.{Float}
 use borrow.Rule.Slice.PartMut.{midOf, putMid, mid-len, same-len-mid}
 use Rattle.layout.specs.Layout.{numbersLength}
 use Rattle.laws.specs.Part.{part}
 use Rattle.laws.proofs.Sets.{length-part}
+use Rattle.laws.proofs.Tails.{tail-written}
 use Rattle.build_write.specs.declared.Sizes.{Sizes}
 use Rattle.build_write.specs.Lp.{Few, RowStarts}
 use Rattle.build_write.proofs.Filled.{sets-append}
@@ -18,14 +20,6 @@ module _ {A : Type 0} where
   -- the whole of a list is a part of it
   pub whole-part : (l : List A) → part 0 (length l) l ≡ l
   whole-part l = take-all (length l) l (omega arith)
-
-  -- a list written at the front of a lent tail is written from the tail's start on
-  tail-put : (a : ℕ) (xs vs : List A) → a + length vs ≤ length xs → putMid a (length xs - a) xs (sets (midOf a (length xs - a) xs) 0 vs) ≡ sets xs a vs
-  tail-put a xs vs h =
-      let n : length (drop a xs) ≤ length xs - a = omega (arith, length-drop a xs) in
-      let fits : 0 + length vs ≤ length (drop a xs) = omega (arith, length-drop a xs) in
-      let none : 0 + length vs ≡ length vs = omega arith in
-      rw (take-all (length xs - a) (drop a xs) n, drop-of-length-le (drop a xs) n, append-nil, sets-eq vs (drop a xs) 0 fits, sets-eq vs xs a h, none, drop-drop (length vs) a xs, append-assoc)
 
   -- a part written at the front, and the part behind it
   part-then : (old l : List A) (at n m : ℕ) → at + n ≤ length l → sets (sets old 0 (part at n l)) n (part (at + n) m l) ≡ sets old 0 (part at (n + m) l)
@@ -88,14 +82,11 @@ module _ (z : Sizes) (words : List ℕ) (s : RowStarts z words) where
         let fits = row-fits numbers old new r start end few longNumbers longOld lt es ee w in
         let n : ℕ = 2048 + end - (2048 + start) in
         let row : List Float = part (2048 + start) n numbers in
-        let size : length row ≡ n = length-part numbers (2048 + start) n (omega (arith, fits .rises, fits .held)) in
-        let tail : length (midOf start (length new - start) new) ≡ length new - start = mid-len start (length new) new (omega arith) in
         let sum : start + n ≡ end = omega (arith, fits .rises) in
         record {
           few = omega arith;
           run =
-              ap (putMid start (length new - start) new) ey
-              ∙ tail-put start new row (omega (arith, tail, fits .within, fits .room start (omega arith)))
+              tail-written start new 0 start ys row (add-zero start) ey
               ∙ ap (λ (l : List Float). sets l start row) (w .run ∙ ap (λ (k : ℕ). sets old 0 (part 2048 k numbers)) (sym es))
               ∙ part-then old numbers 2048 start n (omega (arith, fits .rises, fits .held))
               ∙ ap (λ (k : ℕ). sets old 0 (part 2048 k numbers)) (sum ∙ ee ∙ sym (next-start r));

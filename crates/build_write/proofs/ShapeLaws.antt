@@ -3,9 +3,11 @@ use mathlib.Core.Path.{_≡_, refl}
 use Prim.Native.Nat.{ℕ, _+_, _*_, _≤_}
 use native.Mathlib.Omega.{arith}
 use mathlib.Core.List.{List}
+use lib.ListN.{length}
 use lib.Seq.{sets}
-use Rattle.layout.specs.Layout.{aggregatesAt, aggregatesMadeAt, edgesAt, edgesMadeAt, nodeRowCeiling, nodeRowsAt, nodeRowsMadeAt, nodesMadeAt, shapeLength, shapeMadeAt, virtualStoragesAt, virtualStoragesMadeAt, wordsLength}
+use Rattle.layout.specs.Layout.{aggregatesAt, countsLength, edgesAt, nodeRowCeiling, nodeRowsAt, nodesAt, shapeLength, shapeMadeAt, virtualStoragesAt, wordsLength}
 use Rattle.laws.specs.Part.{part}
+use Rattle.laws.proofs.Tails.{tail, tail-length, tail-part}
 use Rattle.build_write.specs.declared.Sizes.{Sizes}
 use Rattle.build_write.specs.Lp.{shapeWritten}
 
@@ -18,18 +20,21 @@ aggregates-room n long l₁ l₂ l₃ l₄ d c b a few h = omega arith
 pub virtual-storages-room : (n long l₁ l₂ l₃ l₄ l₅ : ℕ) → l₅ ≡ l₄ → l₄ ≡ l₃ → l₃ ≡ l₂ → l₂ ≡ l₁ → l₁ ≡ long → n ≤ 32 → shapeLength ≤ long → virtualStoragesAt + 6 * n ≤ l₅
 virtual-storages-room n long l₁ l₂ l₃ l₄ l₅ e d c b a few h = omega arith
 
-pub node-rows-held : (n long : ℕ) → n ≤ nodeRowCeiling → wordsLength ≤ long → nodeRowsMadeAt + 4 * n ≤ long
-node-rows-held n long few h = omega arith
-
-pub aggregates-held : (n long : ℕ) → n ≤ 64 → wordsLength ≤ long → aggregatesMadeAt + n ≤ long
-aggregates-held n long few h = omega arith
-
-pub virtual-storages-held : (n long : ℕ) → n ≤ 32 → wordsLength ≤ long → virtualStoragesMadeAt + 6 * n ≤ long
-virtual-storages-held n long few h = omega arith
+-- the words made have room for the whole shape run
+pub made-room : (words : List ℕ) (end : ℕ) → wordsLength ≤ length words → end ≤ shapeLength → end ≤ length (tail shapeMadeAt words)
+made-room words end h e = omega (arith, tail-length shapeMadeAt words)
 
 module _ (z : Sizes) (words old s₁ s₂ s₃ s₄ s₅ s₆ : List ℕ) where
-  pub written : s₆ ≡ sets s₅ virtualStoragesAt (part virtualStoragesMadeAt (6 * z .«virtual_storages») words) → s₅ ≡ sets s₄ aggregatesAt (part aggregatesMadeAt (z .aggregates) words)
-      → s₄ ≡ sets s₃ nodeRowsAt (part nodeRowsMadeAt (4 * z .«node_rows») words) → s₃ ≡ sets s₂ edgesAt (part edgesMadeAt (3 * z .edges) words)
-      → s₂ ≡ sets s₁ 11 (part nodesMadeAt (2 * z .nodes) words) → s₁ ≡ sets old 0 (part shapeMadeAt 11 words) → s₆ ≡ shapeWritten z words old
+  -- where the shape run's words are made
+  abbrev made : List ℕ
+  made = tail shapeMadeAt words
+
+  is-made : (k n : ℕ) → part k n made ≡ part (shapeMadeAt + k) n words
+  is-made k n = tail-part shapeMadeAt words k n
+
+  pub written : s₆ ≡ sets s₅ virtualStoragesAt (part virtualStoragesAt (6 * z .«virtual_storages») made) → s₅ ≡ sets s₄ aggregatesAt (part aggregatesAt (z .aggregates) made)
+      → s₄ ≡ sets s₃ nodeRowsAt (part nodeRowsAt (4 * z .«node_rows») made) → s₃ ≡ sets s₂ edgesAt (part edgesAt (3 * z .edges) made)
+      → s₂ ≡ sets s₁ nodesAt (part nodesAt (2 * z .nodes) made) → s₁ ≡ sets old 0 (part 0 countsLength made) → s₆ ≡ shapeWritten z words old
   unfolding shapeWritten
-  written f e d c b a = rw (f, e, d, c, b, a)
+  written f e d c b a =
+      rw (f, e, d, c, b, a, is-made virtualStoragesAt (6 * z .«virtual_storages»), is-made aggregatesAt (z .aggregates), is-made nodeRowsAt (4 * z .«node_rows»), is-made edgesAt (3 * z .edges), is-made nodesAt (2 * z .nodes), is-made 0 countsLength)

@@ -8,24 +8,19 @@ ghost use Rattle.laws.specs.Part.{part};
 ghost use Rattle.build_write.specs.Lp.{Few, RowStarts, ColumnsWritten, RowsWritten, MatrixWritten, shapeWritten};
 ghost use Rattle.layout.specs.WorkRoom.{WorkRoom};
 use layout::AGGREGATES_AT;
-use layout::AGGREGATES_MADE_AT;
 use layout::COUNTS_LENGTH;
 use layout::EDGE_WIDTH;
 use layout::EDGES_AT;
-use layout::EDGES_MADE_AT;
 use layout::ELEMENTS_MADE_AT;
 use layout::NODE_ROW_WIDTH;
 use layout::NODE_ROWS_AT;
-use layout::NODE_ROWS_MADE_AT;
 use layout::NODE_WIDTH;
 use layout::NODES_AT;
-use layout::NODES_MADE_AT;
 use layout::SHAPE_MADE_AT;
 use layout::STARTS_MADE_AT;
 use layout::UPPERS_MADE_AT;
 use layout::VIRTUAL_STORAGE_WIDTH;
 use layout::VIRTUAL_STORAGES_AT;
-use layout::VIRTUAL_STORAGES_MADE_AT;
 use pywr::Sentinel;
 
 // How much an assembled programme holds.
@@ -121,28 +116,23 @@ pub fn write_shape(z: Sizes, words: &[u16], shape: &mut [u16])
     requires { ⌜ Few z × (wordsLength ≤ length (now words)) × (shapeLength ≤ length (now shape)) ⌝ }
     ensures { λ _. ⌜ now (shape .exit) ≡ shapeWritten z (now (words .entry)) (now (shape .entry)) ⌝ }
 {
-    runs::copy_u16(shape, 0, words, SHAPE_MADE_AT, COUNTS_LENGTH);
-    runs::copy_u16(shape, NODES_AT, words, NODES_MADE_AT, NODE_WIDTH * z.nodes);
-    runs::copy_u16(shape, EDGES_AT, words, EDGES_MADE_AT, EDGE_WIDTH * z.edges);
+    let made = &words[SHAPE_MADE_AT..];
+    runs::copy_u16(shape, 0, made, 0, COUNTS_LENGTH);
+    runs::copy_u16(shape, NODES_AT, made, NODES_AT, NODE_WIDTH * z.nodes);
+    runs::copy_u16(shape, EDGES_AT, made, EDGES_AT, EDGE_WIDTH * z.edges);
     runs::copy_u16(
         shape,
         NODE_ROWS_AT,
-        words,
-        NODE_ROWS_MADE_AT,
+        made,
+        NODE_ROWS_AT,
         NODE_ROW_WIDTH * z.node_rows,
     );
-    runs::copy_u16(
-        shape,
-        AGGREGATES_AT,
-        words,
-        AGGREGATES_MADE_AT,
-        z.aggregates,
-    );
+    runs::copy_u16(shape, AGGREGATES_AT, made, AGGREGATES_AT, z.aggregates);
     runs::copy_u16(
         shape,
         VIRTUAL_STORAGES_AT,
-        words,
-        VIRTUAL_STORAGES_MADE_AT,
+        made,
+        VIRTUAL_STORAGES_AT,
         VIRTUAL_STORAGE_WIDTH * z.virtual_storages,
     );
 }

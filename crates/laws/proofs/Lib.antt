@@ -1,4 +1,5 @@
 pub mod LinkedLaws
 pub mod Runs
 pub mod Sets
+pub mod Tails
 pub mod Tests

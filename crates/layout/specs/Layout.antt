@@ -222,19 +222,19 @@ abbrev pub shapeMadeAt : ℕ
 shapeMadeAt = 5121
 
 abbrev pub nodesMadeAt : ℕ
-nodesMadeAt = 5132
+nodesMadeAt = shapeMadeAt + nodesAt
 
 abbrev pub edgesMadeAt : ℕ
-edgesMadeAt = 5644
+edgesMadeAt = shapeMadeAt + edgesAt
 
 abbrev pub nodeRowsMadeAt : ℕ
-nodeRowsMadeAt = 7180
+nodeRowsMadeAt = shapeMadeAt + nodeRowsAt
 
 abbrev pub aggregatesMadeAt : ℕ
-aggregatesMadeAt = 24588
+aggregatesMadeAt = shapeMadeAt + aggregatesAt
 
 abbrev pub virtualStoragesMadeAt : ℕ
-virtualStoragesMadeAt = 24652
+virtualStoragesMadeAt = shapeMadeAt + virtualStoragesAt
 
 abbrev pub wordsLength : ℕ
 wordsLength = 24844
@@ -279,11 +279,6 @@ pub record Follows : Type 0 where
   pub shape : shapeLength ≡ virtualStoragesAt + virtualStorageWidth * virtualStorageCeiling
   pub starts-made : startsMadeAt ≡ elementCeiling
   pub shape-made : shapeMadeAt ≡ startsMadeAt + rowStartsLength
-  pub nodes-made : nodesMadeAt ≡ shapeMadeAt + nodesAt
-  pub edges-made : edgesMadeAt ≡ shapeMadeAt + edgesAt
-  pub nodeRows-made : nodeRowsMadeAt ≡ shapeMadeAt + nodeRowsAt
-  pub aggregates-made : aggregatesMadeAt ≡ shapeMadeAt + aggregatesAt
-  pub virtualStorages-made : virtualStoragesMadeAt ≡ shapeMadeAt + virtualStoragesAt
   pub words : wordsLength ≡ shapeMadeAt + shapeLength
   pub uppers-made : uppersMadeAt ≡ rowCeiling
   pub elements-made : elementsMadeAt ≡ uppersMadeAt + rowCeiling
@@ -309,11 +304,6 @@ follows =
       shape = refl;
       starts-made = refl;
       shape-made = refl;
-      nodes-made = refl;
-      edges-made = refl;
-      nodeRows-made = refl;
-      aggregates-made = refl;
-      virtualStorages-made = refl;
       words = refl;
       uppers-made = refl;
       elements-made = refl;

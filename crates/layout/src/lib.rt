@@ -106,20 +106,10 @@ pub const PERIOD_END_MONTH: usize = 4;
 
 pub const PERIOD_END_DAY: usize = 5;
 
-// The build's work run of words: the elements' columns from 0, the row starts, then the shape run's words.
+// The build's work run of words: the elements' columns from 0, the row starts, then the shape run's words, with the offsets of the shape run.
 pub const STARTS_MADE_AT: usize = ELEMENT_CEILING;
 
 pub const SHAPE_MADE_AT: usize = STARTS_MADE_AT + ROW_STARTS_LENGTH;
-
-pub const NODES_MADE_AT: usize = SHAPE_MADE_AT + NODES_AT;
-
-pub const EDGES_MADE_AT: usize = SHAPE_MADE_AT + EDGES_AT;
-
-pub const NODE_ROWS_MADE_AT: usize = SHAPE_MADE_AT + NODE_ROWS_AT;
-
-pub const AGGREGATES_MADE_AT: usize = SHAPE_MADE_AT + AGGREGATES_AT;
-
-pub const VIRTUAL_STORAGES_MADE_AT: usize = SHAPE_MADE_AT + VIRTUAL_STORAGES_AT;
 
 pub const WORDS_LENGTH: usize = SHAPE_MADE_AT + SHAPE_LENGTH;
 

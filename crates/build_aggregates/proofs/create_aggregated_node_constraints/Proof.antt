@@ -1,10 +1,11 @@
 -- `build_aggregates::create_aggregated_node_constraints` meets its contract. The invariant: the rows of the first i aggregates are held and placed, and the next record stands at `at`. Assumes nothing.
 use mathlib.Core.Path.{_≡_, refl, sym, ap, _∙_}
-use Prim.Native.Nat.{ℕ, _-_, _≤_}
+use Prim.Native.Nat.{ℕ, _+_, _-_, _≤_}
 use native.Mathlib.Omega.{arith}
 use mathlib.Core.List.{List, [], _∷_, _++_, map}
-use lib.ListN.{length, length-set}
-use Rattle.layout.specs.Layout.{aggregatesMadeAt}
+use lib.ListN.{length}
+use Rattle.layout.specs.Layout.{aggregatesAt, aggregatesMadeAt, shapeMadeAt}
+use Rattle.laws.proofs.Tails.{tail-length, tail-kept}
 use Rattle.pywr.specs.Rows.{Element}
 use Rattle.pywr.specs.VaryingRows.{freshRow}
 use Rattle.fields.specs.Records.{recordsEnd}
@@ -56,10 +57,15 @@ to-add-aggregate-row-arg3 c =
     let after-add-aggregate-row = to-add-aggregate-row c in
     after-add-aggregate-row .before
 
-abbrev to-slice-known4 : tie.After-row-word Inv-loop μ-loop → tie.After-slice-known4 Inv-loop μ-loop
+abbrev to-slice-known4 : tie.After-put-aggregate-arg Inv-loop μ-loop → tie.After-slice-known4 Inv-loop μ-loop
 to-slice-known4 c =
     let at-match-keys2 = c .before .before .before in
     at-match-keys2 .before
+
+abbrev to-put-aggregate-arg : tie.After-slice-known5 Inv-loop μ-loop → tie.After-put-aggregate-arg Inv-loop μ-loop
+to-put-aggregate-arg c =
+    let after-row-word = c .before .before .before in
+    after-row-word .before
 
 loop-holds : tie.Need-loop-holds Inv-loop μ-loop
 unfolding recordsEnd
@@ -95,9 +101,16 @@ returns c =
     let a = l .inv .0 rows held in
     asked-full _ _ _ _ _ _ _ (omega arith) _ _ _ _ _ _ _ _ (asked-under _ (t .args .c) (t .pre .0 .sections) _ _ lt (l .inv .1)) (asked-row _ (t .args .c) (t .pre .0 .sections) _ _ lt (l .inv .1)) a (after-add-aggregate-row .add-aggregate-row .ensures _ (a .held)) _ (c .enum-told .given .1)
 
+sub-put-aggregate : tie.Need-sub-put-aggregate Inv-loop μ-loop
+sub-put-aggregate c =
+    let after-r = c .before in
+    let call = to-add-aggregate-row (after-r .before .before) .add-aggregate-row in
+    let at-loop = to-loop (to-add-aggregate-row-arg3 (after-r .before .before)) in
+    omega (arith, call .kept .1 .1 .1 .1 .1 .1 .1 .1 .1 .0, at-loop .loop .inv .3, to-start at-loop .pre .1 .words-room)
+
 row-word-requires : tie.Need-row-word-requires Inv-loop μ-loop
 row-word-requires c κs =
-    let after-r = c .before in
+    let after-r = c .before .before in
     let after-add-aggregate-row = to-add-aggregate-row (after-r .before .before) in
     let then1 = to-then1 after-add-aggregate-row in
     let at-loop = then1 .before .before in
@@ -108,60 +121,52 @@ row-word-requires c κs =
     let a = l .inv .0 (t .pre .2 .rows) (t .pre .2 .held) in
     place-fits _ _ _ _ _ _ _ (omega arith) _ _ _ _ _ _ _ _ (asked-under _ (t .args .c) (t .pre .0 .sections) _ _ lt (l .inv .1)) (asked-row _ (t .args .c) (t .pre .0 .sections) _ _ lt (l .inv .1)) a (after-add-aggregate-row .add-aggregate-row .ensures _ (a .held)) _ _ (after-r .r .given .1)
 
-add-words : tie.Need-add-words Inv-loop μ-loop
-add-words c =
-    let few = to-start (to-loop (to-add-aggregate-row-arg3 (to-slice-known4 c))) .pre .0 .sections .few-aggregates in
-    let lt = to-then1 (to-add-aggregate-row (to-slice-known4 c)) .if1 .taken in
-    search needs
-
-mul-words : tie.Need-mul-words Inv-loop μ-loop
-mul-words c =
-    let few = to-start (to-loop (to-add-aggregate-row-arg3 (to-slice-known4 c))) .pre .0 .sections .few-aggregates in
-    let lt = to-then1 (to-add-aggregate-row (to-slice-known4 c)) .if1 .taken in
-    search needs
-
-slice-write-words : tie.Need-slice-write-words Inv-loop μ-loop
-slice-write-words c =
-    let t = to-start (to-loop (to-add-aggregate-row-arg3 (to-slice-known4 c))) in
-    let l = to-loop (to-add-aggregate-row-arg3 (to-slice-known4 c)) .loop in
-    let lt = to-then1 (to-add-aggregate-row (to-slice-known4 c)) .if1 .taken in
-    let call = to-add-aggregate-row (to-slice-known4 c) .add-aggregate-row in
-    omega (arith, call .kept .1 .1 .1 .1 .1 .1 .1 .1 .1 .0, l .inv .3, t .pre .1 .words-room, t .pre .0 .sections .few-aggregates, lt)
+put-aggregate-requires : tie.Need-put-aggregate-requires Inv-loop μ-loop
+put-aggregate-requires c κs =
+    let t = to-start (to-loop (to-add-aggregate-row-arg3 (to-slice-known4 (c .before)))) in
+    let l = to-loop (to-add-aggregate-row-arg3 (to-slice-known4 (c .before))) .loop in
+    let lt = to-then1 (to-add-aggregate-row (to-slice-known4 (c .before))) .if1 .taken in
+    let call = to-add-aggregate-row (to-slice-known4 (c .before)) .add-aggregate-row in
+    omega (arith, tail-length shapeMadeAt (call .last .1 .1 .1 .1 .1 .1 .1 .1 .1 .0), call .kept .1 .1 .1 .1 .1 .1 .1 .1 .1 .0, l .inv .3, t .pre .1 .words-room, t .pre .0 .sections .few-aggregates, lt)
 
 aggregate-end-requires : tie.Need-aggregate-end-requires Inv-loop μ-loop
 aggregate-end-requires c κs =
-    let t = to-start (to-loop (to-add-aggregate-row-arg3 (to-slice-known4 c))) in
-    let l = to-loop (to-add-aggregate-row-arg3 (to-slice-known4 c)) .loop in
-    let lt = to-then1 (to-add-aggregate-row (to-slice-known4 c)) .if1 .taken in
+    let t = to-start (to-loop (to-add-aggregate-row-arg3 (to-slice-known4 (to-put-aggregate-arg c)))) in
+    let l = to-loop (to-add-aggregate-row-arg3 (to-slice-known4 (to-put-aggregate-arg c))) .loop in
+    let lt = to-then1 (to-add-aggregate-row (to-slice-known4 (to-put-aggregate-arg c))) .if1 .taken in
     aggregate-within _ _ _ (aggregate-check _ (t .args .c) (t .pre .0 .sections) _ _ lt (l .inv .1))
+
+add-i : tie.Need-add-i Inv-loop μ-loop
+add-i c =
+    let few = to-start (to-loop (to-add-aggregate-row-arg3 (to-slice-known4 (to-put-aggregate-arg (c .before))))) .pre .0 .sections .few-aggregates in
+    let lt = to-then1 (to-add-aggregate-row (to-slice-known4 (to-put-aggregate-arg (c .before)))) .if1 .taken in
+    search needs
 
 loop-less : tie.Need-loop-less Inv-loop μ-loop
 loop-less c =
-    omega (arith, to-then1 (to-add-aggregate-row (to-slice-known4 (c .before))) .if1 .taken)
+    omega (arith, to-then1 (to-add-aggregate-row (to-slice-known4 (to-put-aggregate-arg (c .before)))) .if1 .taken)
 
 loop-again : tie.Need-loop-again Inv-loop μ-loop
 loop-again c =
-    let after-row-word = c .before in
-    let after-r = after-row-word .before .before in
-    let after-numbers = after-r .before .before .before in
-    let after-add-aggregate-row = after-numbers .before .before .before in
-    let after-add-aggregate-row-arg = after-add-aggregate-row .before .before .before in
-    let then1 = after-add-aggregate-row-arg .before in
+    let after-put-aggregate = c .before .before .before in
+    let after-row-word = after-put-aggregate .before in
+    let after-r = after-row-word .before .before .before in
+    let after-add-aggregate-row = to-add-aggregate-row (after-r .before .before) in
+    let then1 = to-then1 after-add-aggregate-row in
     let at-loop = then1 .before .before in
-    let after-slice-known2 = at-loop .before .before .before in
-    let start = after-slice-known2 .before .before .before in
+    let start = to-start at-loop in
     let t = start in
     let l = at-loop .loop in
     let lt = then1 .if1 .taken in
     let call = after-add-aggregate-row .add-aggregate-row in (
       (λ rows held.
           let a = l .inv .0 rows held in
-          asked-more _ _ _ _ _ _ _ (omega arith) _ _ _ _ _ _ _ _ (asked-under _ (t .args .c) (t .pre .0 .sections) _ _ lt (l .inv .1)) (asked-row _ (t .args .c) (t .pre .0 .sections) _ _ lt (l .inv .1)) a (call .ensures _ (a .held)) _ _ (after-r .r .given .1) _ (after-row-word .row-word .result ∷ []) _ (omega arith) refl
+          asked-more _ _ _ _ _ _ _ (omega arith) _ _ _ _ _ _ _ _ (asked-under _ (t .args .c) (t .pre .0 .sections) _ _ lt (l .inv .1)) (asked-row _ (t .args .c) (t .pre .0 .sections) _ _ lt (l .inv .1)) a (call .ensures _ (a .held)) _ _ (after-r .r .given .1) (aggregatesAt + l .i) (after-row-word .row-word .result ∷ []) _ (omega arith) refl
           (omega (arith, call .kept .1 .1 .1 .1 .1 .1 .1 .1 .1 .0, l .inv .3, t .pre .1 .words-room, t .pre .0 .sections .few-aggregates, lt))
-          (λ places e. ap (λ (k : ℕ). places ++ (k ∷ [])) (sym (after-row-word .row-word .ensures))) refl),
+          (λ places e. ap (λ (k : ℕ). places ++ (k ∷ [])) (sym (after-row-word .row-word .ensures))) (after-put-aggregate .put-aggregate .ensures)),
       aggregate-next _ (t .args .c) (t .pre .0 .sections) _ _ lt (l .inv .1) _ (c .aggregate-end .ensures),
       omega arith,
-      simp length-set (call .kept .1 .1 .1 .1 .1 .1 .1 .1 .1 .0 ∙ l .inv .3),
+      tail-kept shapeMadeAt (call .last .1 .1 .1 .1 .1 .1 .1 .1 .1 .0) (after-put-aggregate .put-aggregate .last .0) (after-put-aggregate .put-aggregate .kept .0) ∙ call .kept .1 .1 .1 .1 .1 .1 .1 .1 .1 .0 ∙ l .inv .3,
       call .kept .1 .1 .1 .1 .1 .1 .1 .1 .1 .1 .0 ∙ l .inv .4,
     )
 
@@ -195,12 +200,13 @@ create-aggregated-node-constraints-spec =
     same-length-2
     returns
     (λ c. search needs)
-    row-word-requires
-    add-words
-    mul-words
-    slice-write-words
-    aggregate-end-requires
+    sub-put-aggregate
+    sub-put-aggregate
     (λ c. search needs)
+    row-word-requires
+    put-aggregate-requires
+    aggregate-end-requires
+    add-i
     loop-less
     loop-again
     same-length-3

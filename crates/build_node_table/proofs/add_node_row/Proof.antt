@@ -1,5 +1,7 @@
 -- `build_node_table::add_node_row` meets its contract. Assumes nothing.
 use native.Mathlib.Omega.{arith}
+use Rattle.layout.specs.Layout.{shapeMadeAt}
+use Rattle.laws.proofs.Tails.{tail-length}
 use Rattle.build_node_table.specs.NodeTable.{joined}
 use Rattle.build_node_table.proofs.Table.{place-fits, row-full, row-placed}
 use borrow.Author.Needs.{needs}
@@ -27,6 +29,12 @@ row-word-requires c κs =
     let h = to-start (to-add-variable-row (to-slice-known4 c)) .pre .3 in
     place-fits _ (joined (h .asks) .rows) _ _ _ _ _ _ _ (h .held .held) (to-add-variable-row (to-slice-known4 c) .add-variable-row .ensures (joined (h .asks) .rows) (h .held .held)) _ _ (c .before .before .r .given .1)
 
+put-node-row-requires : tie.Need-put-node-row-requires
+put-node-row-requires c κs =
+    let after-add-variable-row = to-add-variable-row (to-slice-known4 (c .before)) in
+    let start = to-start after-add-variable-row in
+    omega (arith, tail-length shapeMadeAt (after-add-variable-row .add-variable-row .last .0), after-add-variable-row .add-variable-row .kept .0, start .pre .0 .words-room, start .pre .4)
+
 returns : tie.Need-returns
 returns c =
     λ t et asks h. row-full _ asks _ _ _ _ _ _ _ h (to-add-variable-row (c .before .before) .add-variable-row .ensures (joined asks .rows) (h .held)) (c .enum-told .given .1)
@@ -51,8 +59,11 @@ add-node-row-spec =
     (λ c κs. search needs)
     (λ c. search needs)
     (λ c. search needs)
+    (λ c. search needs)
+    (λ c. search needs)
+    (λ c. search needs)
     row-word-requires
-    (λ c κs. search needs)
+    put-node-row-requires
     (λ c. search needs)
     (λ c. search needs)
     (λ c. search needs)

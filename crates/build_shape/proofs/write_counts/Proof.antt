@@ -7,68 +7,68 @@ use borrow.Author.Needs.{needs}
 use Rattle.build_shape.proofs.write_counts.Statement.{statement}
 use Rattle.build_shape.proofs.write_counts.Tie as tie
 
-slice-write-words-2 : tie.Need-slice-write-words-2
-slice-write-words-2 c =
+slice-write-shape-2 : tie.Need-slice-write-shape-2
+slice-write-shape-2 c =
     simp length-set (omega (arith, c .before .before .before .pre .0))
 
-slice-write-words-3 : tie.Need-slice-write-words-3
-slice-write-words-3 c =
+slice-write-shape-3 : tie.Need-slice-write-shape-3
+slice-write-shape-3 c =
     let after-slice-known = c .before .before .before in
     let start = after-slice-known .before in
     simp length-set (omega (arith, start .pre .0))
 
-slice-write-words-4 : tie.Need-slice-write-words-4
-slice-write-words-4 c =
+slice-write-shape-4 : tie.Need-slice-write-shape-4
+slice-write-shape-4 c =
     let after-sentinel-word = c .before .before .before in
     let start = after-sentinel-word .before .before in
     simp length-set (omega (arith, start .pre .0))
 
-slice-write-words-5 : tie.Need-slice-write-words-5
-slice-write-words-5 c =
+slice-write-shape-5 : tie.Need-slice-write-shape-5
+slice-write-shape-5 c =
     let after-narrow16 = c .before .before .before in
     let start = after-narrow16 .before .before .before in
     simp length-set (omega (arith, start .pre .0))
 
-slice-write-words-6 : tie.Need-slice-write-words-6
-slice-write-words-6 c =
+slice-write-shape-6 : tie.Need-slice-write-shape-6
+slice-write-shape-6 c =
     let after-narrow162 = c .before .before .before in
     let after-slice-known = after-narrow162 .before .before .before in
     let start = after-slice-known .before in
     simp length-set (omega (arith, start .pre .0))
 
-slice-write-words-7 : tie.Need-slice-write-words-7
-slice-write-words-7 c =
+slice-write-shape-7 : tie.Need-slice-write-shape-7
+slice-write-shape-7 c =
     let after-narrow164 = c .before .before .before in
     let after-narrow16 = after-narrow164 .before .before .before in
     let start = after-narrow16 .before .before .before in
     simp length-set (omega (arith, start .pre .0))
 
-slice-write-words-8 : tie.Need-slice-write-words-8
-slice-write-words-8 c =
+slice-write-shape-8 : tie.Need-slice-write-shape-8
+slice-write-shape-8 c =
     let after-narrow165 = c .before .before .before in
     let after-narrow162 = after-narrow165 .before .before .before in
     let after-slice-known = after-narrow162 .before .before .before in
     let start = after-slice-known .before in
     simp length-set (omega (arith, start .pre .0))
 
-slice-write-words-9 : tie.Need-slice-write-words-9
-slice-write-words-9 c =
+slice-write-shape-9 : tie.Need-slice-write-shape-9
+slice-write-shape-9 c =
     let after-struct-known = c .before .before .before in
     let after-narrow163 = after-struct-known .before .before .before in
     let after-sentinel-word = after-narrow163 .before .before .before in
     let start = after-sentinel-word .before .before in
     simp length-set (omega (arith, start .pre .0))
 
-slice-write-words-10 : tie.Need-slice-write-words-10
-slice-write-words-10 c =
+slice-write-shape-10 : tie.Need-slice-write-shape-10
+slice-write-shape-10 c =
     let after-narrow166 = c .before .before .before in
     let after-narrow164 = after-narrow166 .before .before .before in
     let after-narrow16 = after-narrow164 .before .before .before in
     let start = after-narrow16 .before .before .before in
     simp length-set (omega (arith, start .pre .0))
 
-slice-write-words-11 : tie.Need-slice-write-words-11
-slice-write-words-11 c =
+slice-write-shape-11 : tie.Need-slice-write-shape-11
+slice-write-shape-11 c =
     let after-narrow167 = c .before .before .before in
     let after-narrow165 = after-narrow167 .before .before .before in
     let after-narrow162 = after-narrow165 .before .before .before in
@@ -102,25 +102,25 @@ write-counts-spec =
     (λ c κs. search needs)
     (λ c. search needs)
     (λ c κs. search needs)
-    slice-write-words-2
+    slice-write-shape-2
     (λ c κs. search needs)
-    slice-write-words-3
+    slice-write-shape-3
     (λ c κs. search needs)
-    slice-write-words-4
+    slice-write-shape-4
     (λ c κs. search needs)
-    slice-write-words-5
+    slice-write-shape-5
     (λ c κs. search needs)
-    slice-write-words-6
+    slice-write-shape-6
     (λ c. search needs)
     (λ c κs. search needs)
-    slice-write-words-7
+    slice-write-shape-7
     (λ c κs. search needs)
-    slice-write-words-8
+    slice-write-shape-8
     (λ c κs. search needs)
-    slice-write-words-9
+    slice-write-shape-9
     (λ c κs. search needs)
-    slice-write-words-10
+    slice-write-shape-10
     (λ c κs. search needs)
-    slice-write-words-11
+    slice-write-shape-11
     same-length
     returns)

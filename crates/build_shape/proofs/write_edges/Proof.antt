@@ -10,10 +10,10 @@ use Rattle.build_shape.proofs.write_edges.Statement.{statement}
 use Rattle.build_shape.proofs.write_edges.Tie as tie
 
 abbrev Inv-loop : tie.InvT-loop
-Inv-loop s nodes edges edge-to-col words₀ i₀ words i = EdgesWritten s edge-to-col nodes words₀ edges words i
+Inv-loop s nodes edges edge-to-col shape₀ i₀ shape i = EdgesWritten s edge-to-col nodes shape₀ edges shape i
 
 abbrev μ-loop : tie.MeasureT-loop
-μ-loop s nodes edges edge-to-col words₀ i₀ words i = edges - i
+μ-loop s nodes edges edge-to-col shape₀ i₀ shape i = edges - i
 
 -- from a place to an earlier one
 abbrev to-start : tie.After-narrow16 Inv-loop μ-loop → tie.Start Inv-loop μ-loop
@@ -26,7 +26,7 @@ to-loop c =
     let in-loop = c .before .before .before in
     in-loop .before
 
-abbrev to-in-loop : tie.After-words Inv-loop μ-loop → tie.In-loop Inv-loop μ-loop
+abbrev to-in-loop : tie.After-shape Inv-loop μ-loop → tie.In-loop Inv-loop μ-loop
 to-in-loop c =
     let after-narrow16 = c .before .before .before in
     after-narrow16 .before
@@ -43,24 +43,24 @@ to-node-index-requires : tie.Need-to-node-index-requires Inv-loop μ-loop
 to-node-index-requires c κs =
     omega (arith, c .before .narrow16 .ensures, to-start (c .before) .pre .2)
 
-slice-write-words : tie.Need-slice-write-words Inv-loop μ-loop
-slice-write-words c =
+slice-write-shape : tie.Need-slice-write-shape Inv-loop μ-loop
+slice-write-shape c =
     let start = to-start (c .before .before) in
     omega (arith, to-loop c .loop .inv .long, start .pre .1, start .pre .3)
 
-slice-write-words-2 : tie.Need-slice-write-words-2 Inv-loop μ-loop
-slice-write-words-2 c =
+slice-write-shape-2 : tie.Need-slice-write-shape-2 Inv-loop μ-loop
+slice-write-shape-2 c =
     let in-loop = c .before .before .before in
     let at-loop = in-loop .before in
     let start = at-loop .before .before .before in
     simp length-set (omega (arith, at-loop .loop .inv .long, start .pre .1, start .pre .3))
 
-sub-words : tie.Need-sub-words Inv-loop μ-loop
-sub-words c =
+sub-shape : tie.Need-sub-shape Inv-loop μ-loop
+sub-shape c =
     to-start (c .before .before .before) .pre .4 (to-loop (c .before) .loop .i) (to-in-loop c .loop-test .taken)
 
-slice-write-words-3 : tie.Need-slice-write-words-3 Inv-loop μ-loop
-slice-write-words-3 c =
+slice-write-shape-3 : tie.Need-slice-write-shape-3 Inv-loop μ-loop
+slice-write-shape-3 c =
     let after-narrow16 = c .before .before .before in
     let at-loop = after-narrow16 .before .before in
     let start = at-loop .before .before .before in
@@ -98,20 +98,20 @@ write-edges-spec =
     (λ c. search needs)
     (λ c. search needs)
     (λ c. search needs)
-    slice-write-words
+    slice-write-shape
     (λ c. search needs)
     (λ c. search needs)
     (λ c. search needs)
     (λ c. search needs)
-    slice-write-words-2
+    slice-write-shape-2
     (λ c. search needs)
     (λ c. search needs)
-    sub-words
+    sub-shape
     (λ c. search needs)
     (λ c. search needs)
     (λ c. search needs)
     (λ c. search needs)
-    slice-write-words-3
+    slice-write-shape-3
     (λ c. search needs)
     (λ c. search needs)
     loop-again

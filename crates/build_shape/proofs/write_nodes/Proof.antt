@@ -11,10 +11,10 @@ use Rattle.build_shape.proofs.write_nodes.Statement.{statement}
 use Rattle.build_shape.proofs.write_nodes.Tie as tie
 
 abbrev Inv-loop : tie.InvT-loop
-Inv-loop s nodes words₀ i₀ words i = NodesWritten s words₀ nodes words i
+Inv-loop s nodes shape₀ i₀ shape i = NodesWritten s shape₀ nodes shape i
 
 abbrev μ-loop : tie.MeasureT-loop
-μ-loop s nodes words₀ i₀ words i = nodes - i
+μ-loop s nodes shape₀ i₀ shape i = nodes - i
 
 -- from a place to an earlier one
 abbrev to-start : tie.After-narrow16 Inv-loop μ-loop → tie.Start Inv-loop μ-loop
@@ -35,8 +35,8 @@ kind-requires : tie.Need-kind-requires Inv-loop μ-loop
 kind-requires c κs =
     omega (arith, c .narrow16 .ensures, to-start c .pre .1)
 
-slice-write-words : tie.Need-slice-write-words Inv-loop μ-loop
-slice-write-words c =
+slice-write-shape : tie.Need-slice-write-shape Inv-loop μ-loop
+slice-write-shape c =
     let start = to-start (c .before .before) in
     omega (arith, to-loop c .loop .inv .long, start .pre .0, start .pre .2)
 
@@ -44,8 +44,8 @@ is-constant-requires : tie.Need-is-constant-requires Inv-loop μ-loop
 is-constant-requires c κs =
     omega (arith, c .before .before .narrow16 .ensures, to-start (c .before .before) .pre .1)
 
-slice-write-words-2 : tie.Need-slice-write-words-2 Inv-loop μ-loop
-slice-write-words-2 c =
+slice-write-shape-2 : tie.Need-slice-write-shape-2 Inv-loop μ-loop
+slice-write-shape-2 c =
     let after-kind = c .before .before .before in
     let at-loop = after-kind .before .before .before in
     let start = at-loop .before .before .before in
@@ -63,8 +63,8 @@ loop-again c =
     let e = after-narrow16 .narrow16 .ensures in
     nodes-more _ _ _ _ _ _ _ (in-loop .loop-test .taken) (after-word .word .ensures ∙ after-kind .kind .ensures ∙ ap (λ (k : ℕ). nodeAt (start .args .s .now) (20 * k) .kind) e) (flag-yes _ (sym (after-is-constant .is-constant .ensures ∙ ap (λ (k : ℕ). nodeAt (start .args .s .now) (20 * k) .constant) e) ∙ c .if1 .taken)) (at-loop .loop .inv)
 
-slice-write-words-3 : tie.Need-slice-write-words-3 Inv-loop μ-loop
-slice-write-words-3 c =
+slice-write-shape-3 : tie.Need-slice-write-shape-3 Inv-loop μ-loop
+slice-write-shape-3 c =
     let after-kind = c .before .before .before in
     let at-loop = after-kind .before .before .before in
     let start = at-loop .before .before .before in
@@ -103,13 +103,13 @@ write-nodes-spec =
     (λ c. search needs)
     (λ c. search needs)
     (λ c. search needs)
-    slice-write-words
+    slice-write-shape
     is-constant-requires
     (λ c. search needs)
     (λ c. search needs)
     (λ c. search needs)
     (λ c. search needs)
-    slice-write-words-2
+    slice-write-shape-2
     (λ c. search needs)
     (λ c. search needs)
     loop-again
@@ -117,7 +117,7 @@ write-nodes-spec =
     (λ c. search needs)
     (λ c. search needs)
     (λ c. search needs)
-    slice-write-words-3
+    slice-write-shape-3
     (λ c. search needs)
     (λ c. search needs)
     loop-again-2

@@ -1,10 +1,11 @@
 -- `build_virtual_storages::create_virtual_storage_constraints` meets its contract. The invariant: the rows of the first i virtual storages are held and placed, and the next record stands at `at`. Assumes nothing.
 use mathlib.Core.Path.{_≡_, refl, _∙_}
-use Prim.Native.Nat.{_-_, _≤_}
+use Prim.Native.Nat.{_+_, _*_, _-_, _≤_}
 use native.Mathlib.Omega.{arith}
 use mathlib.Core.List.{List, map}
 use lib.ListN.{length}
-use Rattle.layout.specs.Layout.{virtualStoragesMadeAt}
+use Rattle.layout.specs.Layout.{shapeMadeAt, virtualStoragesAt, virtualStoragesMadeAt}
+use Rattle.laws.proofs.Tails.{tail-length, tail-kept}
 use Rattle.pywr.specs.Rows.{Element}
 use Rattle.pywr.specs.VaryingRows.{freshRow}
 use Rattle.pywr.proofs.StoreLaws.{virtual-storage-wide}
@@ -109,17 +110,12 @@ active-period-requires c κs =
     let lt = to-then1 (to-add-virtual-storage-row (c .before .before .before)) .if1 .taken in
     fields-within _ _ _ (virtual-storage-check _ (t .args .c) (t .pre .0 .sections) _ _ lt (l .inv .1))
 
-mul-put-virtual-storage : tie.Need-mul-put-virtual-storage Inv-loop μ-loop
-mul-put-virtual-storage c =
-    let few = to-start (to-loop (to-add-virtual-storage-row-arg3 (to-slice-known4 c))) .pre .0 .sections .few-virtual-storages in
-    let lt = to-then1 (to-add-virtual-storage-row (to-slice-known4 c)) .if1 .taken in
-    search needs
-
-add-put-virtual-storage : tie.Need-add-put-virtual-storage Inv-loop μ-loop
-add-put-virtual-storage c =
-    let few = to-start (to-loop (to-add-virtual-storage-row-arg3 (to-slice-known4 c))) .pre .0 .sections .few-virtual-storages in
-    let lt = to-then1 (to-add-virtual-storage-row (to-slice-known4 c)) .if1 .taken in
-    search needs
+sub-put-virtual-storage : tie.Need-sub-put-virtual-storage Inv-loop μ-loop
+sub-put-virtual-storage c =
+    let after-r = c .before .before in
+    let call = to-add-virtual-storage-row (after-r .before .before) .add-virtual-storage-row in
+    let at-loop = to-loop (to-add-virtual-storage-row-arg3 (after-r .before .before)) in
+    omega (arith, call .kept .1 .1 .1 .1 .1 .1 .1 .1 .1 .0, at-loop .loop .inv .3, to-start at-loop .pre .1 .words-room)
 
 row-word-requires : tie.Need-row-word-requires Inv-loop μ-loop
 row-word-requires c κs =
@@ -140,7 +136,7 @@ put-virtual-storage-requires c κs =
     let l = to-loop (to-add-virtual-storage-row-arg3 (to-slice-known4 (c .before))) .loop in
     let lt = to-then1 (to-add-virtual-storage-row (to-slice-known4 (c .before))) .if1 .taken in
     let call = to-add-virtual-storage-row (to-slice-known4 (c .before)) .add-virtual-storage-row in
-    omega (arith, call .kept .1 .1 .1 .1 .1 .1 .1 .1 .1 .0, l .inv .3, t .pre .1 .words-room, t .pre .0 .sections .few-virtual-storages, lt)
+    omega (arith, tail-length shapeMadeAt (call .last .1 .1 .1 .1 .1 .1 .1 .1 .1 .0), call .kept .1 .1 .1 .1 .1 .1 .1 .1 .1 .0, l .inv .3, t .pre .1 .words-room, t .pre .0 .sections .few-virtual-storages, lt)
 
 virtual-storage-end-requires : tie.Need-virtual-storage-end-requires Inv-loop μ-loop
 virtual-storage-end-requires c κs =
@@ -175,13 +171,13 @@ loop-again c =
     let call = after-add-virtual-storage-row .add-virtual-storage-row in (
       (λ rows held.
           let a = l .inv .0 rows held in
-          asked-more _ _ _ _ _ _ _ (omega arith) _ _ _ _ _ _ _ _ (asked-under _ (t .args .c) (t .pre .0 .sections) _ _ lt (l .inv .1)) (asked-row _ (t .args .c) (t .pre .0 .sections) _ _ lt (l .inv .1)) a (call .ensures _ (a .held)) _ _ (after-r .r .given .1) _ _ _ refl (virtual-storage-wide _)
+          asked-more _ _ _ _ _ _ _ (omega arith) _ _ _ _ _ _ _ _ (asked-under _ (t .args .c) (t .pre .0 .sections) _ _ lt (l .inv .1)) (asked-row _ (t .args .c) (t .pre .0 .sections) _ _ lt (l .inv .1)) a (call .ensures _ (a .held)) _ _ (after-r .r .given .1) (virtualStoragesAt + 6 * l .i) _ _ (omega arith) (virtual-storage-wide _)
           (omega (arith, call .kept .1 .1 .1 .1 .1 .1 .1 .1 .1 .0, l .inv .3, t .pre .1 .words-room, t .pre .0 .sections .few-virtual-storages, lt))
           (table-more _ (t .args .c) (t .pre .0 .sections) _ _ lt (l .inv .1) _)
           (entry-same _ _ _ _ _ _ _ (after-put-virtual-storage .put-virtual-storage .ensures) (after-row-word .row-word .ensures) (after-active-period .active-period .ensures))),
       virtual-storage-next _ (t .args .c) (t .pre .0 .sections) _ _ lt (l .inv .1) _ (c .virtual-storage-end .ensures),
       omega arith,
-      after-put-virtual-storage .put-virtual-storage .kept .0 ∙ call .kept .1 .1 .1 .1 .1 .1 .1 .1 .1 .0 ∙ l .inv .3,
+      tail-kept shapeMadeAt (call .last .1 .1 .1 .1 .1 .1 .1 .1 .1 .0) (after-put-virtual-storage .put-virtual-storage .last .0) (after-put-virtual-storage .put-virtual-storage .kept .0) ∙ call .kept .1 .1 .1 .1 .1 .1 .1 .1 .1 .0 ∙ l .inv .3,
       call .kept .1 .1 .1 .1 .1 .1 .1 .1 .1 .1 .0 ∙ l .inv .4,
     )
 
@@ -213,8 +209,9 @@ create-virtual-storage-constraints-spec =
     returns
     (λ c. search needs)
     active-period-requires
-    mul-put-virtual-storage
-    add-put-virtual-storage
+    sub-put-virtual-storage
+    sub-put-virtual-storage
+    (λ c. search needs)
     row-word-requires
     put-virtual-storage-requires
     virtual-storage-end-requires
