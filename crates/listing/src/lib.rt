@@ -1,5 +1,5 @@
 // A stored programme written on standard output, one item a line; the line of a refusal; the line of a step.
-// What stands in each line is proved, in `listing_lines` and `stored_lines`; the functions here answer how many bytes the text has that they hand to
+// What stands in each line is proved, in `listing_lines` and `listing_stored`; the functions here answer how many bytes the text has that they hand to
 // standard output. That the bytes go out is not stated: output is outside the logic. Where a write fails the answer says so, the rest is not
 // written, and errno says why.
 use layout::EDGE_COLUMN_COUNT_AT;

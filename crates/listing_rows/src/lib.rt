@@ -1,5 +1,5 @@
 // The rows of a store put into a lent buffer line by line, which is written on standard output where it is full.
-// What stands in each line is proved, in `listing_lines` and `stored_lines`, and how many bytes the lines have together, here.
+// What stands in each line is proved, in `listing_lines` and `listing_stored`, and how many bytes the lines have together, here.
 // That the bytes go out is not stated: output is outside the logic. `written` says whether standard output took all that it was handed so far; where a
 // write failed, nothing more is written, and errno says why.
 use layout::FIXED_COUNT_AT;
