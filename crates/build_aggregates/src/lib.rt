@@ -211,7 +211,7 @@ pub fn create_aggregated_node_constraints(
                 return RowsAdded::Full;
             }
             VariableRow::At(row, more) => {
-                put_aggregate(&mut words[SHAPE_MADE_AT..], i, build_join::row_word(row));
+                put_aggregate(&mut words[SHAPE_MADE_AT..], i, widths::narrow16(row));
                 filled = more;
                 at = network_aggregate::aggregate_end(s, at);
                 i += 1;

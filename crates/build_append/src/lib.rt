@@ -38,21 +38,6 @@ pub fn start_rows(words: &mut [u16])
     words[STARTS_MADE_AT] = 0;
 }
 
-// A column number and a row start in the width of the words.
-fn column_word(column: ColumnNumber) -> u16
-    requires { ⌜ column < columnCeiling ⌝ }
-    ensures { λ r. ⌜ r ≡ column ⌝ }
-{
-    column as u16
-}
-
-fn start_word(start: usize) -> u16
-    requires { ⌜ start ≤ elementCeiling ⌝ }
-    ensures { λ r. ⌜ r ≡ start ⌝ }
-{
-    start as u16
-}
-
 // The first n column numbers, put into words from `at` on.
 fn put_columns(words: &mut [u16], at: usize, columns: &[ColumnNumber], n: usize)
     requires { ⌜ (at + n ≤ length (now words)) × (n ≤ length (now columns)) × Rising (now columns) n ⌝ }
@@ -60,7 +45,7 @@ fn put_columns(words: &mut [u16], at: usize, columns: &[ColumnNumber], n: usize)
 {
     let mut i: usize = 0;
     while i < n {
-        words[at + i] = column_word(columns[i]);
+        words[at + i] = widths::u32_to_u16(columns[i]);
         i += 1;
     }
 }
@@ -90,7 +75,7 @@ pub fn add_fixed_row(
         return RowsAdded::Full;
     }
     put_columns(words, elements, run, n);
-    words[STARTS_MADE_AT + rows + 1] = start_word(elements + n);
+    words[STARTS_MADE_AT + rows + 1] = widths::narrow16(elements + n);
     numbers[rows] = bounds.lower;
     numbers[UPPERS_MADE_AT + rows] = bounds.upper;
     RowsAdded::Done(Filled {

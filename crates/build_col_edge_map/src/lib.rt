@@ -28,9 +28,9 @@ pub fn add_simple_edge(
     ensures { λ r. ⌜ (r ≤ count + 1) × ((c : Columns) → Mapped c (now («edge_to_col» .entry)) count → edge .0 < length (c .of)
         → Mapped (addSimpleEdge (columnAt c (edge .0)) (edge .0) c) (now («edge_to_col» .exit)) r) ⌝ }
 {
-    let e = fields::wide16(edge.0);
+    let e = widths::wide16(edge.0);
     if edge_to_col[e] == 0 {
-        edge_to_col[e] = fields::narrow16(count + 1);
+        edge_to_col[e] = widths::narrow16(count + 1);
         return count + 1;
     }
     count
@@ -47,13 +47,13 @@ pub fn add_equal_edges(
     ensures { λ r. ⌜ (r ≤ count + 1) × ((c : Columns) → Mapped c (now («edge_to_col» .entry)) count → edge .0 < length (c .of) → before .0 < length (c .of)
         → Mapped (addEqualEdges (columnAt c (edge .0)) (columnAt c (before .0)) (edge .0) (before .0) c) (now («edge_to_col» .exit)) r) ⌝ }
 {
-    let e = fields::wide16(edge.0);
-    let b = fields::wide16(before.0);
+    let e = widths::wide16(edge.0);
+    let b = widths::wide16(before.0);
     let column = edge_to_col[e];
     let other = edge_to_col[b];
     if column == 0 {
         if other == 0 {
-            let new = fields::narrow16(count + 1);
+            let new = widths::narrow16(count + 1);
             edge_to_col[e] = new;
             edge_to_col[b] = new;
             return count + 1;
@@ -72,12 +72,12 @@ fn only_edge(first: &[u16; NODE_CEILING], next: &[u16; EDGE_CEILING], node: Node
     requires { ⌜ (node .0 < nodeCeiling) × (getD (now first) (node .0) 0 ≤ edgeCeiling) ⌝ }
     ensures { λ r. ⌜ ((size : ℕ) (js : List ℕ) → Linked size (now (next .entry)) (getD (now (first .entry)) (node .0) 0) js → r ≡ code (only js)) ⌝ }
 {
-    let k = fields::wide16(node.0);
+    let k = widths::wide16(node.0);
     let entry = first[k];
     if entry == 0 {
         return 0;
     }
-    let e = fields::wide16(entry) - 1;
+    let e = widths::wide16(entry) - 1;
     if next[e] == 0 {
         return entry;
     }
@@ -127,7 +127,7 @@ pub fn map_edges(
     let mut count: usize = 0;
     let mut e: usize = 0;
     while e < edges {
-        let edge = EdgeIndex(fields::narrow16(e));
+        let edge = EdgeIndex(widths::narrow16(e));
         let from = network_edge::from_node_index(s, nodes, edge);
         let before = shares_with(s, first_in, next_in, first_out, next_out, from);
         if before == 0 {

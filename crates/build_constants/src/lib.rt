@@ -102,9 +102,9 @@ fn add_exclusive_rows(
         → AfterRows (rows ++ exclusiveRows sentinel (columnMap (networkOf (now (s .entry)) c)) (node .0) (nodeAt (now (s .entry)) (nodePlace (node .0))) (setsWithNode (node .0) 0 (columnMap (networkOf (now (s .entry)) c) .sets)))
         (now (words .entry)) r (now (words .exit)) (now (numbers .exit))) ⌝ }
 {
-    let k = fields::wide16(node.0);
+    let k = widths::wide16(node.0);
     let mut filled = f;
-    let mut link = fields::wide16(first_membership[k]);
+    let mut link = widths::wide16(first_membership[k]);
     while link != 0 {
         let membership = link - 1;
         let r = build_set_rows::add_bounded_rows(
@@ -130,7 +130,7 @@ fn add_exclusive_rows(
             }
             RowsAdded::Done(g) => {
                 filled = g;
-                link = fields::wide16(next_membership[membership]);
+                link = widths::wide16(next_membership[membership]);
             }
         }
     }
@@ -166,7 +166,7 @@ fn add_constant_rows(
     if !network_node::is_constant(s, node) {
         return RowsAdded::Done(f);
     }
-    let k = fields::wide16(node.0);
+    let k = widths::wide16(node.0);
     if first_membership[k] == 0 {
         return add_node_row(
             s,
@@ -243,7 +243,7 @@ pub fn create_constant_constraints(
             edge_columns,
             first_membership,
             next_membership,
-            NodeIndex(fields::narrow16(i)),
+            NodeIndex(widths::narrow16(i)),
             sentinel,
             words,
             numbers,

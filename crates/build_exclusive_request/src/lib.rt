@@ -55,7 +55,7 @@ fn request_bounded_rows(
     ensures { λ r. ⌜ ((asks : List RowRequest) → NodeRowsHeld sentinel asks (now (words .entry)) (now (numbers .entry)) rows
         → AfterRequests sentinel (asks ++ exclusiveRequests (columnMap (networkOf (now (s .entry)) c)) (node .0) (set ∷ [])) r (now (words .exit)) (now (numbers .exit))) ⌝ }
 {
-    let column = ColumnIndex(fields::narrow16(edge_columns + fields::wide16(set)));
+    let column = ColumnIndex(widths::narrow16(edge_columns + widths::wide16(set)));
     let r = build_node_request::request_bounded_row(
         s,
         c,
@@ -128,7 +128,7 @@ pub fn request_exclusive_rows(
     ensures { λ r. ⌜ AfterRequests sentinel (requestsBefore (columnMap (networkOf (now (s .entry)) c)) (node .0) ++ listedRequests (columnMap (networkOf (now (s .entry)) c)) (node .0))
         r (now (words .exit)) (now (numbers .exit)) ⌝ }
 {
-    let k = fields::wide16(node.0);
+    let k = widths::wide16(node.0);
     let mut held = rows;
     let mut link = first_membership[k];
     while link != 0 {
@@ -156,7 +156,7 @@ pub fn request_exclusive_rows(
             }
             NodeRowsAdded::Done(more) => {
                 held = more;
-                link = next_membership[fields::wide16(membership)];
+                link = next_membership[widths::wide16(membership)];
             }
         }
     }

@@ -54,7 +54,7 @@ pub fn set_number(s: &[u8], set_at: &[u16; SET_CEILING], count: usize, at: usize
 {
     let mut k: usize = 0;
     while k < count {
-        if same_set(s, fields::wide16(set_at[k]), at) {
+        if same_set(s, widths::wide16(set_at[k]), at) {
             return k;
         }
         k += 1;
@@ -79,7 +79,7 @@ fn add_sets(s: &[u8], at: usize, known: usize, set_at: &mut [u16; SET_CEILING]) 
             if count == SET_CEILING {
                 return Sets::TooMany;
             }
-            set_at[count] = fields::narrow16(here);
+            set_at[count] = widths::narrow16(here);
             count += 1;
             here = network_aggregate::set_end(s, here);
             i += 1;
@@ -134,9 +134,9 @@ fn list_set(
     while 0 < i {
         i -= 1;
         let m = network_aggregate::member(s, at, i);
-        let n = fields::wide16(m.0);
+        let n = widths::wide16(m.0);
         next[SET_SIZE_CEILING * k + i] = first[n];
-        first[n] = fields::narrow16(SET_SIZE_CEILING * k + i + 1);
+        first[n] = widths::narrow16(SET_SIZE_CEILING * k + i + 1);
     }
 }
 
@@ -156,6 +156,6 @@ pub fn list_members(
     let mut k = sets;
     while 0 < k {
         k -= 1;
-        list_set(s, k, fields::wide16(set_at[k]), first, next);
+        list_set(s, k, widths::wide16(set_at[k]), first, next);
     }
 }

@@ -31,12 +31,6 @@ use pywr::ColumnIndex;
 use pywr::ColumnNumber;
 use pywr::Interval;
 
-fn active_bound(active: u32) -> f64
-    ensures { λ r. ⌜ r ≡ double active ⌝ }
-{
-    active as f64
-}
-
 // The row of the aggregate at `at` gathered: 1 on the column of each of its sets.
 fn exclusivity_row(
     s: &[u8],
@@ -57,7 +51,7 @@ fn exclusivity_row(
     let mut i: usize = 0;
     while i < count {
         let k = build_exclusive_sets::set_number(s, set_at, sets, here);
-        let column = ColumnIndex(fields::narrow16(edge_columns + k));
+        let column = ColumnIndex(widths::narrow16(edge_columns + k));
         n = build_row::add_element(columns, elements, n, column, 1.0);
         here = network_aggregate::set_end(s, here);
         i += 1;
@@ -85,8 +79,8 @@ fn add_exclusivity_row(
         → AfterRows (rows ++ exclusivityRows map (aggregateAt (now (s .entry)) at ∷ [])) (now (words .entry)) r (now (words .exit)) (now (numbers .exit))) ⌝ }
 {
     if network_aggregate::is_exclusive(s, at) {
-        let lower = active_bound(network_aggregate::min_active(s, at));
-        let upper = active_bound(network_aggregate::max_active(s, at));
+        let lower = widths::u32_to_f64(network_aggregate::min_active(s, at));
+        let upper = widths::u32_to_f64(network_aggregate::max_active(s, at));
         let from = ELEMENTS_MADE_AT + f.elements;
         let n = exclusivity_row(
             s,

@@ -30,8 +30,8 @@ pub fn list_edges(
     let mut e = edges;
     while 0 < e {
         e -= 1;
-        let node = fields::wide16(fields::u16_at(s, NODE_LENGTH * nodes + EDGE_LENGTH * e + end));
+        let node = widths::wide16(fields::u16_at(s, NODE_LENGTH * nodes + EDGE_LENGTH * e + end));
         next[e] = first[node];
-        first[node] = fields::narrow16(e + 1);
+        first[node] = widths::narrow16(e + 1);
     }
 }

@@ -21,19 +21,6 @@ use layout::ELEMENTS_MADE_AT;
 use layout::STARTS_MADE_AT;
 use pywr::ColumnNumber;
 
-// A column number and a row start out of a word.
-fn wide_column(word: u16) -> ColumnNumber
-    ensures { λ r. ⌜ (r ≡ word) × (r < 65536) ⌝ }
-{
-    word as ColumnNumber
-}
-
-fn wide_start(word: u16) -> usize
-    ensures { λ r. ⌜ (r ≡ word) × (r < 65536) ⌝ }
-{
-    word as usize
-}
-
 // Whether the n elements from `at` on stand on the gathered row's columns and equal its elements, which stand from `from` on.
 fn same_elements(
     words: &[u16],
@@ -49,7 +36,7 @@ fn same_elements(
 {
     let mut i: usize = 0;
     while i < n {
-        if wide_column(words[at + i]) != columns[i] {
+        if widths::u16_to_u32(words[at + i]) != columns[i] {
             return false;
         }
         if numbers[ELEMENTS_MADE_AT + at + i] != numbers[ELEMENTS_MADE_AT + from + i] {
@@ -74,8 +61,8 @@ fn same_row(
         → r ≡ sameRow (getD (elementLists rows) k []) (gathered (now (columns .entry)) (drop (elementsMadeAt + f .elements) (now (numbers .entry))) n)) ⌝ }
 {
     let from = f.elements;
-    let at = wide_start(words[STARTS_MADE_AT + k]);
-    let end = wide_start(words[STARTS_MADE_AT + k + 1]);
+    let at = widths::wide16(words[STARTS_MADE_AT + k]);
+    let end = widths::wide16(words[STARTS_MADE_AT + k + 1]);
     if end - at != n {
         return false;
     }
@@ -146,12 +133,4 @@ pub fn add_variable_row(
         RowsAdded::Done(filled) => VariableRow::At(k, filled),
         RowsAdded::Full => VariableRow::Full,
     }
-}
-
-// A row's number in the width of the words.
-pub fn row_word(row: usize) -> u16
-    requires { ⌜ row < 65536 ⌝ }
-    ensures { λ r. ⌜ r ≡ row ⌝ }
-{
-    row as u16
 }

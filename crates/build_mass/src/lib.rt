@@ -70,7 +70,7 @@ fn add_mass_row(
     if network_node::kind(s, node) != 2 {
         return RowsAdded::Done(f);
     }
-    let k = fields::wide16(node.0);
+    let k = widths::wide16(node.0);
     let at = ELEMENTS_MADE_AT + f.elements;
     let n = mass_row(
         first_in[k],
@@ -131,7 +131,7 @@ pub fn create_mass_balance_constraints(
             first_out,
             next_out,
             edge_to_col,
-            NodeIndex(fields::narrow16(i)),
+            NodeIndex(widths::narrow16(i)),
             words,
             numbers,
             columns,

@@ -40,7 +40,7 @@ pub fn add_node(
         × (n ≤ columnCeiling) × (columnCeiling ≤ length (now elements)) × Rising (now columns) n ⌝ }
     ensures { λ r. ⌜ NodeAdded (now (s .entry)) c (node .0) factor (now (columns .entry)) (now (elements .entry)) n (now (columns .exit)) (now (elements .exit)) r ⌝ }
 {
-    let k = fields::wide16(node.0);
+    let k = widths::wide16(node.0);
     let kind = s[NODE_LENGTH * k + KIND_OFFSET];
     if kind == 1 {
         return build_row::add_columns(

@@ -76,7 +76,7 @@ pub fn add_node_row(
                 &mut words[SHAPE_MADE_AT..],
                 count,
                 node,
-                build_join::row_word(row),
+                widths::narrow16(row),
                 row_type,
                 set,
             );

@@ -51,7 +51,7 @@ fn request_rows(
     if network_node::is_constant(s, node) {
         return NodeRowsAdded::Done(rows);
     }
-    let k = fields::wide16(node.0);
+    let k = widths::wide16(node.0);
     if first_membership[k] == 0 {
         return build_node_request::request_node_row(
             s,
@@ -130,7 +130,7 @@ pub fn create_node_constraints(
             edge_columns,
             first_membership,
             next_membership,
-            NodeIndex(fields::narrow16(i)),
+            NodeIndex(widths::narrow16(i)),
             sentinel,
             words,
             numbers,

@@ -11,18 +11,12 @@ use pywr::ColumnIndex;
 use pywr::ColumnNumber;
 use pywr::EdgeIndex;
 
-fn wide(column: ColumnIndex) -> ColumnNumber
-    ensures { λ r. ⌜ (r ≡ column .0) × (r < 65536) ⌝ }
-{
-    column.0 as ColumnNumber
-}
-
 // The first place, of n, whose column is not under the one given.
 fn place_of(columns: &[ColumnNumber], n: usize, column: ColumnIndex) -> usize
     requires { ⌜ (n ≤ length (now columns)) × Rising (now columns) n ⌝ }
     ensures { λ r. ⌜ Place (now (columns .entry)) n (column .0) r ⌝ }
 {
-    let c = wide(column);
+    let c = widths::u16_to_u32(column.0);
     if n == 0 {
         return 0;
     }
@@ -52,7 +46,7 @@ fn insert_column(columns: &mut [ColumnNumber], n: usize, p: usize, column: Colum
         columns[i] = columns[i - 1];
         i -= 1;
     }
-    columns[p] = wide(column);
+    columns[p] = widths::u16_to_u32(column.0);
 }
 
 // The same of an element.
@@ -79,7 +73,7 @@ pub fn add_element(
     requires { ⌜ (n ≤ columnCeiling) × (columnCeiling ≤ length (now elements)) × (column .0 < columnCeiling) × Rising (now columns) n ⌝ }
     ensures { λ r. ⌜ ElementAdded (now (columns .entry)) (now (elements .entry)) n (column .0) value (now (columns .exit)) (now (elements .exit)) r ⌝ }
 {
-    let c = wide(column);
+    let c = widths::u16_to_u32(column.0);
     let p = place_of(columns, n, column);
     if p < n {
         if columns[p] == c {
@@ -90,12 +84,6 @@ pub fn add_element(
     insert_column(columns, n, p, column);
     insert_element(elements, n, p, 0.0 + value);
     n + 1
-}
-
-fn index(edge: EdgeIndex) -> usize
-    ensures { λ r. ⌜ (r ≡ edge .0) × (r < 65536) ⌝ }
-{
-    edge.0 as usize
 }
 
 // Adds the factor on the column of each edge of a list. `first` is 0 or an edge's number plus 1, and so is each entry of `next`;
@@ -115,7 +103,8 @@ pub fn add_columns(
     let mut count = n;
     let mut link = first;
     while link != 0 {
-        let e = index(EdgeIndex(link - 1));
+        let edge = EdgeIndex(link - 1);
+        let e = widths::wide16(edge.0);
         count = add_element(
             columns,
             elements,

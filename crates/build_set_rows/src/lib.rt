@@ -109,7 +109,7 @@ pub fn add_bounded_rows(
 {
     let min = network_node::min(s, node);
     let max = network_node::max(s, node);
-    let column = ColumnIndex(fields::narrow16(edge_columns + set));
+    let column = ColumnIndex(widths::narrow16(edge_columns + set));
     let r = add_bounded_row(
         s,
         c,

@@ -36,12 +36,6 @@ use pywr::EdgeIndex;
 use pywr::NodeIndex;
 use pywr::Sentinel;
 
-fn word(x: u8) -> u16
-    ensures { λ r. ⌜ r ≡ x ⌝ }
-{
-    x as u16
-}
-
 // Of each node its kind, and whether it is constant.
 pub fn write_nodes(s: &[u8], nodes: usize, shape: &mut [u16])
     requires { ⌜ (nodes ≤ nodeCeiling) × (nodePlace nodes ≤ length (now s)) × (shapeLength ≤ length (now shape)) ⌝ }
@@ -49,8 +43,8 @@ pub fn write_nodes(s: &[u8], nodes: usize, shape: &mut [u16])
 {
     let mut i: usize = 0;
     while i < nodes {
-        let n = NodeIndex(fields::narrow16(i));
-        shape[NODES_AT + NODE_WIDTH * i] = word(network_node::kind(s, n));
+        let n = NodeIndex(widths::narrow16(i));
+        shape[NODES_AT + NODE_WIDTH * i] = widths::byte_to_u16(network_node::kind(s, n));
         if network_node::is_constant(s, n) {
             shape[NODES_AT + NODE_WIDTH * i + NODE_FLAG] = 1;
             i += 1;
@@ -75,7 +69,7 @@ pub fn write_edges(
 {
     let mut i: usize = 0;
     while i < edges {
-        let e = EdgeIndex(fields::narrow16(i));
+        let e = EdgeIndex(widths::narrow16(i));
         let from = network_edge::from_node_index(s, nodes, e);
         let to = network_edge::to_node_index(s, nodes, e);
         shape[EDGES_AT + EDGE_WIDTH * i] = from.0;
@@ -100,14 +94,14 @@ pub fn write_counts(shape: &mut [u16], sentinel: Sentinel, z: Sizes, varying: us
     ensures { λ _. ⌜ now (shape .exit) ≡ sets (now (shape .entry)) sentinelAt (counts sentinel z varying) ⌝ }
 {
     shape[SENTINEL_AT] = sentinel_word(sentinel);
-    shape[NODE_COUNT_AT] = fields::narrow16(z.nodes);
-    shape[EDGE_COUNT_AT] = fields::narrow16(z.edges);
-    shape[EDGE_COLUMN_COUNT_AT] = fields::narrow16(z.edge_columns);
-    shape[SET_COUNT_AT] = fields::narrow16(z.sets);
-    shape[VARYING_COUNT_AT] = fields::narrow16(varying);
-    shape[FIXED_COUNT_AT] = fields::narrow16(z.rows - varying);
-    shape[ELEMENT_COUNT_AT] = fields::narrow16(z.elements);
-    shape[NODE_ROW_COUNT_AT] = fields::narrow16(z.node_rows);
-    shape[AGGREGATE_COUNT_AT] = fields::narrow16(z.aggregates);
-    shape[VIRTUAL_STORAGE_COUNT_AT] = fields::narrow16(z.virtual_storages);
+    shape[NODE_COUNT_AT] = widths::narrow16(z.nodes);
+    shape[EDGE_COUNT_AT] = widths::narrow16(z.edges);
+    shape[EDGE_COLUMN_COUNT_AT] = widths::narrow16(z.edge_columns);
+    shape[SET_COUNT_AT] = widths::narrow16(z.sets);
+    shape[VARYING_COUNT_AT] = widths::narrow16(varying);
+    shape[FIXED_COUNT_AT] = widths::narrow16(z.rows - varying);
+    shape[ELEMENT_COUNT_AT] = widths::narrow16(z.elements);
+    shape[NODE_ROW_COUNT_AT] = widths::narrow16(z.node_rows);
+    shape[AGGREGATE_COUNT_AT] = widths::narrow16(z.aggregates);
+    shape[VIRTUAL_STORAGE_COUNT_AT] = widths::narrow16(z.virtual_storages);
 }

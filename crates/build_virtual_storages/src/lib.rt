@@ -130,13 +130,6 @@ fn period_word(always: bool) -> u16
     1
 }
 
-// A month or a day in the width of the words.
-fn date_word(date: u8) -> u16
-    ensures { λ r. ⌜ r ≡ date ⌝ }
-{
-    date as u16
-}
-
 // Virtual storage i of the table: its row, then its period.
 fn put_virtual_storage(shape: &mut [u16], i: usize, row: u16, period: Period)
     requires { ⌜ virtualStoragesAt + virtualStorageWidth * i + virtualStorageWidth ≤ length (now shape) ⌝ }
@@ -145,10 +138,10 @@ fn put_virtual_storage(shape: &mut [u16], i: usize, row: u16, period: Period)
     let at = VIRTUAL_STORAGES_AT + VIRTUAL_STORAGE_WIDTH * i;
     shape[at] = row;
     shape[at + PERIOD_FLAG] = period_word(period.always);
-    shape[at + PERIOD_START_MONTH] = date_word(period.start_month);
-    shape[at + PERIOD_START_DAY] = date_word(period.start_day);
-    shape[at + PERIOD_END_MONTH] = date_word(period.end_month);
-    shape[at + PERIOD_END_DAY] = date_word(period.end_day);
+    shape[at + PERIOD_START_MONTH] = widths::byte_to_u16(period.start_month);
+    shape[at + PERIOD_START_DAY] = widths::byte_to_u16(period.start_day);
+    shape[at + PERIOD_END_MONTH] = widths::byte_to_u16(period.end_month);
+    shape[at + PERIOD_END_DAY] = widths::byte_to_u16(period.end_day);
 }
 
 // Each virtual storage asks for its row; the row's number and the period are written to the virtual storages' table.
@@ -200,7 +193,7 @@ pub fn create_virtual_storage_constraints(
                 put_virtual_storage(
                     &mut words[SHAPE_MADE_AT..],
                     i,
-                    build_join::row_word(row),
+                    widths::narrow16(row),
                     period,
                 );
                 filled = more;

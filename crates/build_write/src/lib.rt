@@ -82,8 +82,8 @@ fn write_elements(z: Sizes, words: &[u16], numbers: &[f64], elements: &mut [f64]
     let rows = z.rows;
     let mut r: usize = 0;
     while r < rows {
-        let start = fields::wide16(words[STARTS_MADE_AT + r]);
-        let end = fields::wide16(words[STARTS_MADE_AT + r + 1]);
+        let start = widths::wide16(words[STARTS_MADE_AT + r]);
+        let end = widths::wide16(words[STARTS_MADE_AT + r + 1]);
         let row = &numbers[ELEMENTS_MADE_AT + start..ELEMENTS_MADE_AT + end];
         write_row(&mut elements[start..], row);
         r += 1;

@@ -20,70 +20,25 @@ pub enum Checked {
     Refused(u8, usize),
 }
 
-fn wide_u16(x: u8) -> u16
-    ensures { λ r. ⌜ (r ≡ x) × (r < 256) ⌝ }
-{
-    x as u16
-}
-
-fn wide_u32(x: u16) -> u32
-    ensures { λ r. ⌜ (r ≡ x) × (r < 65536) ⌝ }
-{
-    x as u32
-}
-
-fn wide_u64(x: u32) -> u64
-    ensures { λ r. ⌜ (r ≡ x) × (r < 4294967296) ⌝ }
-{
-    x as u64
-}
-
-// A byte, u16 or u32 as a usize.
-pub fn wide8(x: u8) -> usize
-    ensures { λ r. ⌜ (r ≡ x) × (r < 256) ⌝ }
-{
-    x as usize
-}
-
-pub fn wide16(x: u16) -> usize
-    ensures { λ r. ⌜ (r ≡ x) × (r < 65536) ⌝ }
-{
-    x as usize
-}
-
-pub fn wide32(x: u32) -> usize
-    ensures { λ r. ⌜ (r ≡ x) × (r < 4294967296) ⌝ }
-{
-    x as usize
-}
-
-// A number below 65536 as a u16.
-pub fn narrow16(x: usize) -> u16
-    requires { ⌜ x < 65536 ⌝ }
-    ensures { λ r. ⌜ r ≡ x ⌝ }
-{
-    x as u16
-}
-
 pub fn u16_at(s: &[u8], at: usize) -> u16
     requires { ⌜ at + 2 ≤ length (now s) ⌝ }
     ensures { λ r. ⌜ r ≡ le16 (now (s .entry)) at ⌝ }
 {
-    wide_u16(s[at]) + 256 * wide_u16(s[at + 1])
+    widths::byte_to_u16(s[at]) + 256 * widths::byte_to_u16(s[at + 1])
 }
 
 pub fn u32_at(s: &[u8], at: usize) -> u32
     requires { ⌜ at + 4 ≤ length (now s) ⌝ }
     ensures { λ r. ⌜ r ≡ le32 (now (s .entry)) at ⌝ }
 {
-    wide_u32(u16_at(s, at)) + 65536 * wide_u32(u16_at(s, at + 2))
+    widths::u16_to_u32(u16_at(s, at)) + 65536 * widths::u16_to_u32(u16_at(s, at + 2))
 }
 
 pub fn u64_at(s: &[u8], at: usize) -> u64
     requires { ⌜ at + 8 ≤ length (now s) ⌝ }
     ensures { λ r. ⌜ r ≡ le64 (now (s .entry)) at ⌝ }
 {
-    wide_u64(u32_at(s, at)) + 4294967296 * wide_u64(u32_at(s, at + 4))
+    widths::u32_to_u64(u32_at(s, at)) + 4294967296 * widths::u32_to_u64(u32_at(s, at + 4))
 }
 
 // Whether n bytes stand in the file from `at`.
@@ -106,7 +61,7 @@ pub fn byte_field(s: &[u8], place: usize, at: usize, least: usize, most: usize) 
     if s.len() <= at {
         return Field::Refused(1, place);
     }
-    let x = wide8(s[at]);
+    let x = widths::wide8(s[at]);
     if x < least {
         return Field::Refused(3, place);
     }
@@ -121,7 +76,7 @@ pub fn node_field(s: &[u8], place: usize, at: usize, nodes: usize) -> Field
     ensures { λ r. ⌜ r ≡ nodeField (now (s .entry)) place at nodes ⌝ }
 {
     if is_within(s, at, 2) {
-        let x = wide16(u16_at(s, at));
+        let x = widths::wide16(u16_at(s, at));
         if x < nodes {
             return Field::Value(x);
         }
@@ -147,7 +102,7 @@ pub fn active_field(s: &[u8], place: usize, at: usize, kind: usize, least: usize
     ensures { λ r. ⌜ r ≡ activeField (now (s .entry)) place at kind least ⌝ }
 {
     if is_within(s, at, 4) {
-        let x = wide32(u32_at(s, at));
+        let x = widths::wide32(u32_at(s, at));
         if active_fits(kind, least, x) {
             return Field::Value(x);
         }

@@ -176,7 +176,7 @@ pub fn list_refusal(number: u8, place: usize) -> Output
     ensures { λ r. ⌜ r .bytes ≡ length (refusalLine number place) ⌝ }
 {
     let mut out = io::buffer();
-    write_refusal(&mut out, number as usize, place)
+    write_refusal(&mut out, widths::wide8(number), place)
 }
 
 // Writes the S line of step k, which stands in front of its listing or refusal.

@@ -21,7 +21,7 @@ pub fn put_number(out: &mut [u8], at: usize, n: usize) -> usize
     ensures { λ r. ⌜ PutWithin 21 (numberField n) (now (out .entry)) at (now (out .exit)) r ⌝ }
 {
     let a = text::put(out, at, b' ');
-    text::put_decimal(out, a, n as u64)
+    text::put_decimal(out, a, widths::usize_to_u64(n))
 }
 
 // A blank and a double.

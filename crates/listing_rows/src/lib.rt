@@ -6,8 +6,8 @@ use layout::FIXED_COUNT_AT;
 use layout::VARYING_COUNT_AT;
 use listing_stored::put_stored_row;
 use listing_stored::word;
-use store_rows::wide_start;
-use store_shape::wide;
+use widths::wide16;
+use widths::wide32;
 ghost use mathlib.Core.Path.{_≡_};
 ghost use mathlib.Core.Bool.{false};
 ghost use Prim.Native.Nat.{_+_, _-_, _*_, _<_, _≤_, _^_, min};
@@ -82,7 +82,7 @@ fn list_elements(
         let room = spare(out, at, written);
         written = room.written;
         let start = room.at;
-        at = listing_lines::put_element(out, start, wide(columns[i]), elements[i]);
+        at = listing_lines::put_element(out, start, wide16(columns[i]), elements[i]);
         bytes += at - start;
         i += 1;
     }
@@ -94,7 +94,7 @@ fn start_within(row_starts: &[u32], row: usize, most: usize) -> usize
     requires { ⌜ row < length (now «row_starts») ⌝ }
     ensures { λ r. ⌜ (r ≡ min (getD (now («row_starts» .entry)) row 0) most) × (r ≤ most) × (r < 2 ^ 32) ⌝ }
 {
-    least(wide_start(row_starts[row]), most)
+    least(wide32(row_starts[row]), most)
 }
 
 // A row and its elements, as far as the runs hold them.

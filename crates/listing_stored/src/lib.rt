@@ -4,7 +4,7 @@ use layout::ELEMENT_COUNT_AT;
 use layout::FIXED_COUNT_AT;
 use layout::SET_COUNT_AT;
 use layout::VARYING_COUNT_AT;
-use store_shape::wide;
+use widths::wide16;
 ghost use mathlib.Core.Path.{_≡_};
 ghost use Prim.Native.Nat.{_+_, _<_, _≤_};
 ghost use lib.ListN.{length, getD};
@@ -18,7 +18,7 @@ pub fn word(shape: &[u16], at: usize) -> usize
     ensures { λ r. ⌜ (r ≡ getD (now (shape .entry)) at 0) × (r < 65536) ⌝ }
 {
     if at < shape.len() {
-        return wide(shape[at]);
+        return wide16(shape[at]);
     }
     0
 }

@@ -128,7 +128,7 @@ pub fn set_count(s: &[u8], at: usize) -> usize
     requires { ⌜ at + setsOffset ≤ length (now s) ⌝ }
     ensures { λ r. ⌜ (r ≡ byte (now (s .entry)) (at + setCountOffset)) × (r < 256) ⌝ }
 {
-    fields::wide8(s[at + SET_COUNT_OFFSET])
+    widths::wide8(s[at + SET_COUNT_OFFSET])
 }
 
 pub fn min_active(s: &[u8], at: usize) -> u32
@@ -150,7 +150,7 @@ pub fn set_size(s: &[u8], at: usize) -> usize
     requires { ⌜ at < length (now s) ⌝ }
     ensures { λ r. ⌜ (r ≡ byte (now (s .entry)) at) × (r < 256) ⌝ }
 {
-    fields::wide8(s[at])
+    widths::wide8(s[at])
 }
 
 pub fn member(s: &[u8], at: usize, k: usize) -> NodeIndex

@@ -46,11 +46,11 @@ fn mark_ends(
 {
     let mut j: usize = 0;
     while j < e {
-        let i = EdgeIndex(fields::narrow16(j));
+        let i = EdgeIndex(widths::narrow16(j));
         let to = network_edge::to_node_index(s, n, i);
         let from = network_edge::from_node_index(s, n, i);
-        let t = fields::wide16(to.0);
-        let f = fields::wide16(from.0);
+        let t = widths::wide16(to.0);
+        let f = widths::wide16(from.0);
         into[t] = true;
         out[f] = true;
         j += 1;
@@ -67,7 +67,7 @@ fn is_unconnected(
     requires { ⌜ (i .0 < nodeCeiling) × (nodePlace (i .0) + nodeLength ≤ length (now s)) ⌝ }
     ensures { λ r. ⌜ r ≡ (eqb (nodeAt (now (s .entry)) (nodePlace (i .0)) .kind) link && (not (getD (now (into .entry)) (i .0) false) || not (getD (now (out .entry)) (i .0) false))) ⌝ }
 {
-    let k = fields::wide16(i.0);
+    let k = widths::wide16(i.0);
     if network_node::kind(s, i) == 2 {
         if into[k] {
             if out[k] {
@@ -94,7 +94,7 @@ fn first_unconnected(
 {
     let mut i: usize = 0;
     while i < c.nodes {
-        if is_unconnected(s, NodeIndex(fields::narrow16(i)), into, out) {
+        if is_unconnected(s, NodeIndex(widths::narrow16(i)), into, out) {
             return Refusal::At(8, i);
         }
         i += 1;
@@ -122,7 +122,7 @@ fn mark_set(s: &[u8], at: usize, marks: &mut [bool; NODE_CEILING])
     let mut k: usize = 0;
     while k < size {
         let m = network_aggregate::member(s, at, k);
-        let i = fields::wide16(m.0);
+        let i = widths::wide16(m.0);
         marks[i] = true;
         k += 1;
     }
@@ -181,7 +181,7 @@ fn is_unbounded(s: &[u8], i: NodeIndex, exclusive: &[bool; NODE_CEILING]) -> boo
     ensures { λ r. ⌜ r ≡ (nodeAt (now (s .entry)) (nodePlace (i .0)) .constant && getD (now (exclusive .entry)) (i .0) false
         && (eq (nodeAt (now (s .entry)) (nodePlace (i .0)) .max) (inf true) || eq (nodeAt (now (s .entry)) (nodePlace (i .0)) .min) (inf false))) ⌝ }
 {
-    let k = fields::wide16(i.0);
+    let k = widths::wide16(i.0);
     if network_node::is_constant(s, i) {
         if exclusive[k] {
             if network_node::max(s, i) == f64::from_bits(0xfff0000000000000) {
@@ -202,7 +202,7 @@ fn first_bad_constant(s: &[u8], c: Counts, exclusive: &[bool; NODE_CEILING]) -> 
 {
     let mut i: usize = 0;
     while i < c.nodes {
-        let node = NodeIndex(fields::narrow16(i));
+        let node = NodeIndex(widths::narrow16(i));
         if is_crossed(s, node) {
             return Refusal::At(9, i);
         }

@@ -23,13 +23,13 @@ fn pair_among(s: &[u8], count: usize, start: usize, from: NodeIndex, to: NodeInd
     requires { ⌜ start + edgeLength * count ≤ length (now s) ⌝ }
     ensures { λ r. ⌜ r ≡ pairAmong (now (s .entry)) count start (from .0) (to .0) ⌝ }
 {
-    let f = fields::wide16(from.0);
-    let t = fields::wide16(to.0);
+    let f = widths::wide16(from.0);
+    let t = widths::wide16(to.0);
     let pair = f + 65536 * t;
     let mut at = start;
     let mut i: usize = 0;
     while i < count {
-        if fields::wide32(fields::u32_at(s, at + FROM_OFFSET)) == pair {
+        if widths::wide32(fields::u32_at(s, at + FROM_OFFSET)) == pair {
             return true;
         }
         at += EDGE_LENGTH;
@@ -43,8 +43,8 @@ fn bad_edge(s: &[u8], nodes: usize, edges: usize, from: NodeIndex, to: NodeIndex
     requires { ⌜ (edgePlace nodes edges ≤ length (now s)) × (from .0 < nodes) × (to .0 < nodes) × (nodes ≤ 65536) ⌝ }
     ensures { λ r. ⌜ r ≡ badEdgeAt (now (s .entry)) nodes edges (from .0) (to .0) ⌝ }
 {
-    let f = fields::wide16(from.0);
-    let t = fields::wide16(to.0);
+    let f = widths::wide16(from.0);
+    let t = widths::wide16(to.0);
     if s[NODE_LENGTH * t + KIND_OFFSET] == 0 {
         return true;
     }
@@ -70,8 +70,8 @@ pub fn check_edge(s: &[u8], nodes: usize, edges: usize, at: usize) -> Checked
             match t {
                 Field::Refused(n, p) => Checked::Refused(n, p),
                 Field::Value(to) => {
-                    let from_node = NodeIndex(fields::narrow16(from));
-                    let to_node = NodeIndex(fields::narrow16(to));
+                    let from_node = NodeIndex(widths::narrow16(from));
+                    let to_node = NodeIndex(widths::narrow16(to));
                     if bad_edge(s, nodes, edges, from_node, to_node) {
                         return Checked::Refused(5, at);
                     }
@@ -87,7 +87,7 @@ pub fn from_node_index(s: &[u8], nodes: usize, j: EdgeIndex) -> NodeIndex
     requires { ⌜ edgePlace nodes (j .0) + edgeLength ≤ length (now s) ⌝ }
     ensures { λ r. ⌜ r .0 ≡ edgeAt (now (s .entry)) (edgePlace nodes (j .0)) .from ⌝ }
 {
-    let k = fields::wide16(j.0);
+    let k = widths::wide16(j.0);
     NodeIndex(fields::u16_at(s, NODE_LENGTH * nodes + EDGE_LENGTH * k + FROM_OFFSET))
 }
 
@@ -96,6 +96,6 @@ pub fn to_node_index(s: &[u8], nodes: usize, j: EdgeIndex) -> NodeIndex
     requires { ⌜ edgePlace nodes (j .0) + edgeLength ≤ length (now s) ⌝ }
     ensures { λ r. ⌜ r .0 ≡ edgeAt (now (s .entry)) (edgePlace nodes (j .0)) .to ⌝ }
 {
-    let k = fields::wide16(j.0);
+    let k = widths::wide16(j.0);
     NodeIndex(fields::u16_at(s, NODE_LENGTH * nodes + EDGE_LENGTH * k + TO_OFFSET))
 }

@@ -89,7 +89,7 @@ pub fn kind(s: &[u8], i: NodeIndex) -> u8
     requires { ⌜ nodePlace (i .0) + nodeLength ≤ length (now s) ⌝ }
     ensures { λ r. ⌜ r ≡ nodeAt (now (s .entry)) (nodePlace (i .0)) .kind ⌝ }
 {
-    let k = fields::wide16(i.0);
+    let k = widths::wide16(i.0);
     s[NODE_LENGTH * k + KIND_OFFSET]
 }
 
@@ -97,7 +97,7 @@ pub fn is_constant(s: &[u8], i: NodeIndex) -> bool
     requires { ⌜ nodePlace (i .0) + nodeLength ≤ length (now s) ⌝ }
     ensures { λ r. ⌜ r ≡ nodeAt (now (s .entry)) (nodePlace (i .0)) .constant ⌝ }
 {
-    let k = fields::wide16(i.0);
+    let k = widths::wide16(i.0);
     s[NODE_LENGTH * k + CONSTANT_OFFSET] == 1
 }
 
@@ -106,7 +106,7 @@ pub fn min(s: &[u8], i: NodeIndex) -> f64
     requires { ⌜ (nodePlace (i .0) + nodeLength ≤ length (now s)) × (isFlow (le64 (now s) (nodePlace (i .0) + minOffset)) ≡ true) ⌝ }
     ensures { λ r. ⌜ r ≡ nodeAt (now (s .entry)) (nodePlace (i .0)) .min ⌝ }
 {
-    let k = fields::wide16(i.0);
+    let k = widths::wide16(i.0);
     let b = fields::u64_at(s, NODE_LENGTH * k + MIN_OFFSET);
     f64::from_bits(b)
 }
@@ -115,7 +115,7 @@ pub fn max(s: &[u8], i: NodeIndex) -> f64
     requires { ⌜ (nodePlace (i .0) + nodeLength ≤ length (now s)) × (isFlow (le64 (now s) (nodePlace (i .0) + maxOffset)) ≡ true) ⌝ }
     ensures { λ r. ⌜ r ≡ nodeAt (now (s .entry)) (nodePlace (i .0)) .max ⌝ }
 {
-    let k = fields::wide16(i.0);
+    let k = widths::wide16(i.0);
     let b = fields::u64_at(s, NODE_LENGTH * k + MAX_OFFSET);
     f64::from_bits(b)
 }

@@ -167,7 +167,7 @@ pub fn part_count(s: &[u8], at: usize) -> usize
     requires { ⌜ at + partsOffset ≤ length (now s) ⌝ }
     ensures { λ r. ⌜ (r ≡ byte (now (s .entry)) (at + partCountOffset)) × (r < 256) ⌝ }
 {
-    fields::wide8(s[at + PART_COUNT_OFFSET])
+    widths::wide8(s[at + PART_COUNT_OFFSET])
 }
 
 pub fn virtual_storage_end(s: &[u8], at: usize) -> usize

@@ -41,8 +41,8 @@ pub fn refusal_of(answer: Answer) -> Refusal
             place: 0,
         },
         Answer::Refused(number, place) => Refusal {
-            number: number as u64,
-            place: place as u64,
+            number: widths::byte_to_u64(number),
+            place: widths::usize_to_u64(place),
         },
     }
 }
@@ -53,16 +53,16 @@ pub fn part_of(answer: RowAnswer) -> RowPart
 {
     match answer {
         RowAnswer::Refused(n, p) => RowPart {
-            number: n as u64,
-            place: p as u64,
+            number: widths::byte_to_u64(n),
+            place: widths::usize_to_u64(p),
             start: 0,
             length: 0,
         },
         RowAnswer::Part(start, end) => RowPart {
             number: 0,
             place: 0,
-            start: start as u64,
-            length: (end - start) as u64,
+            start: widths::usize_to_u64(start),
+            length: widths::usize_to_u64(end - start),
         },
     }
 }

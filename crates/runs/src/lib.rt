@@ -6,12 +6,6 @@ ghost use lib.Seq.{sets};
 ghost use Rattle.laws.specs.Part.{part};
 ghost use Rattle.pywr.specs.Numbers.{zero64};
 
-fn wide(x: u16) -> u32
-    ensures { λ r. ⌜ (r ≡ x) × (r < 65536) ⌝ }
-{
-    x as u32
-}
-
 // Copies n elements of s from `at` on to d from `to` on.
 pub fn copy_u16(d: &mut [u16], to: usize, s: &[u16], at: usize, n: usize)
     requires { ⌜ (to + n ≤ length (now d)) × (at + n ≤ length (now s)) ⌝ }
@@ -42,7 +36,7 @@ pub fn widen_u16(d: &mut [u32], to: usize, s: &[u16], at: usize, n: usize)
 {
     let mut i: usize = 0;
     while i < n {
-        d[to + i] = wide(s[at + i]);
+        d[to + i] = widths::u16_to_u32(s[at + i]);
         i += 1;
     }
 }

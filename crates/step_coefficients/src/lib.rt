@@ -1,6 +1,6 @@
 // The coefficients of a step: one element of a row set (apply_updated_coefficients of builder.rs).
 use pywr::ColumnIndex;
-use store_rows::wide_start;
+use widths::wide32;
 ghost use mathlib.Core.Path.{_≡_};
 ghost use mathlib.Core.Bool.{true};
 ghost use Prim.Native.Nat.{_+_, _<_, _≤_};
@@ -35,8 +35,8 @@ pub fn set_coefficient(
         × (listed (column .0) (slice (getD (now «row_starts») row 0) (getD (now «row_starts») (row + 1) 0) (now columns)) ≡ true) ⌝ }
     ensures { λ _. ⌜ CoefficientSet (now (columns .entry)) (now («row_starts» .entry)) row (column .0) value (now (elements .entry)) (now (elements .exit)) ⌝ }
 {
-    let start = wide_start(row_starts[row]);
-    let end = wide_start(row_starts[row + 1]);
+    let start = wide32(row_starts[row]);
+    let end = wide32(row_starts[row + 1]);
     let place = column_place(columns, start, end, column);
     elements[place] = value;
 }

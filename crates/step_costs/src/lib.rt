@@ -13,7 +13,7 @@ use pywr::NodeIndex;
 use step_record::DATE_LENGTH;
 use step_record::NODE_COST_OFFSET;
 use step_record::NODE_STEP_LENGTH;
-use store_shape::wide;
+use widths::wide16;
 ghost use mathlib.Core.Path.{_≡_};
 ghost use mathlib.Core.Bool.{true};
 ghost use Prim.Native.Nat.{ℕ, _+_, _≤_, _<_};
@@ -55,7 +55,7 @@ fn node_cost(file: &[u8], i: NodeIndex) -> f64
     requires { ⌜ nodeStepPlace (i .0) + nodeStepLength ≤ length (now file) ⌝ }
     ensures { λ r. ⌜ r ≡ costIn (now (file .entry)) (i .0) ⌝ }
 {
-    let k = wide(i.0);
+    let k = wide16(i.0);
     f64_at(file, DATE_LENGTH + NODE_STEP_LENGTH * k + NODE_COST_OFFSET)
 }
 
@@ -66,8 +66,8 @@ fn edge_cost(file: &[u8], shape: &[u16], from: NodeIndex, to: NodeIndex) -> f64
     ensures { λ r. ⌜ r ≡ edgeCost (kindIn (now (shape .entry)) (from .0)) (costIn (now (file .entry)) (from .0))
         (kindIn (now (shape .entry)) (to .0)) (costIn (now (file .entry)) (to .0)) ⌝ }
 {
-    let f = wide(from.0);
-    let t = wide(to.0);
+    let f = wide16(from.0);
+    let t = wide16(to.0);
     let out = outgoing_cost(shape[NODES_AT + NODE_WIDTH * f], node_cost(file, from));
     let into = incoming_cost(shape[NODES_AT + NODE_WIDTH * t], node_cost(file, to));
     out + into
@@ -84,13 +84,13 @@ pub fn update_edge_objectives(file: &[u8], shape: &[u16], col_obj_coef: &mut [f6
         ≡ sets (now («col_obj_coef» .entry)) 0
         (stepCosts (shapeOf s) (columnCount s) (decoded (shapeOf s .nodes) a v (now (file .entry)) .nodes))) ⌝ }
 {
-    let edges = wide(shape[EDGE_COUNT_AT]);
-    let columns = wide(shape[EDGE_COLUMN_COUNT_AT]) + wide(shape[SET_COUNT_AT]);
+    let edges = wide16(shape[EDGE_COUNT_AT]);
+    let columns = wide16(shape[EDGE_COLUMN_COUNT_AT]) + wide16(shape[SET_COUNT_AT]);
     runs::fill_f64(col_obj_coef, 0, columns, 0.0);
     let mut at: usize = EDGES_AT;
     let mut i: usize = 0;
     while i < edges {
-        let c = wide(shape[at + MAPPED_COLUMN]);
+        let c = wide16(shape[at + MAPPED_COLUMN]);
         let obj_coef = edge_cost(
             file,
             shape,

@@ -23,14 +23,14 @@ use step_record::check_aggregate;
 use step_record::check_date;
 use step_record::check_node;
 use step_record::check_virtual_storage_step;
-use store_shape::wide;
+use widths::wide16;
 
 // The `NB` record of each node of the store.
 fn check_nodes(file: &[u8], shape: &[u16]) -> Answer
     requires { ⌜ (shapeLength ≤ length (now shape)) × (nodesIn (now shape) ≤ nodeCeiling) ⌝ }
     ensures { λ r. ⌜ ((s : Store) → s .shape ≡ now (shape .entry) → r ≡ checkNodes (now (file .entry)) (shapeOf s .nodes) dateLength) ⌝ }
 {
-    let nodes = wide(shape[NODE_COUNT_AT]);
+    let nodes = wide16(shape[NODE_COUNT_AT]);
     let mut word: usize = NODES_AT;
     let mut at: usize = DATE_LENGTH;
     let mut i: usize = 0;
@@ -109,9 +109,9 @@ pub fn read_step(file: &[u8], shape: &[u16]) -> Answer
     requires { ⌜ (shapeLength ≤ length (now shape)) × (nodesIn (now shape) ≤ nodeCeiling) × (aggregatesIn (now shape) ≤ aggregateCeiling) × (virtualStoragesIn (now shape) ≤ virtualStorageCeiling) ⌝ }
     ensures { λ r. ⌜ ((s : Store) → s .shape ≡ now (shape .entry) → r ≡ answerOf (readStep (shapeOf s .nodes) (length (shapeOf s .aggregates)) (length (shapeOf s .virtualStorages)) (now (file .entry)))) ⌝ }
 {
-    let count = wide(shape[NODE_COUNT_AT]);
-    let aggregates = wide(shape[AGGREGATE_COUNT_AT]);
-    let virtual_storages = wide(shape[VIRTUAL_STORAGE_COUNT_AT]);
+    let count = wide16(shape[NODE_COUNT_AT]);
+    let aggregates = wide16(shape[AGGREGATE_COUNT_AT]);
+    let virtual_storages = wide16(shape[VIRTUAL_STORAGE_COUNT_AT]);
     let aggregates_at = DATE_LENGTH + NODE_STEP_LENGTH * count;
     let virtual_storages_at = aggregates_at + AGGREGATE_STEP_LENGTH * aggregates;
     let date = check_date(file);

@@ -15,7 +15,7 @@ use step_record::NODE_MAX_OFFSET;
 use step_record::NODE_MIN_OFFSET;
 use step_record::NODE_STEP_LENGTH;
 use step_record::NODE_VOLUME_OFFSET;
-use store_shape::wide;
+use widths::wide16;
 ghost use mathlib.Core.Path.{_≡_};
 ghost use Prim.Native.Nat.{_+_, _*_, _≤_};
 ghost use lib.ListN.{length};
@@ -36,7 +36,7 @@ fn node_interval(
     requires { ⌜ (nodeStepPlace (node .0) + nodeStepLength ≤ length (now file)) × (nodesAt + nodeWidth * node .0 + nodeWidth ≤ length (now shape)) ⌝ }
     ensures { λ r. ⌜ r ≡ nodeNumbered sentinel days (now (shape .entry)) (now (file .entry)) (node .0) ⌝ }
 {
-    let k = wide(node.0);
+    let k = wide16(node.0);
     if shape[NODES_AT + NODE_WIDTH * k + NODE_FLAG] == 1 {
         return step_bounds::sentinels(sentinel);
     }
@@ -61,10 +61,10 @@ pub fn find_node_intervals(
     requires { ⌜ (shapeLength ≤ length (now shape)) × (stepWorkLength ≤ length (now work)) × (nodesIn (now shape) ≤ nodeCeiling) × (aggregateStepsAt (nodesIn (now shape)) ≤ length (now file)) ⌝ }
     ensures { λ r. ⌜ Looked 14 (nodeNumbered sentinel days (now (shape .entry)) (now (file .entry))) 0 (nodesIn (now (shape .entry))) (now (work .entry)) r (now (work .exit)) ⌝ }
 {
-    let nodes = wide(shape[NODE_COUNT_AT]);
+    let nodes = wide16(shape[NODE_COUNT_AT]);
     let mut i: usize = 0;
     while i < nodes {
-        let x = node_interval(file, shape, NodeIndex(fields::narrow16(i)), days, sentinel);
+        let x = node_interval(file, shape, NodeIndex(widths::narrow16(i)), days, sentinel);
         if step_bounds::is_crossed(x) {
             return Answer::Refused(14, i);
         }

@@ -10,7 +10,7 @@ use pywr::ColumnIndex;
 use step_coefficients::set_coefficient;
 use step_row_bounds::apply_row_bounds;
 use step_row_bounds::held_interval;
-use store_shape::wide;
+use widths::wide16;
 ghost use mathlib.Core.List.{List};
 ghost use Prim.Native.Nat.{ℕ, _+_, _*_, _<_, _≤_};
 ghost use Rattle.layout.specs.Layout.{nodeRowCeiling, shapeLength, nodeRowsAt, nodeRowWidth, nodeRowsIn};
@@ -39,8 +39,8 @@ fn update_node_row(
         (nodeRowApplied (over s (now (columns .entry)) (now («row_starts» .entry)) (now (shape .entry))) (now (work .entry)) at rows)
         (now («row_lower» .exit)) (now («row_upper» .exit)) (now (elements .exit))) ⌝ }
 {
-    let by = held_interval(work, wide(shape[at]));
-    let row = wide(shape[at + NODE_ROW_ROW]);
+    let by = held_interval(work, wide16(shape[at]));
+    let row = wide16(shape[at + NODE_ROW_ROW]);
     let row_type = shape[at + NODE_ROW_TYPE];
     if row_type == 0 {
         apply_row_bounds(row_lower, row_upper, row, by);
@@ -73,7 +73,7 @@ pub fn update_node_constraint_bounds(
         (nodeRowsApplied (over s (now (columns .entry)) (now («row_starts» .entry)) (now (shape .entry))) (now (work .entry)) nodeRowsAt (nodeRowsIn (now (shape .entry))) rows)
         (now («row_lower» .exit)) (now («row_upper» .exit)) (now (elements .exit))) ⌝ }
 {
-    let node_rows = wide(shape[NODE_ROW_COUNT_AT]);
+    let node_rows = wide16(shape[NODE_ROW_COUNT_AT]);
     let mut at: usize = NODE_ROWS_AT;
     let mut i: usize = 0;
     while i < node_rows {

@@ -5,7 +5,7 @@ use layout::UPPERS_AT;
 use layout::VARYING_COUNT_AT;
 use pywr::Interval;
 use store_shape::kept_sentinel;
-use store_shape::wide;
+use widths::wide16;
 ghost use mathlib.Core.Path.{_≡_};
 ghost use Prim.Native.Nat.{_+_, _<_, _≤_};
 ghost use mathlib.Core.List.{List, map};
@@ -38,7 +38,7 @@ pub fn reset_row_bounds(row_lower: &mut [f64], row_upper: &mut [f64], shape: &[u
         (now («row_lower» .entry)) (now («row_upper» .entry)) (now («row_lower» .exit)) (now («row_upper» .exit))) ⌝ }
 {
     let sentinel = kept_sentinel(shape);
-    let rows = wide(shape[VARYING_COUNT_AT]);
+    let rows = wide16(shape[VARYING_COUNT_AT]);
     runs::fill_f64(row_lower, 0, rows, sentinel.low());
     runs::fill_f64(row_upper, 0, rows, sentinel.high());
 }
@@ -86,7 +86,7 @@ pub fn apply_intervals(
     let mut at = table;
     let mut i: usize = 0;
     while i < count {
-        let row = wide(shape[at]);
+        let row = wide16(shape[at]);
         apply_row_bounds(row_lower, row_upper, row, held_interval(work, first + i));
         at += words;
         i += 1;

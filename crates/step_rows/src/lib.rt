@@ -11,7 +11,7 @@ use layout::VIRTUAL_STORAGES_HELD_AT;
 use step_node_rows::update_node_constraint_bounds;
 use step_row_bounds::apply_intervals;
 use step_row_bounds::reset_row_bounds;
-use store_shape::wide;
+use widths::wide16;
 ghost use Rattle.pywr.specs.StepIntervals.{Intervals};
 ghost use Rattle.pywr.specs.Store.{Store};
 ghost use Rattle.step_rows.specs.ConstraintBounds.{storeOf, StepRuns, StepWritten, HasRuns, HeldIn};
@@ -41,7 +41,7 @@ pub fn update_constraint_bounds(
         shape,
         work,
     );
-    let aggregates = wide(shape[AGGREGATE_COUNT_AT]);
+    let aggregates = wide16(shape[AGGREGATE_COUNT_AT]);
     apply_intervals(
         row_lower,
         row_upper,
@@ -52,7 +52,7 @@ pub fn update_constraint_bounds(
         work,
         AGGREGATES_HELD_AT,
     );
-    let virtual_storages = wide(shape[VIRTUAL_STORAGE_COUNT_AT]);
+    let virtual_storages = wide16(shape[VIRTUAL_STORAGE_COUNT_AT]);
     apply_intervals(
         row_lower,
         row_upper,

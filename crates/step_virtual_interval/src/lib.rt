@@ -16,12 +16,6 @@ ghost use Rattle.step_record.specs.Check.{daysOffset, virtualStorageStepLength}
 ghost use Rattle.step_file.specs.Decoded.{virtualStorageStepAt};
 ghost use Rattle.step_virtual_interval.specs.VirtualInterval.{virtualIntervalAt};
 
-fn wide_u16(x: u8) -> u16
-    ensures { λ r. ⌜ r ≡ x ⌝ }
-{
-    x as u16
-}
-
 // The available and missing volume of the virtual storage whose record stands at `at`.
 fn bounds_at(file: &[u8], at: usize) -> NodeBounds
     requires { ⌜ at + virtualStorageStepLength ≤ length (now file) ⌝ }
@@ -45,8 +39,8 @@ pub fn virtual_storage_interval(
     requires { ⌜ (daysOffset ≤ length (now file)) × (at + virtualStorageStepLength ≤ length (now file)) × (place + virtualStorageWidth ≤ length (now shape)) ⌝ }
     ensures { λ r. ⌜ r ≡ virtualIntervalAt sentinel days (now (shape .entry)) (now (file .entry)) place at ⌝ }
 {
-    let month = wide_u16(file[MONTH_OFFSET]);
-    let day = wide_u16(file[DAY_OFFSET]);
+    let month = widths::byte_to_u16(file[MONTH_OFFSET]);
+    let day = widths::byte_to_u16(file[DAY_OFFSET]);
     if step_period::is_active_at(shape, place, month, day) {
         return step_bounds::interval_of(days, bounds_at(file, at));
     }

@@ -12,7 +12,7 @@ use step_record::AGGREGATE_STEP_LENGTH;
 use step_record::DATE_LENGTH;
 use step_record::NODE_STEP_LENGTH;
 use step_record::VIRTUAL_STORAGE_STEP_LENGTH;
-use store_shape::wide;
+use widths::wide16;
 ghost use mathlib.Core.Path.{_≡_};
 ghost use Prim.Native.Nat.{_≤_};
 ghost use lib.ListN.{length};
@@ -27,8 +27,8 @@ fn virtual_storages_at(shape: &[u16]) -> usize
     ensures { λ r. ⌜ r ≡ virtualStorageStepsAt (nodesIn (now (shape .entry))) (aggregatesIn (now (shape .entry))) ⌝ }
 {
     DATE_LENGTH
-        + NODE_STEP_LENGTH * wide(shape[NODE_COUNT_AT])
-        + AGGREGATE_STEP_LENGTH * wide(shape[AGGREGATE_COUNT_AT])
+        + NODE_STEP_LENGTH * wide16(shape[NODE_COUNT_AT])
+        + AGGREGATE_STEP_LENGTH * wide16(shape[AGGREGATE_COUNT_AT])
 }
 
 // The virtual storages' intervals, up to the first whose lower bound is over its upper: 15.
@@ -44,7 +44,7 @@ pub fn find_virtual_storage_intervals(
     ensures { λ r. ⌜ Looked 15 (virtualStorageNumbered sentinel days (now (shape .entry)) (now (file .entry))) virtualStoragesHeldAt (virtualStoragesIn (now (shape .entry))) (now (work .entry)) r (now (work .exit)) ⌝ }
 {
     let first = virtual_storages_at(shape);
-    let virtual_storages = wide(shape[VIRTUAL_STORAGE_COUNT_AT]);
+    let virtual_storages = wide16(shape[VIRTUAL_STORAGE_COUNT_AT]);
     let mut i: usize = 0;
     while i < virtual_storages {
         let x = step_virtual_interval::virtual_storage_interval(

@@ -9,13 +9,13 @@ use pywr::RowAnswer;
 use store_node_rows::node_rows_fit;
 use store_rows::columns_rise;
 use store_rows::starts_rise;
-use store_rows::wide_start;
 use store_shape::aggregates_fit;
 use store_shape::counts_fit;
 use store_shape::edges_fit;
 use store_shape::nodes_fit;
 use store_shape::row_count;
 use store_shape::virtual_storages_fit;
+use widths::wide32;
 ghost use mathlib.Core.Path.{_≡_};
 ghost use Prim.Native.Nat.{_≤_};
 ghost use lib.ListN.{length};
@@ -112,7 +112,7 @@ pub fn row_answer(
     if row_count(shape) <= row {
         return RowAnswer::Refused(18, row);
     }
-    RowAnswer::Part(wide_start(row_starts[row]), wide_start(row_starts[row + 1]))
+    RowAnswer::Part(wide32(row_starts[row]), wide32(row_starts[row + 1]))
 }
 
 // The columns of a row, as a part of the column run: empty where the answer is a refusal, whose number and place are stored.

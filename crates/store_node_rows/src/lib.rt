@@ -10,8 +10,8 @@ use layout::NODE_ROWS_AT;
 use layout::SET_COUNT_AT;
 use layout::VARYING_COUNT_AT;
 use pywr::ColumnIndex;
-use store_rows::wide_start;
-use store_shape::wide;
+use widths::wide16;
+use widths::wide32;
 ghost use mathlib.Core.Path.{_≡_};
 ghost use Prim.Native.Nat.{_+_, _≤_};
 ghost use lib.ListN.{length};
@@ -61,11 +61,11 @@ fn node_row_fits(columns: &[u16], row_starts: &[u32], shape: &[u16], at: usize) 
     if shape[SET_COUNT_AT] <= set {
         return false;
     }
-    let r = wide(row);
+    let r = wide16(row);
     row_holds(
         columns,
-        wide_start(row_starts[r]),
-        wide_start(row_starts[r + 1]),
+        wide32(row_starts[r]),
+        wide32(row_starts[r + 1]),
         ColumnIndex(shape[EDGE_COLUMN_COUNT_AT] + set),
     )
 }
@@ -75,7 +75,7 @@ pub fn node_rows_fit(columns: &[u16], row_starts: &[u32], shape: &[u16]) -> bool
     ensures { λ r. ⌜ ((s : Store) → s .columns ≡ now (columns .entry) → s .rowStarts ≡ now («row_starts» .entry) → s .shape ≡ now (shape .entry)
         → r ≡ allEntries (nodeRowFits s) nodeRowWidth nodeRowsAt (nodeRowCount s)) ⌝ }
 {
-    let node_rows = wide(shape[NODE_ROW_COUNT_AT]);
+    let node_rows = wide16(shape[NODE_ROW_COUNT_AT]);
     let mut at: usize = NODE_ROWS_AT;
     let mut i: usize = 0;
     while i < node_rows {

@@ -4,7 +4,8 @@ use layout::ELEMENT_COUNT_AT;
 use layout::SET_COUNT_AT;
 use pywr::ColumnIndex;
 use store_shape::row_count;
-use store_shape::wide;
+use widths::wide16;
+use widths::wide32;
 ghost use mathlib.Core.Path.{_≡_};
 ghost use mathlib.Core.Bool.{_&&_};
 ghost use Prim.Native.Nat.{ℕ, _+_, _≤_, _<_};
@@ -15,12 +16,6 @@ ghost use Rattle.pywr.specs.Store.{Store, rowCount, startOf};
 ghost use Rattle.pywr.specs.Misshapen.{startsRise, rowColumnsRise, allEntries};
 ghost use Rattle.store_rows.specs.Falls.{fall, fallAt, sumFrom, startFall, rowFall};
 ghost use Rattle.store_rows.specs.Starts.{RowsWithin};
-
-pub fn wide_start(x: u32) -> usize
-    ensures { λ r. ⌜ (r ≡ x) × (r < 4294967296) ⌝ }
-{
-    x as usize
-}
 
 // "row starts not from 0, falling, or not ending at the element count"
 pub fn starts_rise(row_starts: &[u32], shape: &[u16]) -> bool
@@ -35,7 +30,7 @@ pub fn starts_rise(row_starts: &[u32], shape: &[u16]) -> bool
         good = good & (row_starts[r] <= row_starts[r + 1]);
         r += 1;
     }
-    good & (wide_start(row_starts[rows]) == wide(shape[ELEMENT_COUNT_AT]))
+    good & (wide32(row_starts[rows]) == wide16(shape[ELEMENT_COUNT_AT]))
 }
 
 // Whether each of the first n columns is under the count.
@@ -95,11 +90,7 @@ fn start_falls(columns: &[u16], row_starts: &[u32], rows: usize) -> u16
     let mut sum: u16 = 0;
     let mut r: usize = 0;
     while r < rows {
-        sum += start_fall(
-            columns,
-            wide_start(row_starts[r]),
-            wide_start(row_starts[r + 1]),
-        );
+        sum += start_fall(columns, wide32(row_starts[r]), wide32(row_starts[r + 1]));
         r += 1;
     }
     sum
@@ -111,7 +102,7 @@ pub fn columns_rise(columns: &[u16], row_starts: &[u32], shape: &[u16]) -> bool
     ensures { λ r. ⌜ ((s : Store) → s .columns ≡ now (columns .entry) → s .rowStarts ≡ now («row_starts» .entry) → s .shape ≡ now (shape .entry)
         → r ≡ allEntries (rowColumnsRise s) 1 0 (rowCount s)) ⌝ }
 {
-    let kept = wide(shape[ELEMENT_COUNT_AT]);
+    let kept = wide16(shape[ELEMENT_COUNT_AT]);
     let under = columns_under(
         columns,
         kept,

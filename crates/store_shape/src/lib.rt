@@ -31,6 +31,7 @@ use layout::VIRTUAL_STORAGE_COUNT_AT;
 use layout::VIRTUAL_STORAGE_WIDTH;
 use layout::VIRTUAL_STORAGES_AT;
 use pywr::Sentinel;
+use widths::wide16;
 ghost use mathlib.Core.Path.{_≡_};
 ghost use Prim.Native.Nat.{_+_, _≤_, _<_};
 ghost use lib.ListN.{length};
@@ -53,12 +54,6 @@ const AGGREGATE_CEILING_WORD: u16 = AGGREGATE_CEILING as u16;
 
 const VIRTUAL_STORAGE_CEILING_WORD: u16 = VIRTUAL_STORAGE_CEILING as u16;
 
-pub fn wide(x: u16) -> usize
-    ensures { λ r. ⌜ (r ≡ x) × (r < 65536) ⌝ }
-{
-    x as usize
-}
-
 // The sentinel that the store keeps.
 pub fn kept_sentinel(shape: &[u16]) -> Sentinel
     requires { ⌜ shapeLength ≤ length (now shape) ⌝ }
@@ -76,7 +71,7 @@ pub fn row_count(shape: &[u16]) -> usize
     requires { ⌜ shapeLength ≤ length (now shape) ⌝ }
     ensures { λ r. ⌜ r ≡ varyingIn (now (shape .entry)) + fixedIn (now (shape .entry)) ⌝ }
 {
-    wide(shape[VARYING_COUNT_AT]) + wide(shape[FIXED_COUNT_AT])
+    wide16(shape[VARYING_COUNT_AT]) + wide16(shape[FIXED_COUNT_AT])
 }
 
 // "a count over its ceiling"
@@ -100,7 +95,7 @@ pub fn nodes_fit(shape: &[u16]) -> bool
     requires { ⌜ (shapeLength ≤ length (now shape)) × (nodesIn (now shape) ≤ nodeCeiling) ⌝ }
     ensures { λ r. ⌜ ((s : Store) → s .shape ≡ now (shape .entry) → r ≡ allEntries (nodeFits s) nodeWidth nodesAt (nodeCount s)) ⌝ }
 {
-    let nodes = wide(shape[NODE_COUNT_AT]);
+    let nodes = wide16(shape[NODE_COUNT_AT]);
     let mut good = true;
     let mut at: usize = NODES_AT;
     let mut i: usize = 0;
@@ -119,7 +114,7 @@ pub fn edges_fit(shape: &[u16]) -> bool
 {
     let nodes = shape[NODE_COUNT_AT];
     let columns = shape[EDGE_COLUMN_COUNT_AT];
-    let edges = wide(shape[EDGE_COUNT_AT]);
+    let edges = wide16(shape[EDGE_COUNT_AT]);
     let mut good = true;
     let mut at: usize = EDGES_AT;
     let mut i: usize = 0;
@@ -140,7 +135,7 @@ pub fn aggregates_fit(shape: &[u16]) -> bool
     ensures { λ r. ⌜ ((s : Store) → s .shape ≡ now (shape .entry) → r ≡ allEntries (aggregateFits s) aggregateWidth aggregatesAt (aggregateCount s)) ⌝ }
 {
     let varying = shape[VARYING_COUNT_AT];
-    let aggregates = wide(shape[AGGREGATE_COUNT_AT]);
+    let aggregates = wide16(shape[AGGREGATE_COUNT_AT]);
     let mut good = true;
     let mut at: usize = AGGREGATES_AT;
     let mut i: usize = 0;
@@ -158,7 +153,7 @@ pub fn virtual_storages_fit(shape: &[u16]) -> bool
     ensures { λ r. ⌜ ((s : Store) → s .shape ≡ now (shape .entry) → r ≡ allEntries (virtualStorageFits s) virtualStorageWidth virtualStoragesAt (virtualStorageCount s)) ⌝ }
 {
     let varying = shape[VARYING_COUNT_AT];
-    let virtual_storages = wide(shape[VIRTUAL_STORAGE_COUNT_AT]);
+    let virtual_storages = wide16(shape[VIRTUAL_STORAGE_COUNT_AT]);
     let mut good = true;
     let mut at: usize = VIRTUAL_STORAGES_AT;
     let mut i: usize = 0;

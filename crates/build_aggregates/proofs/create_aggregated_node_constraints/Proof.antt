@@ -64,8 +64,8 @@ to-slice-known4 c =
 
 abbrev to-put-aggregate-arg : tie.After-slice-known5 Inv-loop μ-loop → tie.After-put-aggregate-arg Inv-loop μ-loop
 to-put-aggregate-arg c =
-    let after-row-word = c .before .before .before in
-    after-row-word .before
+    let after-narrow16 = c .before .before .before in
+    after-narrow16 .before
 
 loop-holds : tie.Need-loop-holds Inv-loop μ-loop
 unfolding recordsEnd
@@ -108,8 +108,8 @@ sub-put-aggregate c =
     let at-loop = to-loop (to-add-aggregate-row-arg3 (after-r .before .before)) in
     omega (arith, call .kept .1 .1 .1 .1 .1 .1 .1 .1 .1 .0, at-loop .loop .inv .3, to-start at-loop .pre .1 .words-room)
 
-row-word-requires : tie.Need-row-word-requires Inv-loop μ-loop
-row-word-requires c κs =
+narrow16-requires : tie.Need-narrow16-requires Inv-loop μ-loop
+narrow16-requires c κs =
     let after-r = c .before .before in
     let after-add-aggregate-row = to-add-aggregate-row (after-r .before .before) in
     let then1 = to-then1 after-add-aggregate-row in
@@ -149,8 +149,8 @@ loop-less c =
 loop-again : tie.Need-loop-again Inv-loop μ-loop
 loop-again c =
     let after-put-aggregate = c .before .before .before in
-    let after-row-word = after-put-aggregate .before in
-    let after-r = after-row-word .before .before .before in
+    let after-narrow16 = after-put-aggregate .before in
+    let after-r = after-narrow16 .before .before .before in
     let after-add-aggregate-row = to-add-aggregate-row (after-r .before .before) in
     let then1 = to-then1 after-add-aggregate-row in
     let at-loop = then1 .before .before in
@@ -161,9 +161,9 @@ loop-again c =
     let call = after-add-aggregate-row .add-aggregate-row in (
       (λ rows held.
           let a = l .inv .0 rows held in
-          asked-more _ _ _ _ _ _ _ (omega arith) _ _ _ _ _ _ _ _ (asked-under _ (t .args .c) (t .pre .0 .sections) _ _ lt (l .inv .1)) (asked-row _ (t .args .c) (t .pre .0 .sections) _ _ lt (l .inv .1)) a (call .ensures _ (a .held)) _ _ (after-r .r .given .1) (aggregatesAt + l .i) (after-row-word .row-word .result ∷ []) _ (omega arith) refl
+          asked-more _ _ _ _ _ _ _ (omega arith) _ _ _ _ _ _ _ _ (asked-under _ (t .args .c) (t .pre .0 .sections) _ _ lt (l .inv .1)) (asked-row _ (t .args .c) (t .pre .0 .sections) _ _ lt (l .inv .1)) a (call .ensures _ (a .held)) _ _ (after-r .r .given .1) (aggregatesAt + l .i) (after-narrow16 .narrow16 .result ∷ []) _ (omega arith) refl
           (omega (arith, call .kept .1 .1 .1 .1 .1 .1 .1 .1 .1 .0, l .inv .3, t .pre .1 .words-room, t .pre .0 .sections .few-aggregates, lt))
-          (λ places e. ap (λ (k : ℕ). places ++ (k ∷ [])) (sym (after-row-word .row-word .ensures))) (after-put-aggregate .put-aggregate .ensures)),
+          (λ places e. ap (λ (k : ℕ). places ++ (k ∷ [])) (sym (after-narrow16 .narrow16 .ensures))) (after-put-aggregate .put-aggregate .ensures)),
       aggregate-next _ (t .args .c) (t .pre .0 .sections) _ _ lt (l .inv .1) _ (c .aggregate-end .ensures),
       omega arith,
       tail-kept shapeMadeAt (call .last .1 .1 .1 .1 .1 .1 .1 .1 .1 .0) (after-put-aggregate .put-aggregate .last .0) (after-put-aggregate .put-aggregate .kept .0) ∙ call .kept .1 .1 .1 .1 .1 .1 .1 .1 .1 .0 ∙ l .inv .3,
@@ -203,7 +203,7 @@ create-aggregated-node-constraints-spec =
     sub-put-aggregate
     sub-put-aggregate
     (λ c. search needs)
-    row-word-requires
+    narrow16-requires
     put-aggregate-requires
     aggregate-end-requires
     add-i

@@ -4,6 +4,7 @@ use Prim.Native.Nat.{_+_, _-_, _≤_}
 use lib.ListN.{length, take, length-set}
 use lib.Seq.{sets}
 use Rattle.build_append.proofs.AddLaws.{column-under, columns-next, columns-end}
+use native.Mathlib.Omega.{arith}
 use borrow.Author.Needs.{needs}
 use Rattle.build_append.proofs.put_columns.Statement.{statement}
 use Rattle.build_append.proofs.put_columns.Tie as tie
@@ -29,18 +30,19 @@ loop-holds : tie.Need-loop-holds Inv-loop μ-loop
 loop-holds c =
     (search needs, refl, refl)
 
-column-word-requires : tie.Need-column-word-requires Inv-loop μ-loop
-column-word-requires c κs =
+u32-to-u16-requires : tie.Need-u32-to-u16-requires Inv-loop μ-loop
+u32-to-u16-requires c κs =
     let start = to-start-from-shared-slice-known2 c in
-    column-under _ _ _ (start .pre .1) (start .pre .2) (c .before .loop-test .taken)
+    let under = column-under _ _ _ (start .pre .1) (start .pre .2) (c .before .loop-test .taken) in
+    omega arith
 
 loop-again : tie.Need-loop-again Inv-loop μ-loop
 loop-again c =
     let start = to-start-from-shared-slice-known2 (c .before) in
     let l = c .before .before .before .loop in (
       search needs,
-      columns-next _ _ _ _ _ _ (start .pre .1) _ (c .before .before .loop-test .taken) (c .column-word .ensures) (l .inv .1),
-      length-set (l .words) (start .args .at + l .i) (c .column-word .result) ∙ l .inv .2,
+      columns-next _ _ _ _ _ _ (start .pre .1) _ (c .before .before .loop-test .taken) (c .u32-to-u16 .ensures) (l .inv .1),
+      length-set (l .words) (start .args .at + l .i) (c .u32-to-u16 .result) ∙ l .inv .2,
     )
 
 returns : tie.Need-returns Inv-loop μ-loop
@@ -58,7 +60,7 @@ put-columns-spec =
     loop-holds
     (λ c. search needs)
     (λ c. search needs)
-    column-word-requires
+    u32-to-u16-requires
     (λ c. search needs)
     (λ c. search needs)
     (λ c. search needs)

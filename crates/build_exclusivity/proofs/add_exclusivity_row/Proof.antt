@@ -15,21 +15,21 @@ to-start c =
     let after-shared-slice-known = c .before .before .before in
     after-shared-slice-known .before
 
-abbrev to-active-bound2 : tie.After-exclusivity-row → tie.After-active-bound2
-to-active-bound2 c =
+abbrev to-upper : tie.After-exclusivity-row → tie.After-u32-to-f642
+to-upper c =
     let after-struct-known = c .before .before .before in
     after-struct-known .before
 
 abbrev to-is-exclusive : tie.After-exclusivity-row → tie.After-is-exclusive
 to-is-exclusive c =
-    let after-active-bound2 = to-active-bound2 c in
-    let after-min-active = after-active-bound2 .before .before .before in
+    let after-upper = to-upper c in
+    let after-min-active = after-upper .before .before .before in
     after-min-active .before .before
 
 abbrev to-then1 : tie.After-exclusivity-row-arg2 → tie.Then1
 to-then1 c =
-    let after-active-bound2 = c .before .before .before in
-    let after-min-active = after-active-bound2 .before .before .before in
+    let after-upper = c .before .before .before in
+    let after-min-active = after-upper .before .before .before in
     after-min-active .before
 
 abbrev to-exclusivity-row : tie.After-add-fixed-row-arg3 → tie.After-exclusivity-row
@@ -58,19 +58,20 @@ add-fixed-row-requires c κs =
     (record { words-room = start .pre .4 .words-room; numbers-room = lent-long (start .args .numbers .now) (after-exclusivity-row .exclusivity-row .last .1 .1 .1 .1 .1 .1 .0) (2048 + start .args .f .elements) (after-exclusivity-row .exclusivity-row .kept .1 .1 .1 .1 .1 .1 .0) (start .pre .4 .numbers-room) }, after-exclusivity-row .exclusivity-row .ensures .few, few .0, few .1, after-exclusivity-row .exclusivity-row .ensures .rising)
 
 returns : tie.Need-returns
+unfolding double
 returns c =
     let after-add-fixed-row = to-add-fixed-row c in
     let after-exclusivity-row = to-exclusivity-row (after-add-fixed-row .before) in
-    let after-active-bound2 = to-active-bound2 after-exclusivity-row in
-    let after-max-active = after-active-bound2 .before in
-    let after-active-bound = after-max-active .before in
-    let after-min-active = after-active-bound .before in
+    let after-upper = to-upper after-exclusivity-row in
+    let after-max-active = after-upper .before in
+    let after-lower = after-max-active .before in
+    let after-min-active = after-lower .before in
     let then1 = after-min-active .before in
     let after-is-exclusive = then1 .before in
     let start = to-start after-is-exclusive in
     let x = sym (after-is-exclusive .is-exclusive .ensures) ∙ then1 .if1 .taken in
     λ map m. exclusivity-row-added _ _ _ _ _ _ _ _ (after-exclusivity-row .exclusivity-row .ensures) x map m _ _ _ _ refl (lent-room _ _ _ (start .pre .5) (start .pre .4 .numbers-room) .0) _ _ _ _ _
-    (after-active-bound .active-bound .ensures ∙ ap double (after-min-active .min-active .ensures)) (after-active-bound2 .active-bound2 .ensures ∙ ap double (after-max-active .max-active .ensures)) (after-add-fixed-row .add-fixed-row .ensures)
+    (after-lower .u32-to-f64 .ensures ∙ ap double (after-min-active .min-active .ensures)) (after-upper .u32-to-f642 .ensures ∙ ap double (after-max-active .max-active .ensures)) (after-add-fixed-row .add-fixed-row .ensures)
 
 returns-2 : tie.Need-returns-2
 returns-2 c =

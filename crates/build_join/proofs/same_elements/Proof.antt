@@ -44,31 +44,31 @@ returns : tie.Need-returns Inv-loop μ-loop
 returns c =
     let start = to-start (to-loop c) in
     let l = to-loop c .loop in
-    sym (l .inv .1 ∙ columns-differ _ _ _ _ _ _ _ (start .pre) (to-in-loop c .loop-test .taken) (λ e. c .if1 .taken (c .before .before .wide-column .ensures .0 ∙ e)))
+    sym (l .inv .1 ∙ columns-differ _ _ _ _ _ _ _ (start .pre) (to-in-loop c .loop-test .taken) (λ e. c .if1 .taken (c .before .before .u16-to-u32 .ensures .0 ∙ e)))
 
 returns-2 : tie.Need-returns-2 Inv-loop μ-loop
 unfolding ne
 returns-2 c =
     let else1 = c .before .before .before in
-    let after-wide-column = else1 .before .before in
-    let in-loop = after-wide-column .before .before in
+    let after-u16-to-u32 = else1 .before .before in
+    let in-loop = after-u16-to-u32 .before .before in
     let at-loop = in-loop .before in
     let start-place = to-start at-loop in
     let start = start-place in
     let l = at-loop .loop in
-    sym (l .inv .1 ∙ values-differ _ _ _ _ _ _ _ (start .pre) (in-loop .loop-test .taken) (sym (after-wide-column .wide-column .ensures .0) ∙ else1 .if1 .left) (not-true _ (c .if2 .taken)))
+    sym (l .inv .1 ∙ values-differ _ _ _ _ _ _ _ (start .pre) (in-loop .loop-test .taken) (sym (after-u16-to-u32 .u16-to-u32 .ensures .0) ∙ else1 .if1 .left) (not-true _ (c .if2 .taken)))
 
 loop-again : tie.Need-loop-again Inv-loop μ-loop
 unfolding ne
 loop-again c =
     let else1 = c .before .before .before in
-    let after-wide-column = else1 .before .before in
-    let in-loop = after-wide-column .before .before in
+    let after-u16-to-u32 = else1 .before .before in
+    let in-loop = after-u16-to-u32 .before .before in
     let at-loop = in-loop .before in
     let start-place = to-start at-loop in
     let start = start-place in
     let l = at-loop .loop in
-    (search needs, l .inv .1 ∙ same-next _ _ _ _ _ _ _ (start .pre) (in-loop .loop-test .taken) (sym (after-wide-column .wide-column .ensures .0) ∙ else1 .if1 .left) (not-false _ (c .if2 .left)))
+    (search needs, l .inv .1 ∙ same-next _ _ _ _ _ _ _ (start .pre) (in-loop .loop-test .taken) (sym (after-u16-to-u32 .u16-to-u32 .ensures .0) ∙ else1 .if1 .left) (not-false _ (c .if2 .left)))
 
 returns-3 : tie.Need-returns-3 Inv-loop μ-loop
 returns-3 c =

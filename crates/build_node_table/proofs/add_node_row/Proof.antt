@@ -24,8 +24,8 @@ to-slice-known4 c =
     let at-match-keys2 = c .before .before .before in
     at-match-keys2 .before
 
-row-word-requires : tie.Need-row-word-requires
-row-word-requires c κs =
+narrow16-requires : tie.Need-narrow16-requires
+narrow16-requires c κs =
     let h = to-start (to-add-variable-row (to-slice-known4 c)) .pre .3 in
     place-fits _ (joined (h .asks) .rows) _ _ _ _ _ _ _ (h .held .held) (to-add-variable-row (to-slice-known4 c) .add-variable-row .ensures (joined (h .asks) .rows) (h .held .held)) _ _ (c .before .before .r .given .1)
 
@@ -42,15 +42,15 @@ returns c =
 returns-2 : tie.Need-returns-2
 returns-2 c =
     let after-put-node-row = c .before .before in
-    let after-row-word = after-put-node-row .before in
-    let after-r = after-row-word .before .before .before in
+    let after-narrow16 = after-put-node-row .before in
+    let after-r = after-narrow16 .before .before .before in
     let after-add-variable-row = to-add-variable-row (after-r .before .before) in
     let start = to-start after-add-variable-row in
     let room = start .pre .4 in
     let long = start .pre .0 .words-room in
     let kept = after-add-variable-row .add-variable-row .kept .0 in
     λ t et asks h.
-    row-placed _ asks _ _ _ _ _ _ _ h (after-add-variable-row .add-variable-row .ensures (joined asks .rows) (h .held)) _ _ (after-r .r .given .1) _ _ _ (after-row-word .row-word .ensures) et (omega arith) (after-put-node-row .put-node-row .ensures)
+    row-placed _ asks _ _ _ _ _ _ _ h (after-add-variable-row .add-variable-row .ensures (joined asks .rows) (h .held)) _ _ (after-r .r .given .1) _ _ _ (after-narrow16 .narrow16 .ensures) et (omega arith) (after-put-node-row .put-node-row .ensures)
 
 pub add-node-row-spec : {M : Type 1} → statement M
 add-node-row-spec =
@@ -62,7 +62,7 @@ add-node-row-spec =
     (λ c. search needs)
     (λ c. search needs)
     (λ c. search needs)
-    row-word-requires
+    narrow16-requires
     put-node-row-requires
     (λ c. search needs)
     (λ c. search needs)

@@ -15,7 +15,7 @@ to-start c =
     let after-wide = c .before .before .before in
     after-wide .before .before
 
-abbrev to-wide-from-joined1 : tie.Joined1 → tie.After-wide
+abbrev to-wide-from-joined1 : tie.Joined1 → tie.After-u16-to-u32
 to-wide-from-joined1 c =
     let after-place-of-arg = c .before .before .before in
     after-place-of-arg .before
@@ -25,7 +25,7 @@ to-place-of c =
     let then1 = c .before .before .before in
     then1 .before
 
-abbrev to-wide-from-slice-known2 : tie.After-slice-known2 → tie.After-wide
+abbrev to-wide-from-slice-known2 : tie.After-slice-known2 → tie.After-u16-to-u32
 to-wide-from-slice-known2 c =
     let after-place-of = to-place-of c in
     after-place-of .before .before .before
@@ -35,7 +35,7 @@ absent : (c : tie.Joined1)
     → let a = to-start (c .before) .args in
     Absent (a .columns .now) (a .n) (a .column .0) (c .before .place-of .result)
 absent c =
-    let e = to-wide-from-joined1 c .wide .ensures .0 in
+    let e = to-wide-from-joined1 c .u16-to-u32 .ensures .0 in
     ⊎-elim (λ w l q. w .2 .left (q ∙ sym e)) (λ w l q. omega arith) (c .if1 .came)
 
 free : (c : tie.Joined1) → to-start (c .before) .args .n < 640
@@ -47,7 +47,7 @@ free c =
 returns : tie.Need-returns
 returns c =
     let s = to-start (to-place-of c) in
-    let e = to-wide-from-slice-known2 c .wide .ensures .0 in
+    let e = to-wide-from-slice-known2 c .u16-to-u32 .ensures .0 in
     let long : length (s .args .columns .now) ≡ 640 = omega arith in
     element-added _ _ _ _ long (s .pre .0) (s .pre .2) (s .pre .3) (to-place-of c .place-of .ensures) _ _ (s .pre .1) (c .before .before .before .if1 .taken) (c .before .if2 .taken ∙ e)
 

@@ -24,7 +24,7 @@ returns : tie.Need-returns Inv-loop μ-loop
 returns c =
     let c2 = c .before .before in
     let c4 = c2 .before .before in
-    rw (← (c .wide .ensures .0)) (shift-done 0 _ _ _ (c4 .pre .0) (c4 .pre .1) _ _ (c2 .loop .inv) _ (c .before .loop-test .left))
+    rw (← (c .u16-to-u32 .ensures .0)) (shift-done 0 _ _ _ (c4 .pre .0) (c4 .pre .1) _ _ (c2 .loop .inv) _ (c .before .loop-test .left))
 
 pub insert-column-spec : {M : Type 1} → statement M
 insert-column-spec =

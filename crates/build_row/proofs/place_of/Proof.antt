@@ -20,7 +20,7 @@ returns-2 : tie.Need-returns-2 Inv-loop μ-loop
 returns-2 c =
     let c3 = c .before .before .before in
     let c5 = c3 .before .before in
-    rw (← (c3 .wide .ensures .0)) (place-last _ _ _ (c5 .pre .0) (c5 .pre .1) (omega arith) (c .if2 .taken))
+    rw (← (c3 .u16-to-u32 .ensures .0)) (place-last _ _ _ (c5 .pre .0) (c5 .pre .1) (omega arith) (c .if2 .taken))
 
 loop-holds : tie.Need-loop-holds Inv-loop μ-loop
 loop-holds c =
@@ -47,7 +47,7 @@ returns-3 c =
     let c2 = c .before .before in
     let c5 = c2 .before .before .before in
     let c7 = c5 .before .before in
-    rw (← (c5 .wide .ensures .0)) (search-done _ _ _ (c7 .pre .0) (c7 .pre .1) _ _ (c .before .loop .inv) (c .loop-test .left))
+    rw (← (c5 .u16-to-u32 .ensures .0)) (search-done _ _ _ (c7 .pre .0) (c7 .pre .1) _ _ (c .before .loop .inv) (c .loop-test .left))
 
 pub place-of-spec : {M : Type 1} → statement M
 place-of-spec =

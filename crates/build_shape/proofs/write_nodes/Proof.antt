@@ -22,7 +22,7 @@ to-start c =
     let after-slice-known = c .before .before .before in
     after-slice-known .before .before
 
-abbrev to-loop : tie.After-word Inv-loop μ-loop → tie.At-loop Inv-loop μ-loop
+abbrev to-loop : tie.After-byte-to-u16 Inv-loop μ-loop → tie.At-loop Inv-loop μ-loop
 to-loop c =
     let in-loop = c .before .before .before in
     in-loop .before
@@ -54,14 +54,14 @@ slice-write-shape-2 c =
 loop-again : tie.Need-loop-again Inv-loop μ-loop
 loop-again c =
     let after-is-constant = c .before in
-    let after-word = after-is-constant .before in
-    let after-kind = after-word .before in
+    let after-byte-to-u16 = after-is-constant .before in
+    let after-kind = after-byte-to-u16 .before in
     let after-narrow16 = after-kind .before in
     let in-loop = after-narrow16 .before in
     let at-loop = in-loop .before in
     let start = at-loop .before .before .before in
     let e = after-narrow16 .narrow16 .ensures in
-    nodes-more _ _ _ _ _ _ _ (in-loop .loop-test .taken) (after-word .word .ensures ∙ after-kind .kind .ensures ∙ ap (λ (k : ℕ). nodeAt (start .args .s .now) (20 * k) .kind) e) (flag-yes _ (sym (after-is-constant .is-constant .ensures ∙ ap (λ (k : ℕ). nodeAt (start .args .s .now) (20 * k) .constant) e) ∙ c .if1 .taken)) (at-loop .loop .inv)
+    nodes-more _ _ _ _ _ _ _ (in-loop .loop-test .taken) (after-byte-to-u16 .byte-to-u16 .ensures .0 ∙ after-kind .kind .ensures ∙ ap (λ (k : ℕ). nodeAt (start .args .s .now) (20 * k) .kind) e) (flag-yes _ (sym (after-is-constant .is-constant .ensures ∙ ap (λ (k : ℕ). nodeAt (start .args .s .now) (20 * k) .constant) e) ∙ c .if1 .taken)) (at-loop .loop .inv)
 
 slice-write-shape-3 : tie.Need-slice-write-shape-3 Inv-loop μ-loop
 slice-write-shape-3 c =
@@ -73,14 +73,14 @@ slice-write-shape-3 c =
 loop-again-2 : tie.Need-loop-again-2 Inv-loop μ-loop
 loop-again-2 c =
     let after-is-constant = c .before in
-    let after-word = after-is-constant .before in
-    let after-kind = after-word .before in
+    let after-byte-to-u16 = after-is-constant .before in
+    let after-kind = after-byte-to-u16 .before in
     let after-narrow16 = after-kind .before in
     let in-loop = after-narrow16 .before in
     let at-loop = in-loop .before in
     let start = at-loop .before .before .before in
     let e = after-narrow16 .narrow16 .ensures in
-    nodes-more _ _ _ _ _ _ _ (in-loop .loop-test .taken) (after-word .word .ensures ∙ after-kind .kind .ensures ∙ ap (λ (k : ℕ). nodeAt (start .args .s .now) (20 * k) .kind) e) (flag-no _ (sym (after-is-constant .is-constant .ensures ∙ ap (λ (k : ℕ). nodeAt (start .args .s .now) (20 * k) .constant) e) ∙ c .if1 .left)) (at-loop .loop .inv)
+    nodes-more _ _ _ _ _ _ _ (in-loop .loop-test .taken) (after-byte-to-u16 .byte-to-u16 .ensures .0 ∙ after-kind .kind .ensures ∙ ap (λ (k : ℕ). nodeAt (start .args .s .now) (20 * k) .kind) e) (flag-no _ (sym (after-is-constant .is-constant .ensures ∙ ap (λ (k : ℕ). nodeAt (start .args .s .now) (20 * k) .constant) e) ∙ c .if1 .left)) (at-loop .loop .inv)
 
 same-length : tie.Need-same-length Inv-loop μ-loop
 same-length c =

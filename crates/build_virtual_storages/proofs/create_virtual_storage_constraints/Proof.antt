@@ -65,8 +65,8 @@ to-slice-known4 c =
 
 abbrev to-put-virtual-storage-arg : tie.After-slice-known5 Inv-loop μ-loop → tie.After-put-virtual-storage-arg Inv-loop μ-loop
 to-put-virtual-storage-arg c =
-    let after-row-word = c .before .before .before in
-    after-row-word .before
+    let after-narrow16 = c .before .before .before in
+    after-narrow16 .before
 
 loop-holds : tie.Need-loop-holds Inv-loop μ-loop
 unfolding recordsEnd
@@ -117,8 +117,8 @@ sub-put-virtual-storage c =
     let at-loop = to-loop (to-add-virtual-storage-row-arg3 (after-r .before .before)) in
     omega (arith, call .kept .1 .1 .1 .1 .1 .1 .1 .1 .1 .0, at-loop .loop .inv .3, to-start at-loop .pre .1 .words-room)
 
-row-word-requires : tie.Need-row-word-requires Inv-loop μ-loop
-row-word-requires c κs =
+narrow16-requires : tie.Need-narrow16-requires Inv-loop μ-loop
+narrow16-requires c κs =
     let after-r = c .before .before .before in
     let after-add-virtual-storage-row = to-add-virtual-storage-row (after-r .before .before) in
     let then1 = to-then1 after-add-virtual-storage-row in
@@ -158,8 +158,8 @@ loop-less c =
 loop-again : tie.Need-loop-again Inv-loop μ-loop
 loop-again c =
     let after-put-virtual-storage = c .before .before .before in
-    let after-row-word = after-put-virtual-storage .before in
-    let after-active-period = after-row-word .before .before in
+    let after-narrow16 = after-put-virtual-storage .before in
+    let after-active-period = after-narrow16 .before .before in
     let after-r = after-active-period .before .before in
     let after-add-virtual-storage-row = to-add-virtual-storage-row (after-r .before .before) in
     let then1 = to-then1 after-add-virtual-storage-row in
@@ -174,7 +174,7 @@ loop-again c =
           asked-more _ _ _ _ _ _ _ (omega arith) _ _ _ _ _ _ _ _ (asked-under _ (t .args .c) (t .pre .0 .sections) _ _ lt (l .inv .1)) (asked-row _ (t .args .c) (t .pre .0 .sections) _ _ lt (l .inv .1)) a (call .ensures _ (a .held)) _ _ (after-r .r .given .1) (virtualStoragesAt + 6 * l .i) _ _ (omega arith) (virtual-storage-wide _)
           (omega (arith, call .kept .1 .1 .1 .1 .1 .1 .1 .1 .1 .0, l .inv .3, t .pre .1 .words-room, t .pre .0 .sections .few-virtual-storages, lt))
           (table-more _ (t .args .c) (t .pre .0 .sections) _ _ lt (l .inv .1) _)
-          (entry-same _ _ _ _ _ _ _ (after-put-virtual-storage .put-virtual-storage .ensures) (after-row-word .row-word .ensures) (after-active-period .active-period .ensures))),
+          (entry-same _ _ _ _ _ _ _ (after-put-virtual-storage .put-virtual-storage .ensures) (after-narrow16 .narrow16 .ensures) (after-active-period .active-period .ensures))),
       virtual-storage-next _ (t .args .c) (t .pre .0 .sections) _ _ lt (l .inv .1) _ (c .virtual-storage-end .ensures),
       omega arith,
       tail-kept shapeMadeAt (call .last .1 .1 .1 .1 .1 .1 .1 .1 .1 .0) (after-put-virtual-storage .put-virtual-storage .last .0) (after-put-virtual-storage .put-virtual-storage .kept .0) ∙ call .kept .1 .1 .1 .1 .1 .1 .1 .1 .1 .0 ∙ l .inv .3,
@@ -212,7 +212,7 @@ create-virtual-storage-constraints-spec =
     sub-put-virtual-storage
     sub-put-virtual-storage
     (λ c. search needs)
-    row-word-requires
+    narrow16-requires
     put-virtual-storage-requires
     virtual-storage-end-requires
     add-i

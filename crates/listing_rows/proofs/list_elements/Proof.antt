@@ -20,12 +20,12 @@ abbrev μ-loop : tie.MeasureT-loop
 loop-again : tie.Need-loop-again Inv-loop μ-loop
 loop-again c =
     let put = c .before .before in
-    let wide = put .before .before in
-    let spare = wide .before .before .before in
+    let wide16 = put .before .before in
+    let spare = wide16 .before .before .before in
     let loop = spare .before .before .before in
     let known = loop .before .before .before in
     let a = known .before .args in
-    let e = bytes-more (a .columns .now) (a .elements .now) (loop .loop .i) (a .end) (wide .wide .result) (search needs) (search needs) (search needs) (wide .wide .ensures .0) in (
+    let e = bytes-more (a .columns .now) (a .elements .now) (loop .loop .i) (a .end) (wide16 .wide16 .result) (search needs) (search needs) (search needs) (wide16 .wide16 .ensures .0) in (
       search needs,
       search needs,
       search needs,

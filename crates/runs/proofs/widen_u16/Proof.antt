@@ -23,7 +23,7 @@ loop-again c =
     let c2 = c .before .before in
     let c3 = c2 .before in
     let c6 = c3 .before .before .before in
-    more _ _ _ _ _ _ _ 0 (c2 .loop-test .taken) (part-at (c6 .args .s .now) (c6 .args .at) (c6 .args .n) (c3 .loop .i) 0 (c2 .loop-test .taken) ∙ sym (c .wide .ensures .0)) (c3 .loop .inv)
+    more _ _ _ _ _ _ _ 0 (c2 .loop-test .taken) (part-at (c6 .args .s .now) (c6 .args .at) (c6 .args .n) (c3 .loop .i) 0 (c2 .loop-test .taken) ∙ sym (c .u16-to-u32 .ensures .0)) (c3 .loop .inv)
 
 same-length : tie.Need-same-length Inv-loop μ-loop
 same-length c =

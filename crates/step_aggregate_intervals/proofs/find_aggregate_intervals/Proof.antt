@@ -32,7 +32,7 @@ loop-again c =
     let at-loop = in-loop .before in
     let after-wide = at-loop .before .before .before in
     writing-more _ (record { lower = c .before .f64-at .result; upper = c .f64-at2 .result }) refl (search needs) (search needs) (in-loop .loop-test .taken)
-    (rw (c .before .f64-at .ensures, c .f64-at2 .ensures, after-wide .wide .ensures .0)) (at-loop .loop .inv)
+    (rw (c .before .f64-at .ensures, c .f64-at2 .ensures, after-wide .wide16 .ensures .0)) (at-loop .loop .inv)
 
 same-length : tie.Need-same-length Inv-loop μ-loop
 same-length c =
@@ -40,7 +40,7 @@ same-length c =
 
 returns : tie.Need-returns Inv-loop μ-loop
 returns c =
-    rw (← (c .before .before .wide2 .ensures .0)) (writing-all (c .loop-test .left) (c .before .loop .inv))
+    rw (← (c .before .before .wide162 .ensures .0)) (writing-all (c .loop-test .left) (c .before .loop .inv))
 
 pub find-aggregate-intervals-spec : {M : Type 1} → statement M
 find-aggregate-intervals-spec =

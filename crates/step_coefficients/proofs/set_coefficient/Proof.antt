@@ -7,18 +7,18 @@ use Rattle.step_coefficients.proofs.set_coefficient.Tie as tie
 
 column-place-requires : tie.Need-column-place-requires
 column-place-requires c κs =
-    let after-wide-start = c .before .before in
-    let after-shared-slice-known = after-wide-start .before .before .before in
+    let after-wide32 = c .before .before in
+    let after-shared-slice-known = after-wide32 .before .before .before in
     let start = after-shared-slice-known .before .before in
-    (omega arith, rw (after-wide-start .wide-start .ensures .0, c .wide-start2 .ensures .0) (start .pre .4))
+    (omega arith, rw (after-wide32 .wide32 .ensures .0, c .wide322 .ensures .0) (start .pre .4))
 
 returns : tie.Need-returns
 returns c =
     let p = c .column-place .ensures in
     record {
       place = c .column-place .result;
-      from = omega (arith, p .0, c .before .before .before .wide-start .ensures .0);
-      under = omega (arith, p .1, c .before .wide-start2 .ensures .0);
+      from = omega (arith, p .0, c .before .before .before .wide32 .ensures .0);
+      under = omega (arith, p .1, c .before .wide322 .ensures .0);
       on = p .2;
       stored = refl;
     }

@@ -24,15 +24,15 @@ unfolding edgeCost
 returns c =
     let after-outgoing-cost = c .before .before .before in
     let after-node-cost = after-outgoing-cost .before in
-    let after-wide2 = after-node-cost .before .before in
-    let after-wide = after-wide2 .before in
+    let after-wide162 = after-node-cost .before .before in
+    let after-wide16 = after-wide162 .before in
     rw (
       c .incoming-cost .ensures,
       after-outgoing-cost .outgoing-cost .ensures,
       after-node-cost .node-cost .ensures,
       c .before .node-cost2 .ensures,
-      after-wide .wide .ensures .0,
-      after-wide2 .wide2 .ensures .0,
+      after-wide16 .wide16 .ensures .0,
+      after-wide162 .wide162 .ensures .0,
     )
 
 pub edge-cost-spec : {M : Type 1} → statement M

@@ -6,7 +6,7 @@ use Rattle.step_costs.proofs.node_cost.Tie as tie
 returns : tie.Need-returns
 returns c =
     let after-wide = c .before in
-    rw (c .f64-at .ensures, after-wide .wide .ensures .0)
+    rw (c .f64-at .ensures, after-wide .wide16 .ensures .0)
 
 pub node-cost-spec : {M : Type 1} → statement M
 node-cost-spec = tie.close (tie.spec (λ c κs. search needs) (λ c. search needs) (λ c. search needs) (λ c. search needs) (λ c κs. search needs) returns)

@@ -38,12 +38,12 @@ returns c =
     let after-check-node = c .before .before .before in
     let in-loop = after-check-node .before .before .before in
     let at-loop = in-loop .before in
-    let after-wide = at-loop .before in
-    let after-shared-slice-known = after-wide .before .before .before in
+    let after-wide16 = at-loop .before in
+    let after-shared-slice-known = after-wide16 .before .before .before in
     let start = after-shared-slice-known .before in
     let told = sym (after-check-node .check-node .ensures) ∙ c .before .node .given .1 in
     let left = nodes-refused _ (nodeEntry (ofShape (start .args .shape .now))) _ _ _ _ _ _ (in-loop .loop-test .taken) told in
-    λ s e. rw (nodes-of s (start .args .shape .now) e, ← (after-wide .wide .ensures .0)) (sym (at-loop .loop .inv .3 ∙ left))
+    λ s e. rw (nodes-of s (start .args .shape .now) e, ← (after-wide16 .wide16 .ensures .0)) (sym (at-loop .loop .inv .3 ∙ left))
 
 loop-again : tie.Need-loop-again Inv-loop μ-loop
 unfolding nodeEntry
@@ -60,10 +60,10 @@ loop-again c =
 
 returns-2 : tie.Need-returns-2 Inv-loop μ-loop
 returns-2 c =
-    let after-wide = c .before .before in
-    let after-shared-slice-known = after-wide .before .before .before in
+    let after-wide16 = c .before .before in
+    let after-shared-slice-known = after-wide16 .before .before .before in
     let start = after-shared-slice-known .before in
-    λ s e. rw (nodes-of s (start .args .shape .now) e, ← (after-wide .wide .ensures .0))
+    λ s e. rw (nodes-of s (start .args .shape .now) e, ← (after-wide16 .wide16 .ensures .0))
     (sym (c .before .loop .inv .3 ∙ nodes-done _ (nodeEntry (ofShape (start .args .shape .now))) _ _ _ _ (c .loop-test .left)))
 
 pub check-nodes-spec : {M : Type 1} → statement M

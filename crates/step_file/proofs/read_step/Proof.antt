@@ -14,7 +14,7 @@ returns c =
     let after-wide2 = after-wide3 .before .before in
     let after-wide = after-wide2 .before .before in
     λ s e. rw (
-      step-answer s _ _ _ _ _ e (after-wide .wide .ensures .0) (after-wide2 .wide2 .ensures .0) (after-wide3 .wide3 .ensures .0),
+      step-answer s _ _ _ _ _ e (after-wide .wide16 .ensures .0) (after-wide2 .wide162 .ensures .0) (after-wide3 .wide163 .ensures .0),
       ←
           (after-check-date .check-date .ensures),
       c .before .date .given .1,
@@ -30,7 +30,7 @@ returns-2 c =
     let after-wide2 = after-wide3 .before .before in
     let after-wide = after-wide2 .before .before in
     λ s e. rw (
-      step-answer s _ _ _ _ _ e (after-wide .wide .ensures .0) (after-wide2 .wide2 .ensures .0) (after-wide3 .wide3 .ensures .0),
+      step-answer s _ _ _ _ _ e (after-wide .wide16 .ensures .0) (after-wide2 .wide162 .ensures .0) (after-wide3 .wide163 .ensures .0),
       ← (after-check-date .check-date .ensures),
       after-enum-told .enum-told .given .1,
       ← (after-check-nodes .check-nodes .ensures s e),
@@ -49,7 +49,7 @@ returns-3 c =
     let after-wide2 = after-wide3 .before .before in
     let after-wide = after-wide2 .before .before in
     λ s e. rw (
-      step-answer s _ _ _ _ _ e (after-wide .wide .ensures .0) (after-wide2 .wide2 .ensures .0) (after-wide3 .wide3 .ensures .0),
+      step-answer s _ _ _ _ _ e (after-wide .wide16 .ensures .0) (after-wide2 .wide162 .ensures .0) (after-wide3 .wide163 .ensures .0),
       ← (after-check-date .check-date .ensures),
       after-enum-told .enum-told .given .1,
       ← (after-check-nodes .check-nodes .ensures s e),
@@ -72,7 +72,7 @@ returns-4 c =
     let after-wide2 = after-wide3 .before .before in
     let after-wide = after-wide2 .before .before in
     λ s e. rw (
-      step-answer s _ _ _ _ _ e (after-wide .wide .ensures .0) (after-wide2 .wide2 .ensures .0) (after-wide3 .wide3 .ensures .0),
+      step-answer s _ _ _ _ _ e (after-wide .wide16 .ensures .0) (after-wide2 .wide162 .ensures .0) (after-wide3 .wide163 .ensures .0),
       ← (after-check-date .check-date .ensures),
       after-enum-told .enum-told .given .1,
       ← (after-check-nodes .check-nodes .ensures s e),
@@ -97,7 +97,7 @@ returns-5 c =
     let after-wide2 = after-wide3 .before .before in
     let after-wide = after-wide2 .before .before in
     λ s e. rw (
-      step-answer s _ _ _ _ _ e (after-wide .wide .ensures .0) (after-wide2 .wide2 .ensures .0) (after-wide3 .wide3 .ensures .0),
+      step-answer s _ _ _ _ _ e (after-wide .wide16 .ensures .0) (after-wide2 .wide162 .ensures .0) (after-wide3 .wide163 .ensures .0),
       ← (after-check-date .check-date .ensures),
       after-enum-told .enum-told .given .1,
       ← (after-check-nodes .check-nodes .ensures s e),

@@ -41,12 +41,12 @@ returns c =
     let after-narrow16 = after-node-interval .before in
     let in-loop = after-narrow16 .before in
     let at-loop = in-loop .before in
-    let after-wide = at-loop .before in
-    let after-shared-slice-known2 = after-wide .before .before .before in
+    let after-wide16 = at-loop .before in
+    let after-shared-slice-known2 = after-wide16 .before .before .before in
     let start = after-shared-slice-known2 .before .before in
     let a = start .args in
     let is = after-node-interval .node-interval .ensures ∙ ap (nodeNumbered (a .sentinel) (a .days) (a .shape .now) (a .file .now)) (after-narrow16 .narrow16 .ensures) in
-    rw (← (after-wide .wide .ensures .0)) (passed-stops _ _ (in-loop .loop-test .taken) is (c .before .is-crossed .ensures) (at-loop .loop .inv) 14 (c .if1 .taken))
+    rw (← (after-wide16 .wide16 .ensures .0)) (passed-stops _ _ (in-loop .loop-test .taken) is (c .before .is-crossed .ensures) (at-loop .loop .inv) 14 (c .if1 .taken))
 
 slice-write-work-2 : tie.Need-slice-write-work-2 Inv-loop μ-loop
 slice-write-work-2 c =
@@ -72,7 +72,7 @@ same-length-2 c =
 
 returns-2 : tie.Need-returns-2 Inv-loop μ-loop
 returns-2 c =
-    rw (← (c .before .before .wide .ensures .0)) (passed-all 14 (c .loop-test .left) (c .before .loop .inv))
+    rw (← (c .before .before .wide16 .ensures .0)) (passed-all 14 (c .loop-test .left) (c .before .loop .inv))
 
 pub find-node-intervals-spec : {M : Type 1} → statement M
 find-node-intervals-spec =

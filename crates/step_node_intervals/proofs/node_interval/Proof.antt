@@ -11,7 +11,7 @@ use Rattle.step_node_intervals.proofs.node_interval.Tie as tie
 returns : tie.Need-returns
 unfolding nodeNumbered nodeStepAt boundsRead nodeInterval
 returns c =
-    rw (← (c .before .before .before .wide .ensures .0), eq-eqb _ _ (c .before .if1 .taken)) (c .sentinels .ensures)
+    rw (← (c .before .before .before .wide16 .ensures .0), eq-eqb _ _ (c .before .if1 .taken)) (c .sentinels .ensures)
 
 returns-2 : tie.Need-returns-2
 unfolding nodeNumbered nodeStepAt boundsRead nodeInterval
@@ -23,7 +23,7 @@ returns-2 c =
     let else1 = after-f64-at .before in
     let after-wide = else1 .before .before in
     rw (
-      ← (after-wide .wide .ensures .0),
+      ← (after-wide .wide16 .ensures .0),
       ne-eqb _ _ (else1 .if1 .left),
       eq-eqb _ _ (then2 .if2 .taken),
       ← (after-f64-at .f64-at .ensures),
@@ -40,7 +40,7 @@ returns-3 c =
     let else1 = after-f64-at .before in
     let after-wide = else1 .before .before in
     rw (
-      ← (after-wide .wide .ensures .0),
+      ← (after-wide .wide16 .ensures .0),
       ne-eqb _ _ (else1 .if1 .left),
       ne-eqb _ _ (c .before .if2 .left),
       ← (after-f64-at .f64-at .ensures),

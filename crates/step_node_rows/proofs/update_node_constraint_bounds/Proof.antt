@@ -22,15 +22,15 @@ update-node-row-requires : tie.Need-update-node-row-requires Inv-loop μ-loop
 update-node-row-requires c κs =
     let in-loop = c .before .before .before in
     let at-loop = in-loop .before in
-    let after-wide = at-loop .before in
-    let after-shared-slice-known3 = after-wide .before .before .before in
+    let after-wide16 = at-loop .before in
+    let after-shared-slice-known3 = after-wide16 .before .before .before in
     let after-slice-known3 = after-shared-slice-known3 .before .before .before in
     let start = after-slice-known3 .before .before .before in
     let l = at-loop .loop in (
       long-still (start .pre .0) (l .inv .lower-long) (l .inv .upper-long) (l .inv .elements-long),
       start .pre .1,
-      rw (l .inv .place) (start .pre .3 (l .i) (omega (arith, in-loop .loop-test .taken, after-wide .wide .ensures .0))),
-      omega (arith, l .inv .place, in-loop .loop-test .taken, after-wide .wide .ensures .0, start .pre .2),
+      rw (l .inv .place) (start .pre .3 (l .i) (omega (arith, in-loop .loop-test .taken, after-wide16 .wide16 .ensures .0))),
+      omega (arith, l .inv .place, in-loop .loop-test .taken, after-wide16 .wide16 .ensures .0, start .pre .2),
     )
 
 loop-again : tie.Need-loop-again Inv-loop μ-loop
@@ -40,13 +40,13 @@ loop-again c =
     let after-update-node-row-arg = after-update-node-row .before .before .before in
     let in-loop = after-update-node-row-arg .before in
     let at-loop = in-loop .before in
-    let after-wide = at-loop .before in
-    let after-shared-slice-known3 = after-wide .before .before .before in
+    let after-wide16 = at-loop .before in
+    let after-shared-slice-known3 = after-wide16 .before .before .before in
     let after-slice-known3 = after-shared-slice-known3 .before .before .before in
     let start = after-slice-known3 .before .before .before in
     let l = at-loop .loop in
     applied-more _ _ _ _ _ _ _ _ (l .inv) _ _ _ (in-loop .loop-test .taken)
-    (rw (l .inv .place) (start .pre .3 (l .i) (omega (arith, in-loop .loop-test .taken, after-wide .wide .ensures .0)) .node))
+    (rw (l .inv .place) (start .pre .3 (l .i) (omega (arith, in-loop .loop-test .taken, after-wide16 .wide16 .ensures .0)) .node))
     (after-update-node-row .update-node-row .kept .0) (after-update-node-row .update-node-row .kept .1 .0)
     (after-update-node-row .update-node-row .kept .1 .1 .0) (after-update-node-row .update-node-row .ensures)
 
@@ -64,7 +64,7 @@ same-length-3 c =
 
 returns : tie.Need-returns Inv-loop μ-loop
 returns c =
-    λ s rows w. rw (← (c .before .before .wide .ensures .0)) (applied-all _ _ _ _ _ _ _ _ (c .before .loop .inv) (c .loop-test .left) s rows w)
+    λ s rows w. rw (← (c .before .before .wide16 .ensures .0)) (applied-all _ _ _ _ _ _ _ _ (c .before .loop .inv) (c .loop-test .left) s rows w)
 
 pub update-node-constraint-bounds-spec : {M : Type 1} → statement M
 update-node-constraint-bounds-spec =

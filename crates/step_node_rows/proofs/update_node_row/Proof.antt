@@ -10,33 +10,33 @@ use Rattle.step_node_rows.proofs.update_node_row.Statement.{statement}
 use Rattle.step_node_rows.proofs.update_node_row.Tie as tie
 
 -- from a place to an earlier one
-abbrev to-start : tie.After-wide → tie.Start
+abbrev to-start : tie.After-wide16 → tie.Start
 to-start c =
     let after-shared-slice-known3 = c .before .before .before in
     let after-slice-known3 = after-shared-slice-known3 .before .before .before in
     after-slice-known3 .before .before .before
 
-abbrev to-wide : tie.Else1 → tie.After-wide
-to-wide c =
+abbrev to-wide16 : tie.Else1 → tie.After-wide16
+to-wide16 c =
     let after-shared-slice-known6 = c .before .before .before in
     after-shared-slice-known6 .before .before
 
-abbrev to-wide2 : tie.After-apply-row-bounds-arg2 → tie.After-wide2
-to-wide2 c =
+abbrev to-wide162 : tie.After-apply-row-bounds-arg2 → tie.After-wide162
+to-wide162 c =
     let after-shared-slice-known7 = c .before .before .before in
     after-shared-slice-known7 .before
 
 held-interval-requires : tie.Need-held-interval-requires
 held-interval-requires c κs =
     let start = to-start c in
-    (start .pre .0 .work-long, omega (arith, c .wide .ensures .0, start .pre .2 .node, start .pre .1 .nodes))
+    (start .pre .0 .work-long, omega (arith, c .wide16 .ensures .0, start .pre .2 .node, start .pre .1 .nodes))
 
 apply-row-bounds-requires : tie.Need-apply-row-bounds-requires
 apply-row-bounds-requires c κs =
-    let after-wide2 = to-wide2 c in
-    let start = to-start (after-wide2 .before .before .before) in (
-      omega (arith, after-wide2 .wide2 .ensures .0, start .pre .2 .row, start .pre .1 .rows .rows, start .pre .0 .lower-long),
-      omega (arith, after-wide2 .wide2 .ensures .0, start .pre .2 .row, start .pre .1 .rows .rows, start .pre .0 .upper-long),
+    let after-wide162 = to-wide162 c in
+    let start = to-start (after-wide162 .before .before .before) in (
+      omega (arith, after-wide162 .wide162 .ensures .0, start .pre .2 .row, start .pre .1 .rows .rows, start .pre .0 .lower-long),
+      omega (arith, after-wide162 .wide162 .ensures .0, start .pre .2 .row, start .pre .1 .rows .rows, start .pre .0 .upper-long),
     )
 
 returns : tie.Need-returns
@@ -44,40 +44,40 @@ returns c =
     let after-row-lower = c .before .before .before in
     let after-apply-row-bounds = after-row-lower .before in
     let then1 = after-apply-row-bounds .before .before .before in
-    let after-wide2 = then1 .before .before in
-    let after-held-interval = after-wide2 .before .before in
-    let after-wide = after-held-interval .before in
-    let after-shared-slice-known3 = after-wide .before .before .before in
+    let after-wide162 = then1 .before .before in
+    let after-held-interval = after-wide162 .before .before in
+    let after-wide16 = after-held-interval .before in
+    let after-shared-slice-known3 = after-wide16 .before .before .before in
     let after-slice-known3 = after-shared-slice-known3 .before .before .before in
     let start = after-slice-known3 .before .before .before in
     λ s rows w.
     let a = start .args in
     let t = over s (a .columns .now) (a .row-starts .now) (a .shape .now) in
-    node-continuous t (a .work .now) (a .at) rows _ _ _ w _ (after-held-interval .held-interval .ensures ∙ rw (after-wide .wide .ensures .0)) (then1 .if1 .taken) _ _ _ (after-wide2 .wide2 .ensures .0)
+    node-continuous t (a .work .now) (a .at) rows _ _ _ w _ (after-held-interval .held-interval .ensures ∙ rw (after-wide16 .wide16 .ensures .0)) (then1 .if1 .taken) _ _ _ (after-wide162 .wide162 .ensures .0)
     (start .pre .2 .row) (omega (arith, start .pre .1 .rows .rows, start .pre .0 .lower-long)) (omega (arith, start .pre .1 .rows .rows, start .pre .0 .upper-long))
     (after-apply-row-bounds .apply-row-bounds .ensures)
 
 add-t28 : tie.Need-add-t28
 add-t28 c =
     let else1 = c .before .before in
-    let start = to-start (to-wide else1) in
+    let start = to-start (to-wide16 else1) in
     let h = start .pre .2 .set (else1 .if1 .left) in search needs
 
 set-coefficient-requires : tie.Need-set-coefficient-requires
 set-coefficient-requires c κs =
     let after-shared-slice-known8 = c .before .before .before in
     let else1 = after-shared-slice-known8 .before in
-    let after-wide2 = else1 .before .before in
-    let after-wide = after-wide2 .before .before .before in
-    let after-shared-slice-known3 = after-wide .before .before .before in
+    let after-wide162 = else1 .before .before in
+    let after-wide16 = after-wide162 .before .before .before in
+    let after-shared-slice-known3 = after-wide16 .before .before .before in
     let after-slice-known3 = after-shared-slice-known3 .before .before .before in
     let start = after-slice-known3 .before .before .before in
-    let r = after-wide2 .wide2 .result in (
-      omega (arith, after-wide2 .wide2 .ensures .0, start .pre .2 .row, start .pre .1 .rows .rows, start .pre .1 .rows .starts-long),
-      omega (arith, start-under (start .pre .1 .rows .starts) (r + 1) (omega (arith, after-wide2 .wide2 .ensures .0, start .pre .2 .row)), start .pre .1 .rows .kept),
+    let r = after-wide162 .wide162 .result in (
+      omega (arith, after-wide162 .wide162 .ensures .0, start .pre .2 .row, start .pre .1 .rows .rows, start .pre .1 .rows .starts-long),
+      omega (arith, start-under (start .pre .1 .rows .starts) (r + 1) (omega (arith, after-wide162 .wide162 .ensures .0, start .pre .2 .row)), start .pre .1 .rows .kept),
       start .pre .1 .rows .columns-long,
       start .pre .0 .elements-long,
-      rw (after-wide2 .wide2 .ensures .0) (start .pre .2 .column (else1 .if1 .left)),
+      rw (after-wide162 .wide162 .ensures .0) (start .pre .2 .column (else1 .if1 .left)),
     )
 
 returns-2 : tie.Need-returns-2
@@ -85,33 +85,33 @@ returns-2 c =
     let after-set-coefficient = c .before .before in
     let then2 = after-set-coefficient .before .before in
     let else1 = then2 .before .before .before in
-    let after-wide2 = else1 .before .before in
-    let after-held-interval = after-wide2 .before .before in
-    let after-wide = after-held-interval .before in
-    let after-shared-slice-known3 = after-wide .before .before .before in
+    let after-wide162 = else1 .before .before in
+    let after-held-interval = after-wide162 .before .before in
+    let after-wide16 = after-held-interval .before in
+    let after-shared-slice-known3 = after-wide16 .before .before .before in
     let after-slice-known3 = after-shared-slice-known3 .before .before .before in
     let start = after-slice-known3 .before .before .before in
     λ s rows w.
     let a = start .args in
     let t = over s (a .columns .now) (a .row-starts .now) (a .shape .now) in
-    node-upper t (a .work .now) (a .at) rows _ _ _ w _ (after-held-interval .held-interval .ensures ∙ rw (after-wide .wide .ensures .0)) (start .pre .1) _ _ _ (after-wide2 .wide2 .ensures .0)
+    node-upper t (a .work .now) (a .at) rows _ _ _ w _ (after-held-interval .held-interval .ensures ∙ rw (after-wide16 .wide16 .ensures .0)) (start .pre .1) _ _ _ (after-wide162 .wide162 .ensures .0)
     (start .pre .2 .row) refl (then2 .if2 .taken) (after-set-coefficient .set-coefficient .ensures)
 
 set-coefficient-requires-2 : tie.Need-set-coefficient-requires-2
 set-coefficient-requires-2 c κs =
     let after-shared-slice-known9 = c .before .before .before in
     let else1 = after-shared-slice-known9 .before .before in
-    let after-wide2 = else1 .before .before in
-    let after-wide = after-wide2 .before .before .before in
-    let after-shared-slice-known3 = after-wide .before .before .before in
+    let after-wide162 = else1 .before .before in
+    let after-wide16 = after-wide162 .before .before .before in
+    let after-shared-slice-known3 = after-wide16 .before .before .before in
     let after-slice-known3 = after-shared-slice-known3 .before .before .before in
     let start = after-slice-known3 .before .before .before in
-    let r = after-wide2 .wide2 .result in (
-      omega (arith, after-wide2 .wide2 .ensures .0, start .pre .2 .row, start .pre .1 .rows .rows, start .pre .1 .rows .starts-long),
-      omega (arith, start-under (start .pre .1 .rows .starts) (r + 1) (omega (arith, after-wide2 .wide2 .ensures .0, start .pre .2 .row)), start .pre .1 .rows .kept),
+    let r = after-wide162 .wide162 .result in (
+      omega (arith, after-wide162 .wide162 .ensures .0, start .pre .2 .row, start .pre .1 .rows .rows, start .pre .1 .rows .starts-long),
+      omega (arith, start-under (start .pre .1 .rows .starts) (r + 1) (omega (arith, after-wide162 .wide162 .ensures .0, start .pre .2 .row)), start .pre .1 .rows .kept),
       start .pre .1 .rows .columns-long,
       start .pre .0 .elements-long,
-      rw (after-wide2 .wide2 .ensures .0) (start .pre .2 .column (else1 .if1 .left)),
+      rw (after-wide162 .wide162 .ensures .0) (start .pre .2 .column (else1 .if1 .left)),
     )
 
 returns-3 : tie.Need-returns-3
@@ -119,16 +119,16 @@ returns-3 c =
     let after-set-coefficient2 = c .before .before in
     let else2 = after-set-coefficient2 .before .before .before in
     let else1 = else2 .before .before .before in
-    let after-wide2 = else1 .before .before in
-    let after-held-interval = after-wide2 .before .before in
-    let after-wide = after-held-interval .before in
-    let after-shared-slice-known3 = after-wide .before .before .before in
+    let after-wide162 = else1 .before .before in
+    let after-held-interval = after-wide162 .before .before in
+    let after-wide16 = after-held-interval .before in
+    let after-shared-slice-known3 = after-wide16 .before .before .before in
     let after-slice-known3 = after-shared-slice-known3 .before .before .before in
     let start = after-slice-known3 .before .before .before in
     λ s rows w.
     let a = start .args in
     let t = over s (a .columns .now) (a .row-starts .now) (a .shape .now) in
-    node-lower t (a .work .now) (a .at) rows _ _ _ w _ (after-held-interval .held-interval .ensures ∙ rw (after-wide .wide .ensures .0)) (start .pre .1) _ _ _ (after-wide2 .wide2 .ensures .0)
+    node-lower t (a .work .now) (a .at) rows _ _ _ w _ (after-held-interval .held-interval .ensures ∙ rw (after-wide16 .wide16 .ensures .0)) (start .pre .1) _ _ _ (after-wide162 .wide162 .ensures .0)
     (start .pre .2 .row) refl (else1 .if1 .left) (else2 .if2 .left) (after-set-coefficient2 .set-coefficient2 .ensures)
 
 pub update-node-row-spec : {M : Type 1} → statement M

@@ -20,8 +20,8 @@ to-start c =
 
 abbrev to-in-loop : tie.After-held-interval Inv-loop μ-loop → tie.In-loop Inv-loop μ-loop
 to-in-loop c =
-    let after-wide = c .before .before .before in
-    after-wide .before .before
+    let after-wide16 = c .before .before .before in
+    after-wide16 .before .before
 
 abbrev to-apply-row-bounds : tie.After-slice-known4 Inv-loop μ-loop → tie.After-apply-row-bounds Inv-loop μ-loop
 to-apply-row-bounds c =
@@ -37,12 +37,12 @@ loop-holds : tie.Need-loop-holds Inv-loop μ-loop
 loop-holds c =
     applied-none _ _ _ _ _ _ _ _
 
-mul-wide : tie.Need-mul-wide Inv-loop μ-loop
-mul-wide c =
+mul-wide16 : tie.Need-mul-wide16 Inv-loop μ-loop
+mul-wide16 c =
     let h = entry-within (to-start (c .before) .pre .0) _ _ (c .loop-test .taken) (c .before .loop .inv .place) in search needs
 
-shared-slice-read-wide : tie.Need-shared-slice-read-wide Inv-loop μ-loop
-shared-slice-read-wide c =
+shared-slice-read-wide16 : tie.Need-shared-slice-read-wide16 Inv-loop μ-loop
+shared-slice-read-wide16 c =
     let at-loop = c .before .before in
     let start = to-start at-loop in
     let h = entry-within (start .pre .0) _ _ (c .before .loop-test .taken) (at-loop .loop .inv .place) in search needs
@@ -65,13 +65,13 @@ loop-again : tie.Need-loop-again Inv-loop μ-loop
 loop-again c =
     let after-apply-row-bounds = to-apply-row-bounds c in
     let after-held-interval = after-apply-row-bounds .before in
-    let after-wide = after-held-interval .before .before .before in
-    let in-loop = after-wide .before .before in
+    let after-wide16 = after-held-interval .before .before .before in
+    let in-loop = after-wide16 .before .before in
     let at-loop = in-loop .before in
     let start = to-start at-loop in
     let h = entry-row (start .pre .0) _ _ (in-loop .loop-test .taken) (at-loop .loop .inv .place) in
-    applied-more _ _ _ _ _ _ _ _ (at-loop .loop .inv) _ _ _ _ (in-loop .loop-test .taken) (after-wide .wide .ensures .0)
-    (after-held-interval .held-interval .ensures) (omega (arith, h, after-wide .wide .ensures .0))
+    applied-more _ _ _ _ _ _ _ _ (at-loop .loop .inv) _ _ _ _ (in-loop .loop-test .taken) (after-wide16 .wide16 .ensures .0)
+    (after-held-interval .held-interval .ensures) (omega (arith, h, after-wide16 .wide16 .ensures .0))
     (omega (arith, start .pre .0 .varying, start .pre .1)) (omega (arith, start .pre .0 .varying, start .pre .2))
     (after-apply-row-bounds .apply-row-bounds .kept .0) (after-apply-row-bounds .apply-row-bounds .kept .1 .0)
     (after-apply-row-bounds .apply-row-bounds .ensures)
@@ -95,8 +95,8 @@ apply-intervals-spec =
     Inv-loop
     μ-loop
     loop-holds
-    mul-wide
-    shared-slice-read-wide
+    mul-wide16
+    shared-slice-read-wide16
     (λ c κs. search needs)
     (λ c. search needs)
     (λ c κs. search needs)

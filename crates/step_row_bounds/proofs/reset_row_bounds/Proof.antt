@@ -14,12 +14,12 @@ returns c =
     let after-row-lower = after-high .before .before .before in
     let after-fill-f64 = after-row-lower .before in
     let after-low = after-fill-f64 .before in
-    let after-wide = after-low .before .before in
-    let after-kept-sentinel = after-wide .before .before in
+    let after-wide16 = after-low .before .before in
+    let after-kept-sentinel = after-wide16 .before .before in
     λ rows e.
     reset _ rows _ _ _ _ _ e
-    (after-fill-f64 .fill-f64 .ensures ∙ rw (after-wide .wide .ensures .0, after-low .low .ensures, after-kept-sentinel .kept-sentinel .ensures))
-    (after-fill-f642 .fill-f642 .ensures ∙ rw (after-wide .wide .ensures .0, after-high .high .ensures, after-kept-sentinel .kept-sentinel .ensures))
+    (after-fill-f64 .fill-f64 .ensures ∙ rw (after-wide16 .wide16 .ensures .0, after-low .low .ensures, after-kept-sentinel .kept-sentinel .ensures))
+    (after-fill-f642 .fill-f642 .ensures ∙ rw (after-wide16 .wide16 .ensures .0, after-high .high .ensures, after-kept-sentinel .kept-sentinel .ensures))
 
 pub reset-row-bounds-spec : {M : Type 1} → statement M
 reset-row-bounds-spec =

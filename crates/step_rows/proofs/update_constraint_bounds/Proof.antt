@@ -26,13 +26,13 @@ to-reset-row-bounds c =
     let after-row-lower = after-slice-known5 .before .before .before in
     after-row-lower .before
 
-abbrev to-update-node-constraint-bounds : tie.After-wide → tie.After-update-node-constraint-bounds
+abbrev to-update-node-constraint-bounds : tie.After-wide16 → tie.After-update-node-constraint-bounds
 to-update-node-constraint-bounds c =
     let after-elements = c .before .before .before in
     let after-slice-known6 = after-elements .before .before .before in
     after-slice-known6 .before .before
 
-abbrev to-apply-intervals : tie.After-wide2 → tie.After-apply-intervals
+abbrev to-apply-intervals : tie.After-wide162 → tie.After-apply-intervals
 to-apply-intervals c =
     let after-row-upper3 = c .before .before .before in
     after-row-upper3 .before .before .before
@@ -42,8 +42,8 @@ to-apply-intervals2 c =
     let after-row-lower4 = c .before .before .before in
     after-row-lower4 .before
 
-abbrev to-wide : tie.After-slice-known12 → tie.After-wide
-to-wide c =
+abbrev to-wide16 : tie.After-slice-known12 → tie.After-wide16
+to-wide16 c =
     let after-apply-intervals2 = to-apply-intervals2 c in
     let after-apply-intervals = to-apply-intervals (after-apply-intervals2 .before .before .before) in
     after-apply-intervals .before .before .before
@@ -73,8 +73,8 @@ update-node-constraint-bounds-requires c κs =
 
 apply-intervals-requires : tie.Need-apply-intervals-requires
 apply-intervals-requires c κs =
-    let after-wide = c .before .before in
-    let after-elements = after-wide .before .before .before in
+    let after-wide16 = c .before .before in
+    let after-elements = after-wide16 .before .before .before in
     let after-slice-known6 = after-elements .before .before .before in
     let after-update-node-constraint-bounds = after-slice-known6 .before .before in
     let after-update-node-constraint-bounds-arg = after-update-node-constraint-bounds .before .before .before in
@@ -86,20 +86,20 @@ apply-intervals-requires c κs =
     let start = after-slice-known .before in
     let p = start .pre in
     let f = fits (start) in (
-      rw (after-wide .wide .ensures .0) (f .aggregates),
+      rw (after-wide16 .wide16 .ensures .0) (f .aggregates),
       omega (arith, after-update-node-constraint-bounds .update-node-constraint-bounds .kept .0, after-reset-row-bounds .reset-row-bounds .kept .0, p .row-lower-long),
       omega (arith, after-update-node-constraint-bounds .update-node-constraint-bounds .kept .1 .0, after-reset-row-bounds .reset-row-bounds .kept .1 .0, p .row-upper-long),
       p .work-long,
-      omega (arith, after-wide .wide .ensures .0, f .aggregates-few),
+      omega (arith, after-wide16 .wide16 .ensures .0, f .aggregates-few),
     )
 
 apply-intervals-requires-2 : tie.Need-apply-intervals-requires-2
 apply-intervals-requires-2 c κs =
-    let after-wide2 = c .before .before in
-    let after-row-upper3 = after-wide2 .before .before .before in
+    let after-wide162 = c .before .before in
+    let after-row-upper3 = after-wide162 .before .before .before in
     let after-apply-intervals = after-row-upper3 .before .before .before in
-    let after-wide = after-apply-intervals .before .before .before in
-    let after-elements = after-wide .before .before .before in
+    let after-wide16 = after-apply-intervals .before .before .before in
+    let after-elements = after-wide16 .before .before .before in
     let after-slice-known6 = after-elements .before .before .before in
     let after-update-node-constraint-bounds = after-slice-known6 .before .before in
     let after-update-node-constraint-bounds-arg = after-update-node-constraint-bounds .before .before .before in
@@ -111,7 +111,7 @@ apply-intervals-requires-2 c κs =
     let start = after-slice-known .before in
     let p = start .pre in
     let f = fits (start) in (
-      rw (after-wide2 .wide2 .ensures .0) (f .virtualStorages),
+      rw (after-wide162 .wide162 .ensures .0) (f .virtualStorages),
       omega (
         arith,
         after-apply-intervals .apply-intervals .kept .0,
@@ -127,7 +127,7 @@ apply-intervals-requires-2 c κs =
         p .row-upper-long,
       ),
       p .work-long,
-      omega (arith, after-wide2 .wide2 .ensures .0, f .virtual-storages-few),
+      omega (arith, after-wide162 .wide162 .ensures .0, f .virtual-storages-few),
     )
 
 same-length : tie.Need-same-length
@@ -150,23 +150,23 @@ same-length-2 c =
 
 same-length-3 : tie.Need-same-length-3
 same-length-3 c =
-    let after-update-node-constraint-bounds = to-update-node-constraint-bounds (to-wide c) in
+    let after-update-node-constraint-bounds = to-update-node-constraint-bounds (to-wide16 c) in
     after-update-node-constraint-bounds .update-node-constraint-bounds .kept .1 .1 .0
 
 returns : tie.Need-returns
 returns c =
     let after-apply-intervals2 = to-apply-intervals2 c in
-    let after-wide2 = after-apply-intervals2 .before .before .before in
-    let after-apply-intervals = to-apply-intervals after-wide2 in
-    let after-wide = after-apply-intervals .before .before .before in
-    let after-update-node-constraint-bounds = to-update-node-constraint-bounds after-wide in
+    let after-wide162 = after-apply-intervals2 .before .before .before in
+    let after-apply-intervals = to-apply-intervals after-wide162 in
+    let after-wide16 = after-apply-intervals .before .before .before in
+    let after-update-node-constraint-bounds = to-update-node-constraint-bounds after-wide16 in
     let after-reset-row-bounds = to-reset-row-bounds (after-update-node-constraint-bounds .before) in
     let start = to-start (after-reset-row-bounds .before) in
     λ s i has held.
     step-written _ _ _ _ _ _ _ (fits (start) .varying) (start .pre .elements-long) s _ _ _ _ _ _ _ _ _ _ _
     (after-reset-row-bounds .reset-row-bounds .ensures) (after-update-node-constraint-bounds .update-node-constraint-bounds .ensures)
-    (after-wide .wide .ensures .0) (after-apply-intervals .apply-intervals .ensures)
-    (after-wide2 .wide2 .ensures .0) (after-apply-intervals2 .apply-intervals2 .ensures) i has held
+    (after-wide16 .wide16 .ensures .0) (after-apply-intervals .apply-intervals .ensures)
+    (after-wide162 .wide162 .ensures .0) (after-apply-intervals2 .apply-intervals2 .ensures) i has held
 
 pub update-constraint-bounds-spec : {M : Type 1} → statement M
 update-constraint-bounds-spec =

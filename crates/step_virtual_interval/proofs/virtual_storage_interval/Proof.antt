@@ -12,7 +12,7 @@ returns c =
     let c3 = c2 .before in
     let c4 = c3 .before in
     let c6 = c4 .before .before in
-    rw (← (c6 .wide-u16 .ensures), ← (c4 .wide-u162 .ensures), ← (c3 .is-active-at .ensures), c2 .if1 .taken, ← (c .before .bounds-at .ensures)) (c .interval-of .ensures)
+    rw (← (c6 .byte-to-u16 .ensures .0), ← (c4 .byte-to-u162 .ensures .0), ← (c3 .is-active-at .ensures), c2 .if1 .taken, ← (c .before .bounds-at .ensures)) (c .interval-of .ensures)
 
 returns-2 : tie.Need-returns-2
 unfolding virtualIntervalAt virtualInterval
@@ -20,7 +20,7 @@ returns-2 c =
     let c2 = c .before .before in
     let c3 = c2 .before in
     let c5 = c3 .before .before in
-    rw (← (c5 .wide-u16 .ensures), ← (c3 .wide-u162 .ensures), ← (c2 .is-active-at .ensures), c .before .if1 .left) (c .sentinels .ensures)
+    rw (← (c5 .byte-to-u16 .ensures .0), ← (c3 .byte-to-u162 .ensures .0), ← (c2 .is-active-at .ensures), c .before .if1 .left) (c .sentinels .ensures)
 
 pub virtual-storage-interval-spec : {M : Type 1} → statement M
 virtual-storage-interval-spec =

@@ -36,9 +36,9 @@ returns c =
     let after-virtual-storage-interval = c .before .before in
     let in-loop = after-virtual-storage-interval .before in
     let at-loop = in-loop .before in
-    let after-wide = at-loop .before in
-    let after-stores-at = after-wide .before .before in
-    rw (← (after-wide .wide .ensures .0))
+    let after-wide16 = at-loop .before in
+    let after-stores-at = after-wide16 .before .before in
+    rw (← (after-wide16 .wide16 .ensures .0))
     (passed-stops _ _ (in-loop .loop-test .taken)
     (after-virtual-storage-interval .virtual-storage-interval .ensures ∙ rw (after-stores-at .virtual-storages-at .ensures)) (c .before .is-crossed .ensures) (at-loop .loop .inv) 15 (c .if1 .taken))
 
@@ -70,7 +70,7 @@ same-length-2 c =
 
 returns-2 : tie.Need-returns-2 Inv-loop μ-loop
 returns-2 c =
-    rw (← (c .before .before .wide .ensures .0)) (passed-all 15 (c .loop-test .left) (c .before .loop .inv))
+    rw (← (c .before .before .wide16 .ensures .0)) (passed-all 15 (c .loop-test .left) (c .before .loop .inv))
 
 pub find-virtual-storage-intervals-spec : {M : Type 1} → statement M
 find-virtual-storage-intervals-spec =

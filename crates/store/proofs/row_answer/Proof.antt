@@ -90,34 +90,34 @@ returns-3 : tie.Need-returns-3
 returns-3 c =
     no-row (room (to-else1-from-then3 c)) (shape-fits (c .before .before)) (omega (arith, c .before .row-count .ensures, c .if3 .taken))
 
-mul-wide-start : tie.Need-mul-wide-start
-mul-wide-start c =
+mul-wide32 : tie.Need-mul-wide32
+mul-wide32 c =
     let h = starts-there (c) in search needs
 
-shared-slice-read-wide-start : tie.Need-shared-slice-read-wide-start
-shared-slice-read-wide-start c =
+shared-slice-read-wide32 : tie.Need-shared-slice-read-wide32
+shared-slice-read-wide32 c =
     let h = starts-there (c .before) in search needs
 
-add-wide-start : tie.Need-add-wide-start
-add-wide-start c =
+add-wide32 : tie.Need-add-wide32
+add-wide32 c =
     let h = starts-there (c .before .before) in search needs
 
-mul-wide-start-2 : tie.Need-mul-wide-start-2
-mul-wide-start-2 c =
+mul-wide32-2 : tie.Need-mul-wide32-2
+mul-wide32-2 c =
     let h = starts-there (c .before .before) in search needs
 
-shared-slice-read-wide-start-2 : tie.Need-shared-slice-read-wide-start-2
-shared-slice-read-wide-start-2 c =
+shared-slice-read-wide32-2 : tie.Need-shared-slice-read-wide32-2
+shared-slice-read-wide32-2 c =
     let h = starts-there (c .before .before .before) in search needs
 
 returns-4 : tie.Need-returns-4
 returns-4 c =
-    let after-wide-start = c .before .before in
-    let else3 = after-wide-start .before .before in
+    let after-wide32 = c .before .before in
+    let else3 = after-wide32 .before .before in
     let after-row-count = else3 .before in
     let else2 = after-row-count .before in
     let else1 = else2 .before .before in
-    rw (after-wide-start .wide-start .ensures .0, c .wide-start2 .ensures .0) (row-part (room (else1)) (shape-fits (else2)) (omega (arith, after-row-count .row-count .ensures, else3 .if3 .left)))
+    rw (after-wide32 .wide32 .ensures .0, c .wide322 .ensures .0) (row-part (room (else1)) (shape-fits (else2)) (omega (arith, after-row-count .row-count .ensures, else3 .if3 .left)))
 
 pub row-answer-spec : {M : Type 1} → statement M
 row-answer-spec =
@@ -129,11 +129,11 @@ row-answer-spec =
     returns-2
     row-count-requires
     returns-3
-    mul-wide-start
-    shared-slice-read-wide-start
+    mul-wide32
+    shared-slice-read-wide32
     (λ c κs. search needs)
-    add-wide-start
-    mul-wide-start-2
-    shared-slice-read-wide-start-2
+    add-wide32
+    mul-wide32-2
+    shared-slice-read-wide32-2
     (λ c κs. search needs)
     returns-4)

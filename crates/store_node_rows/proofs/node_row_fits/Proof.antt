@@ -60,7 +60,7 @@ returns-5 c =
     rw (es, lt-ltb _ _ (i1 .left), lt-ltb _ _ (i2 .left), le-leb _ _ (i3 .left), ne-eqb _ _ (i4 .left), le-ltb _ _ (i5 .taken))
 
 -- from a place to an earlier one
-abbrev to-start : tie.After-wide → tie.Start
+abbrev to-start : tie.After-wide16 → tie.Start
 to-start c =
     let else4 = c .before .before .before in
     let after-shared-slice-known9 = else4 .before .before .before in
@@ -69,24 +69,24 @@ to-start c =
     let after-shared-slice-known = after-shared-slice-known4 .before .before .before in
     after-shared-slice-known .before
 
-abbrev to-wide : tie.After-shared-slice-known13 → tie.After-wide
-to-wide c =
-    let after-wide-start = c .before .before .before in
-    after-wide-start .before .before
+abbrev to-wide16 : tie.After-shared-slice-known13 → tie.After-wide16
+to-wide16 c =
+    let after-wide32 = c .before .before .before in
+    after-wide32 .before .before
 
 row-holds-requires : tie.Need-row-holds-requires
 row-holds-requires c κs =
-    let after-wide = to-wide c in
-    let start = to-start after-wide in
-    omega (arith, start-under (start .pre .0 .starts) (after-wide .wide .result + 1) (omega arith))
+    let after-wide16 = to-wide16 c in
+    let start = to-start after-wide16 in
+    omega (arith, start-under (start .pre .0 .starts) (after-wide16 .wide16 .result + 1) (omega arith))
 
 returns-6 : tie.Need-returns-6
 unfolding nodeRowFits columnsOfRow
 returns-6 c =
-    let after-wide-start2 = c .before .before in
-    let after-wide-start = after-wide-start2 .before .before in
-    let after-wide = after-wide-start .before .before in
-    let else5 = after-wide .before in
+    let after-wide322 = c .before .before in
+    let after-wide32 = after-wide322 .before .before in
+    let after-wide16 = after-wide32 .before .before in
+    let else5 = after-wide16 .before in
     let else4 = else5 .before .before in
     let else3 = else4 .before in
     let else2 = else3 .before in
@@ -107,9 +107,9 @@ returns-6 c =
       ne-eqb _ _ (i4 .left),
       lt-ltb _ _ (i5 .left),
       c .row-holds .ensures,
-      after-wide-start .wide-start .ensures .0,
-      after-wide-start2 .wide-start2 .ensures .0,
-      after-wide .wide .ensures .0,
+      after-wide32 .wide32 .ensures .0,
+      after-wide322 .wide322 .ensures .0,
+      after-wide16 .wide16 .ensures .0,
     )
 
 pub node-row-fits-spec : {M : Type 1} → statement M

@@ -32,13 +32,13 @@ returns c =
     let in-loop = after-node-row-fits .before in
     let at-loop = in-loop .before in
     let after-wide = at-loop .before in
-    λ s ec er es. rw (ec, er, es, ← (after-wide .wide .ensures .0))
+    λ s ec er es. rw (ec, er, es, ← (after-wide .wide16 .ensures .0))
     (tested-fail (at-loop .loop .inv) (in-loop .loop-test .taken) (sym (after-node-row-fits .node-row-fits .ensures (ofRuns _ _ _) refl refl refl) ∙ c .if1 .left))
 
 returns-2 : tie.Need-returns-2 Inv-loop μ-loop
 unfolding nodeRowFits columnsOfRow
 returns-2 c =
-    λ s ec er es. rw (ec, er, es, ← (c .before .before .wide .ensures .0)) (tested-all (c .before .loop .inv) (c .loop-test .left))
+    λ s ec er es. rw (ec, er, es, ← (c .before .before .wide16 .ensures .0)) (tested-all (c .before .loop .inv) (c .loop-test .left))
 
 pub node-rows-fit-spec : {M : Type 1} → statement M
 node-rows-fit-spec =

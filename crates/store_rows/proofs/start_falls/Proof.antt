@@ -23,16 +23,16 @@ start-fall-requires c κs =
     let in-loop = after-shared-slice-known3 .before in
     let after-shared-slice-known = in-loop .before .before .before in
     let start = after-shared-slice-known .before in
-    rw (c .wide-start2 .ensures .0) (start .pre .2 _ (in-loop .loop-test .taken))
+    rw (c .wide322 .ensures .0) (start .pre .2 _ (in-loop .loop-test .taken))
 
 loop-again : tie.Need-loop-again Inv-loop μ-loop
 unfolding rowFall
 loop-again c =
-    let after-wide-start2 = c .before in
-    let after-wide-start = after-wide-start2 .before .before in
-    let in-loop = after-wide-start .before .before in
+    let after-wide322 = c .before in
+    let after-wide32 = after-wide322 .before .before in
+    let in-loop = after-wide32 .before .before in
     let at-loop = in-loop .before in
-    (search needs, summed-more (at-loop .loop .inv .1) _ (c .start-fall .ensures .0 ∙ rw (after-wide-start .wide-start .ensures .0, after-wide-start2 .wide-start2 .ensures .0)) (c .start-fall .ensures .1) (in-loop .loop-test .taken))
+    (search needs, summed-more (at-loop .loop .inv .1) _ (c .start-fall .ensures .0 ∙ rw (after-wide32 .wide32 .ensures .0, after-wide322 .wide322 .ensures .0)) (c .start-fall .ensures .1) (in-loop .loop-test .taken))
 
 returns : tie.Need-returns Inv-loop μ-loop
 returns c =

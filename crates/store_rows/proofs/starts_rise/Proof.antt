@@ -26,7 +26,7 @@ returns c =
     let c4 = c2 .before .before in
     let c5 = c4 .before in
     let c7 = c5 .before .before in
-    λ s er es. rw (starts-same s (ofRuns [] _ _) er es 0, er, es, ← (c7 .row-count .ensures), c2 .wide-start .ensures .0, c .wide .ensures .0) (risen-all (c5 .loop .inv) (c4 .loop-test .left))
+    λ s er es. rw (starts-same s (ofRuns [] _ _) er es 0, er, es, ← (c7 .row-count .ensures), c2 .wide32 .ensures .0, c .wide16 .ensures .0) (risen-all (c5 .loop .inv) (c4 .loop-test .left))
 
 pub starts-rise-spec : {M : Type 1} → statement M
 starts-rise-spec =

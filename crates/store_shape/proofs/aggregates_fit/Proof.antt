@@ -25,7 +25,7 @@ loop-again c =
 returns : tie.Need-returns Inv-loop μ-loop
 unfolding aggregateFits
 returns c =
-    λ s e. rw (e, ← (c .before .before .wide .ensures .0)) (tested-all (c .before .loop .inv) (c .loop-test .left))
+    λ s e. rw (e, ← (c .before .before .wide16 .ensures .0)) (tested-all (c .before .loop .inv) (c .loop-test .left))
 
 pub aggregates-fit-spec : {M : Type 1} → statement M
 aggregates-fit-spec =

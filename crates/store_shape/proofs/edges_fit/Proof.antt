@@ -31,7 +31,7 @@ loop-again c =
 returns : tie.Need-returns Inv-loop μ-loop
 unfolding edgeFits
 returns c =
-    λ s e. rw (e, ← (c .before .before .wide .ensures .0)) (tested-all (c .before .loop .inv) (c .loop-test .left))
+    λ s e. rw (e, ← (c .before .before .wide16 .ensures .0)) (tested-all (c .before .loop .inv) (c .loop-test .left))
 
 pub edges-fit-spec : {M : Type 1} → statement M
 edges-fit-spec =
