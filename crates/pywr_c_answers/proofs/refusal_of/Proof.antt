@@ -4,22 +4,22 @@ use Rattle.pywr.specs.Answers.{numberOf, placeOf}
 use Rattle.pywr_c_answers.proofs.refusal_of.Statement.{statement}
 use Rattle.pywr_c_answers.proofs.refusal_of.Tie as tie
 
-enum-told : tie.Need-enum-told
-enum-told c = search needs
-
-enum-known-answer : tie.Need-enum-known-answer
-enum-known-answer c = search needs
-
-cast-t5 : tie.Need-cast-t5
-cast-t5 c = search needs
-
 returns : tie.Need-returns
 unfolding numberOf placeOf
 returns c = search needs
 
 returns-2 : tie.Need-returns-2
 unfolding numberOf placeOf
-returns-2 c = search needs
+returns-2 c =
+    let e = c .before .before .before .answer .given .1 in (rw e (c .before .byte-to-u64 .ensures .0), rw e (c .usize-to-u64 .ensures))
 
 pub refusal-of-spec : {M : Type 1} → statement M
-refusal-of-spec = tie.close (tie.spec enum-told enum-known-answer cast-t5 returns returns-2)
+refusal-of-spec =
+    tie.close
+    (tie.spec
+    (λ c. search needs)
+    (λ c. search needs)
+    (λ c κs. search needs)
+    (λ c κs. search needs)
+    returns
+    returns-2)
