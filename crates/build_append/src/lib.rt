@@ -1,5 +1,4 @@
-// The rows of a programme in the making (LpBuilder of builder.rs).
-// Rows that become the last rows of a programme in turn. Laws only.
+// The rows of a programme in the making (LpBuilder of builder.rs): a row becomes the last row. In proofs/ also rows that are appended in turn.
 ghost use mathlib.Core.Path.{_≡_};
 ghost use mathlib.Core.List.{List, [], _∷_, _++_};
 ghost use Prim.Native.Nat.{_+_, _<_, _≤_};

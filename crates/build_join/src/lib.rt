@@ -1,6 +1,5 @@
-// Where an equal row stands among the rows made so far (the search of LpBuilder::add_variable_row of builder.rs).
-// A varying row asked for (LpBuilder::add_variable_row of builder.rs).
-// Varying rows asked for in turn, equal ones joined: the definitions and laws that the makers of varying rows share.
+// A varying row asked for (LpBuilder::add_variable_row of builder.rs): where an equal row stands among the rows made so far, else the row appended.
+// In specs/ and proofs/ also rows asked for in turn, which the makers of varying rows share.
 ghost use mathlib.Core.Path.{_≡_};
 ghost use mathlib.Core.List.{List, [], map};
 ghost use Prim.Native.Nat.{_+_, _<_, _≤_};

@@ -1,6 +1,5 @@
-// A node added to a row (SolverBuilder::add_node of builder.rs).
-// Rows gathered from the tables of a network.
-// The tables that rows are made from. Definitions only.
+// A node added to a row (SolverBuilder::add_node of builder.rs), and the row of a node with a coefficient on a set's column.
+// In specs/ the tables that rows are made from.
 ghost use mathlib.Core.Path.{_≡_};
 ghost use Prim.Native.Nat.{ℕ, _<_, _≤_};
 ghost use lib.ListN.{length};

@@ -1,5 +1,4 @@
-// The fields of a record: little-endian numbers and bit patterns, and each field of the network file with its refusal.
-// A double of a file by its little-endian bit pattern; a NaN's pattern is read as a NaN.
+// The fields of a record: little-endian numbers and bit patterns, doubles, and each field of the network file with its refusal.
 ghost use mathlib.Core.Path.{_≡_};
 ghost use Prim.Native.Nat.{_+_, _*_, _<_, _≤_};
 ghost use lib.ListN.{length};
