@@ -17,7 +17,7 @@ assemble-columns-requires c κs =
     let after-r2 = c .before .before .before in
     let after-load = after-r2 .before .before in
     let start = to-start after-load in
-    (read-as _ _ _ (after-r2 .r2 .given .1) (after-load .load .ensures .0), placed-as _ _ _ (after-r2 .r2 .given .1) (after-load .load .ensures .1), start .pre .0)
+    (read-as _ _ _ (after-r2 .r2 .given .1) (after-load .load .ensures .0), placed-as _ _ _ (after-r2 .r2 .given .1) (after-load .load .ensures .1), start .pre)
 
 returns : tie.Need-returns
 returns c =
