@@ -131,4 +131,5 @@ module _ (file : List ℕ) (c : Counts) (sections : Sections file (c .nodes) (c 
     asked-row =
         let under : i < length (networkOf file c .aggregates) = omega (arith, aggregate-count file (c .nodes) (c .edges) (c .aggregates) (c .«virtual_storages»)) in
         found-get (aggregateRows (networkOf file c)) i _ [] (found-map (aggregateRow (columnMap (networkOf file c))) (networkOf file c .aggregates) (aggregateAt file 0) i under)
-        ∙ ap (aggregateRow (columnMap (networkOf file c))) (aggregate-index file (c .nodes) (c .edges) (c .aggregates) (c .«virtual_storages») i (aggregateAt file 0) lt ∙ ap (aggregateAt file) (sym e))
+        ∙ ap (aggregateRow (columnMap (networkOf file c)))
+        (aggregate-index file (c .nodes) (c .edges) (c .aggregates) (c .«virtual_storages») i (aggregateAt file 0) lt ∙ ap (aggregateAt file) (sym e))

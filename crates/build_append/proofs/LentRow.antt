@@ -23,7 +23,8 @@ lent-room words numbers f h long =
     let few = held-few (h .rows) words numbers f (h .held) in
     (omega arith, omega (arith, mid-len (2048 + f .elements) (length numbers) numbers (omega arith)))
 
-pub lent-long : (numbers ys : List Float) (a : ℕ) → length ys ≡ length (midOf a (length numbers - a) numbers) → numbersLength ≤ length numbers → numbersLength ≤ length (putMid a (length numbers - a) numbers ys)
+pub lent-long : (numbers ys : List Float) (a : ℕ) → length ys ≡ length (midOf a (length numbers - a) numbers) → numbersLength ≤ length numbers
+    → numbersLength ≤ length (putMid a (length numbers - a) numbers ys)
 lent-long numbers ys a e h = omega (arith, same-len-mid a (length numbers - a) numbers ys e)
 
 module _ (words : List ℕ) (numbers ys : List Float) (f : Filled) (a : ℕ) (e : a ≡ 2048 + f .elements) (ha : a ≤ length numbers) where

@@ -32,7 +32,8 @@ pub enum RowsAdded {
 // No rows yet.
 pub fn start_rows(words: &mut [u16])
     requires { ⌜ wordsLength ≤ length (now words) ⌝ }
-    ensures { λ _. ⌜ ((numbers : List Float) → RowsHeld [] (now (words .exit)) numbers (record { rows = 0; elements = 0 })) × (drop shapeMadeAt (now (words .exit)) ≡ drop shapeMadeAt (now (words .entry))) ⌝ }
+    ensures { λ _. ⌜ ((numbers : List Float) → RowsHeld [] (now (words .exit)) numbers (record { rows = 0; elements = 0 }))
+        × (drop shapeMadeAt (now (words .exit)) ≡ drop shapeMadeAt (now (words .entry))) ⌝ }
 {
     words[STARTS_MADE_AT] = 0;
 }

@@ -93,7 +93,8 @@ pub fn shares_with(
     next_out: &[u16; EDGE_CEILING],
     from: NodeIndex,
 ) -> u16
-    requires { ⌜ (from .0 < nodeCeiling) × (nodePlace (from .0) + nodeLength ≤ length (now s)) × (getD (now «first_in») (from .0) 0 ≤ edgeCeiling) × (getD (now «first_out») (from .0) 0 ≤ edgeCeiling) ⌝ }
+    requires { ⌜ (from .0 < nodeCeiling) × (nodePlace (from .0) + nodeLength ≤ length (now s)) × (getD (now «first_in») (from .0) 0 ≤ edgeCeiling)
+        × (getD (now «first_out») (from .0) 0 ≤ edgeCeiling) ⌝ }
     ensures { λ r. ⌜ ((size : ℕ) (into out : List ℕ) → Linked size (now («next_in» .entry)) (getD (now («first_in» .entry)) (from .0) 0) into
         → Linked size (now («next_out» .entry)) (getD (now («first_out» .entry)) (from .0) 0) out
         → r ≡ code (sharesAcross (byte (now (s .entry)) (nodePlace (from .0) + kindOffset)) into out)) ⌝ }

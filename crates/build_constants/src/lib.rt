@@ -45,7 +45,11 @@ fn add_node_row(
     requires { ⌜ EdgeTables (now s) c (now «first_in») (now «next_in») (now «first_out») (now «next_out») (now «edge_to_col») × (node .0 < c .nodes)
         × WorkRoom (now words) (now numbers) × Holding (now words) (now numbers) f ⌝ }
     ensures { λ r. ⌜ ((rows : List Row) → RowsHeld rows (now (words .entry)) (now (numbers .entry)) f
-        → AfterRows (rows ++ (record { lower = nodeAt (now (s .entry)) (nodePlace (node .0)) .min; upper = nodeAt (now (s .entry)) (nodePlace (node .0)) .max; elements = nodeRow (columnMap (networkOf (now (s .entry)) c)) (node .0) } ∷ []))
+        → AfterRows (rows ++ (record {
+          lower = nodeAt (now (s .entry)) (nodePlace (node .0)) .min;
+          upper = nodeAt (now (s .entry)) (nodePlace (node .0)) .max;
+          elements = nodeRow (columnMap (networkOf (now (s .entry)) c)) (node .0);
+        } ∷ []))
         (now (words .entry)) r (now (words .exit)) (now (numbers .exit))) ⌝ }
 {
     let at = ELEMENTS_MADE_AT + f.elements;
@@ -99,7 +103,8 @@ fn add_exclusive_rows(
         × («edge_columns» ≡ edgeColumns (now s) c) × MembershipTables (now s) c (now «first_membership») (now «next_membership»)
         × WorkRoom (now words) (now numbers) × Holding (now words) (now numbers) f ⌝ }
     ensures { λ r. ⌜ ((rows : List Row) → RowsHeld rows (now (words .entry)) (now (numbers .entry)) f
-        → AfterRows (rows ++ exclusiveRows sentinel (columnMap (networkOf (now (s .entry)) c)) (node .0) (nodeAt (now (s .entry)) (nodePlace (node .0))) (setsWithNode (node .0) 0 (columnMap (networkOf (now (s .entry)) c) .sets)))
+        → AfterRows (rows ++ exclusiveRows sentinel (columnMap (networkOf (now (s .entry)) c)) (node .0) (nodeAt (now (s .entry)) (nodePlace (node .0)))
+        (setsWithNode (node .0) 0 (columnMap (networkOf (now (s .entry)) c) .sets)))
         (now (words .entry)) r (now (words .exit)) (now (numbers .exit))) ⌝ }
 {
     let k = widths::wide16(node.0);

@@ -60,11 +60,13 @@ module _ (file places : List ℕ) (count edgeColumns at : ℕ) (columns : List �
       rw (one map (aggregateAt file at) x) (lent-row words numbers elements f a ea ha columns n lower upper _ _ _ o words′ numbers′ el eu (g .row map m) added)
 
 -- the rows of the first i of `count` aggregates, which stand from `start`, are held
-pub record AddingAggregates (file : List ℕ) (MapIs : ColumnMap → Type 0) (start count : ℕ) (words₀ : List ℕ) (numbers₀ : List Float) (f₀ : Filled) (words : List ℕ) (numbers : List Float) (f : Filled) (at i : ℕ) : Type 0 where
+pub record AddingAggregates (file : List ℕ) (MapIs : ColumnMap → Type 0) (start count : ℕ) (words₀ : List ℕ) (numbers₀ : List Float) (f₀ : Filled)
+    (words : List ℕ) (numbers : List Float) (f : Filled) (at i : ℕ) : Type 0 where
   pub within : i ≤ count
   pub stands : at ≡ recordsEnd (aggregateEnd file) i start
   pub adding : (map : ColumnMap) → MapIs map → (rows : List Row) → RowsHeld rows words₀ numbers₀ f₀
-      → Adding (rows ++ exclusivityRows map (recordsAt (aggregateAt file) (aggregateEnd file) count start)) (exclusivityRows map (recordsAt (aggregateAt file) (aggregateEnd file) (count - i) at)) words₀ words numbers f
+      → Adding (rows ++ exclusivityRows map (recordsAt (aggregateAt file) (aggregateEnd file) count start))
+      (exclusivityRows map (recordsAt (aggregateAt file) (aggregateEnd file) (count - i) at)) words₀ words numbers f
 
 module _ (file : List ℕ) (MapIs : ColumnMap → Type 0) (start count : ℕ) (words₀ : List ℕ) (numbers₀ : List Float) (f₀ : Filled) where
   abbrev whole : ColumnMap → List Row → List Row
@@ -85,8 +87,13 @@ module _ (file : List ℕ) (MapIs : ColumnMap → Type 0) (start count : ℕ) (w
       abbrev rest : ColumnMap → List Row
       rest map = exclusivityRows map (recordsAt (aggregateAt file) (aggregateEnd file) (count - (i + 1)) (aggregateEnd file at))
 
-      here : (map : ColumnMap) → MapIs map → (rows : List Row) → RowsHeld rows words₀ numbers₀ f₀ → Adding (whole map rows) (exclusivityRows map (aggregateAt file at ∷ []) ++ rest map) words₀ words numbers f
-      here map m rows k = rw (records-left (aggregateEnd file) count i at lt (aggregateAt file), split map (aggregateAt file at) (recordsAt (aggregateAt file) (aggregateEnd file) (count - (i + 1)) (aggregateEnd file at))) at (h .adding map m rows k)
+      here : (map : ColumnMap) → MapIs map → (rows : List Row) → RowsHeld rows words₀ numbers₀ f₀
+          → Adding (whole map rows) (exclusivityRows map (aggregateAt file at ∷ []) ++ rest map) words₀ words numbers f
+      here map m rows k = rw (
+        records-left (aggregateEnd file) count i at lt (aggregateAt file),
+        split map (aggregateAt file at)
+            (recordsAt (aggregateAt file) (aggregateEnd file) (count - (i + 1)) (aggregateEnd file at)),
+      ) at (h .adding map m rows k)
 
       pub aggregate-more : (g : Filled) → r ≡ Done g → AddingAggregates file MapIs start count words₀ numbers₀ f₀ words′ numbers′ g (aggregateEnd file at) (i + 1)
       aggregate-more g e =

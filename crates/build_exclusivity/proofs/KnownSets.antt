@@ -66,7 +66,8 @@ module _ (file : List ℕ) (n e a v place : ℕ) (h : Sections file n e a v plac
             omega (arith, q, few, m);
       }
 
-pub map-of : (file : List ℕ) (n e a v : ℕ) (places : List ℕ) (count edgeColumns : ℕ) → setsAt file places count ≡ exclusiveSets (networkAt file n e a v) → edgeColumns ≡ columns (networkAt file n e a v) .count
+pub map-of : (file : List ℕ) (n e a v : ℕ) (places : List ℕ) (count edgeColumns : ℕ) → setsAt file places count ≡ exclusiveSets (networkAt file n e a v)
+    → edgeColumns ≡ columns (networkAt file n e a v) .count
     → MapOf file places count edgeColumns (columnMap (networkAt file n e a v))
 unfolding columnMap
 map-of file n e a v places count edgeColumns same edges = record { edges = sym edges; sets = sym same }

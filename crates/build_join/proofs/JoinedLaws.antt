@@ -84,7 +84,8 @@ module _ (s : Sentinel) (asked rows : List (List Element)) where
   over-later i over =
       let more = longer (drop i asked) (soFar i) in
       let is : joined asked rows .rows ≡ soFar i .rows ++ more .new =
-      ap (λ (l : List (List Element)). joined l rows .rows) (sym (take-append-drop i asked)) ∙ ap (λ (j : Joined). j .rows) (add-append (take i asked) (drop i asked) (record { rows = rows; places = [] })) ∙ more .is in
+      ap (λ (l : List (List Element)). joined l rows .rows) (sym (take-append-drop i asked)) ∙ ap (λ (j : Joined). j .rows) (add-append (take i asked)
+      (drop i asked) (record { rows = rows; places = [] })) ∙ more .is in
       rw (is, map-append (freshRow s) (soFar i .rows) (more .new)) (over-more (map (freshRow s) (soFar i .rows)) (map (freshRow s) (more .new)) over)
 
 -- ---- parts of the words

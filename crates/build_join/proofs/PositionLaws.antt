@@ -80,14 +80,16 @@ split-row before rest row words numbers f held =
     let lengths : length rows ≡ k + suc (length rest) = length-append before (row ∷ rest) in
     let few = held .fewElements in
     let counts = elements-append before (row ∷ rest) in
-    let word : (i : ℕ) → i < length rows + 1 → getD words (4096 + i) 0 ≡ getD (startsFrom 0 rows) i 0 = (λ i h. sym (getD-take (length rows + 1) (drop 4096 words) i 0 h ∙ getD-drop 4096 words i 0) ∙ ap (λ (l : List ℕ). getD l i 0) (held .starts)) in
+    let word : (i : ℕ) → i < length rows + 1 → getD words (4096 + i) 0 ≡ getD (startsFrom 0 rows) i 0 = (λ i h. sym
+    (getD-take (length rows + 1) (drop 4096 words) i 0 h ∙ getD-drop 4096 words i 0) ∙ ap (λ (l : List ℕ). getD l i 0) (held .starts)) in
     let place : 4096 + k + 1 ≡ 4096 + suc k = omega arith in
     record {
       at = a;
       start = word k (omega arith) ∙ start-behind 0 before (row ∷ rest) ∙ omega arith;
       next = ap (λ (j : ℕ). getD words j 0) place ∙ word (suc k) (omega arith) ∙ start-next 0 before rest row ∙ omega arith;
       few = omega arith;
-      elements = sym (ap₂ elementsOf (share columnsIn columns-length before rest row words (held .columns)) (ap (take m) (sym (drop-drop a 2048 numbers)) ∙ share valuesIn values-length before rest row (drop 2048 numbers) (held .elements)) ∙ elements-back (row .elements));
+      elements = sym (ap₂ elementsOf (share columnsIn columns-length before rest row words (held .columns))
+          (ap (take m) (sym (drop-drop a 2048 numbers)) ∙ share valuesIn values-length before rest row (drop 2048 numbers) (held .elements)) ∙ elements-back (row .elements));
     }
 
 row-at : (rows : List Row) (words : List ℕ) (numbers : List Float) (f : Filled) (k : ℕ) → RowsHeld rows words numbers f → k < f .rows

@@ -63,7 +63,13 @@ pub fn add_node_row(
     requires { ⌜ WorkRoom (now words) (now numbers) × (n ≤ columnCeiling) × Rising (now columns) n
         × NodeRowsHolding sentinel (now words) (now numbers) rows × (rows .count < nodeRowCeiling) ⌝ }
     ensures { λ r. ⌜ ((t : RowType) → rowTypeWord t ≡ «row_type» → (asks : List RowRequest) → NodeRowsHeld sentinel asks (now (words .entry)) (now (numbers .entry)) rows
-        → AfterRequests sentinel (asks ++ (record { node = node .0; rowType = t; set = set; row = gathered (now (columns .entry)) (drop (elementsMadeAt + rows .filled .elements) (now (numbers .entry))) n } ∷ []))
+        → AfterRequests sentinel (asks ++ (record {
+          node = node .0;
+          rowType = t;
+          set = set;
+          row = gathered (now (columns .entry))
+              (drop (elementsMadeAt + rows .filled .elements) (now (numbers .entry))) n;
+        } ∷ []))
         r (now (words .exit)) (now (numbers .exit))) ⌝ }
 {
     let count = rows.count;

@@ -81,14 +81,17 @@ module _ (s : Sentinel) (net : Network) (z : Sizes) (h : SizesAre s net z) where
 
   aggregates-many : length (b .shape .aggregates) ≡ z .aggregates
   unfolding programmeOf assemble
-  aggregates-many = mapped-length (aggregateRow (columnMap net)) (net .aggregates) (addVariableRows (map requestedRow (requestsFrom (columnMap net) 0 (net .nodes))) (record { rows = []; places = [] }) .rows) ∙ sym (h .aggregates)
+  aggregates-many = mapped-length (aggregateRow (columnMap net)) (net .aggregates)
+      (addVariableRows (map requestedRow (requestsFrom (columnMap net) 0 (net .nodes))) (record { rows = []; places = [] }) .rows) ∙ sym (h .aggregates)
 
   virtual-storages-many : length (b .shape .virtualStorages) ≡ z .«virtual_storages»
   unfolding programmeOf assemble
   virtual-storages-many =
       let before : Joined = addVariableRows (map requestedRow (requestsFrom (columnMap net) 0 (net .nodes))) (record { rows = []; places = [] }) in
       let rows : List (List Element) = addVariableRows (map (aggregateRow (columnMap net)) (net .aggregates)) (record { rows = before .rows; places = [] }) .rows in
-      virtual-storages-length (net .virtualStorages) (addVariableRows (map (virtualStorageRow (columnMap net)) (net .virtualStorages)) (record { rows = rows; places = [] }) .places) (mapped-length (virtualStorageRow (columnMap net)) (net .virtualStorages) rows)
+      virtual-storages-length (net .virtualStorages)
+      (addVariableRows (map (virtualStorageRow (columnMap net)) (net .virtualStorages)) (record { rows = rows; places = [] }) .places)
+      (mapped-length (virtualStorageRow (columnMap net)) (net .virtualStorages) rows)
       ∙ sym (h .virtualStorages)
 
   nodes-many : length (b .shape .nodes) ≡ z .nodes

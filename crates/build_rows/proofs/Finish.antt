@@ -157,7 +157,8 @@ module _ (s : Sentinel) (file : List ℕ) (c : Counts) (firstIn nextIn firstOut 
       varying-most = omega (arith, v .held .rowCount, held .rowCount, length-append (b .programme .varying) (b .programme .fixed))
 
       pub all-made : (words₃ : List ℕ) → wordsLength ≤ length words₂
-          → words₃ ≡ sets (sets (sets words₂ nodesMadeAt (flatMap nodeWords (map nodeShape (nodesAt file (c .nodes))))) edgesMadeAt (flatMap edgeWords (edgeEntries file table (c .nodes) (c .edges)))) shapeMadeAt (counts s sizes (n .filled .rows))
+          → words₃ ≡ sets (sets (sets words₂ nodesMadeAt (flatMap nodeWords (map nodeShape (nodesAt file (c .nodes))))) edgesMadeAt
+          (flatMap edgeWords (edgeEntries file table (c .nodes) (c .edges)))) shapeMadeAt (counts s sizes (n .filled .rows))
           → AfterAssemble s file (Assembled.Done sizes) words₃ numbers₂
       all-made words₃ room e =
           let cs : counts s sizes (n .filled .rows) ≡ countWords b = counts-are s net sizes are (n .filled .rows) (v .held .rowCount) in
@@ -166,13 +167,17 @@ module _ (s : Sentinel) (file : List ℕ) (c : Counts) (firstIn nextIn firstOut 
             rows = held;
             nodeRows = kept-part words₁ words₂ nodeRowsMadeAt (4 * n .count) (omega arith) (a .kept) ∙ v .nodeRows;
             aggregates = ap (λ (k : ℕ). part aggregatesMadeAt k words₂) (are .aggregates) ∙ kept-part words₁ words₂ aggregatesMadeAt (length (net .aggregates)) (omega arith) (a .kept) ∙ v .aggregates;
-            virtualStorages = ap (λ (k : ℕ). part virtualStoragesMadeAt (6 * k) words₂) (are .virtualStorages) ∙ kept-part words₁ words₂ virtualStoragesMadeAt (6 * length (net .virtualStorages)) (omega arith) (a .kept) ∙ v .virtualStorages;
+            virtualStorages = ap (λ (k : ℕ). part virtualStoragesMadeAt (6 * k) words₂) (are .virtualStorages)
+                ∙ kept-part words₁ words₂ virtualStoragesMadeAt (6 * length (net .virtualStorages)) (omega arith) (a .kept) ∙ v .virtualStorages;
           } in
-          let laid = laid-out s b sizes words₂ numbers₂ _ _ _ few (columns-are s net sizes are) room (nodes-length file (c .nodes)) (edges-length file table (c .nodes) (c .edges)) (counts-long s sizes (n .filled .rows)) nodes-are edges-are cs rows-laid in
-          let is : build s file ≡ value b = accepted s file net (t .parsed) (none-over net (b .programme) (omega (arith, sets-are, l .fit .few)) (held-within (rowsOf (b .programme)) words₂ numbers₂ g held)) in
+          let laid = laid-out s b sizes words₂ numbers₂ _ _ _ few (columns-are s net sizes are) room (nodes-length file (c .nodes))
+          (edges-length file table (c .nodes) (c .edges)) (counts-long s sizes (n .filled .rows)) nodes-are edges-are cs rows-laid in
+          let is : build s file ≡ value b = accepted s file net (t .parsed)
+          (none-over net (b .programme) (omega (arith, sets-are, l .fit .few)) (held-within (rowsOf (b .programme)) words₂ numbers₂ g held)) in
           record {
             refusal = λ m q z. absurd (let z₀ : _≡_ {A = ℕ} 0 1 = cc in omega arith);
-            made = λ z q. let ez : sizes ≡ z = cc in subst (λ (y : Sizes). Made s file y words₃ numbers₂) ez (record { built = b; is = is; laid = subst (λ (w : List ℕ). Laid s b sizes w numbers₂) (sym e) laid });
+            made = λ z q. let ez : sizes ≡ z = cc in subst (λ (y : Sizes). Made s file y words₃ numbers₂) ez
+                (record { built = b; is = is; laid = subst (λ (w : List ℕ). Laid s b sizes w numbers₂) (sym e) laid });
           }
         where
           nodes-are : flatMap nodeWords (map nodeShape (nodesAt file (c .nodes))) ≡ flatMap nodeWords (b .shape .nodes)

@@ -77,7 +77,8 @@ module _ (words ns es cs : List ℕ) (n e : ℕ) (ln : length ns ≡ 2 * n) (le 
       ∙ part-before words ns nodesMadeAt 0 shapeMadeAt (omega arith)
 
   pub counts-there : part shapeMadeAt 11 after ≡ cs
-  counts-there = part-same (sets (sets words nodesMadeAt ns) edgesMadeAt es) cs shapeMadeAt 11 lc (omega (arith, length-sets (sets words nodesMadeAt ns) edgesMadeAt es, length-sets words nodesMadeAt ns))
+  counts-there = part-same (sets (sets words nodesMadeAt ns) edgesMadeAt es) cs shapeMadeAt 11 lc
+      (omega (arith, length-sets (sets words nodesMadeAt ns) edgesMadeAt es, length-sets words nodesMadeAt ns))
 
   pub nodes-there : part nodesMadeAt (2 * n) after ≡ ns
   nodes-there =
@@ -101,7 +102,8 @@ laid-out s b z words numbers ns es cs few cols room ln le lc en ee ec r =
     record {
       few = few;
       columns = cols;
-      rows = held-agrees (rowsOf (b .programme)) words w numbers numbers (record { rows = z .rows; elements = z .elements }) (r .rows) (before words ns es cs (z .nodes) (z .edges) ln le lc (few .nodes) (few .edges) room) refl;
+      rows = held-agrees (rowsOf (b .programme)) words w numbers numbers (record { rows = z .rows; elements = z .elements }) (r .rows)
+          (before words ns es cs (z .nodes) (z .edges) ln le lc (few .nodes) (few .edges) room) refl;
       counts = counts-there words ns es cs (z .nodes) (z .edges) ln le lc (few .nodes) (few .edges) room ∙ ec;
       nodes = nodes-there words ns es cs (z .nodes) (z .edges) ln le lc (few .nodes) (few .edges) room ∙ en;
       edges = edges-there words ns es cs (z .nodes) (z .edges) ln le lc (few .nodes) (few .edges) room ∙ ee;

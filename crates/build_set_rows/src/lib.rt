@@ -50,7 +50,12 @@ fn add_bounded_row(
     requires { ⌜ EdgeTables (now s) c (now «first_in») (now «next_in») (now «first_out») (now «next_out») (now «edge_to_col») × (node .0 < c .nodes) × (column .0 < columnCeiling)
         × WorkRoom (now words) (now numbers) × Holding (now words) (now numbers) f ⌝ }
     ensures { λ r. ⌜ ((rows : List Row) → RowsHeld rows (now (words .entry)) (now (numbers .entry)) f
-        → AfterRows (rows ++ (record { lower = zero64; upper = high sentinel; elements = addElement (column .0) coefficient (addNode (columnMap (networkOf (now (s .entry)) c)) (node .0) factor []) } ∷ []))
+        → AfterRows (rows ++ (record {
+          lower = zero64;
+          upper = high sentinel;
+          elements = addElement (column .0) coefficient
+              (addNode (columnMap (networkOf (now (s .entry)) c)) (node .0) factor []);
+        } ∷ []))
         (now (words .entry)) r (now (words .exit)) (now (numbers .exit))) ⌝ }
 {
     let at = ELEMENTS_MADE_AT + f.elements;

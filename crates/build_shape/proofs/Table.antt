@@ -49,7 +49,13 @@ node-snoc : (file : List ℕ) (i : ℕ) → nodeTable file (i + 1) ≡ nodeTable
 unfolding nodeTable flatMap
 node-snoc file i =
     let e : recordsEnd (λ at. at + 20) i 0 ≡ 20 * i = end-fixed 20 i 0 ∙ zero-add (20 * i) in
-    rw (records-more (nodeAt file) (λ at. at + 20) i 0, e, map-snoc nodeShape (nodeRecords file i) (nodeAt file (20 * i)), flat-snoc nodeWords (map nodeShape (nodeRecords file i)) (nodeShape (nodeAt file (20 * i))))
+    rw (
+      records-more (nodeAt file) (λ at. at + 20) i 0,
+      e,
+      map-snoc nodeShape (nodeRecords file i) (nodeAt file (20 * i)),
+      flat-snoc nodeWords
+          (map nodeShape (nodeRecords file i)) (nodeShape (nodeAt file (20 * i))),
+    )
 
 node-long : (file : List ℕ) (i : ℕ) → length (nodeTable file i) ≡ 2 * i
 unfolding nodeTable nodeWords flatMap
@@ -78,7 +84,8 @@ nodes-more file shape₀ nodes shape i k f h ek ef w =
       long = length-set (set shape (nodesAt + 2 * i) k) (nodesAt + 2 * i + 1) f ∙ length-set shape (nodesAt + 2 * i) k ∙ w .long;
     }
 
-pub nodes-all : (file shape₀ : List ℕ) (nodes : ℕ) (shape : List ℕ) (i : ℕ) → nodes ≤ i → NodesWritten file shape₀ nodes shape i → shape ≡ sets shape₀ nodesAt (flatMap nodeWords (map nodeShape (nodeRecords file nodes)))
+pub nodes-all : (file shape₀ : List ℕ) (nodes : ℕ) (shape : List ℕ) (i : ℕ) → nodes ≤ i → NodesWritten file shape₀ nodes shape i
+    → shape ≡ sets shape₀ nodesAt (flatMap nodeWords (map nodeShape (nodeRecords file nodes)))
 unfolding nodeTable flatMap
 nodes-all file shape₀ nodes shape i h w = let e : i ≡ nodes = omega (arith, w .few) in w .run ∙ ap (λ (k : ℕ). sets shape₀ nodesAt (nodeTable file k)) e
 
@@ -144,7 +151,8 @@ module _ (file table : List ℕ) (nodes : ℕ) where
             ∙ w .long;
       }
 
-  pub edges-all : (shape₀ : List ℕ) (edges : ℕ) (shape : List ℕ) (i : ℕ) → edges ≤ i → EdgesWritten shape₀ edges shape i → shape ≡ sets shape₀ edgesAt (flatMap edgeWords (edgeEntries file table nodes edges))
+  pub edges-all : (shape₀ : List ℕ) (edges : ℕ) (shape : List ℕ) (i : ℕ) → edges ≤ i → EdgesWritten shape₀ edges shape i
+      → shape ≡ sets shape₀ edgesAt (flatMap edgeWords (edgeEntries file table nodes edges))
   unfolding edgeTable
   edges-all shape₀ edges shape i h w = let e : i ≡ edges = omega (arith, w .few) in w .run ∙ ap (λ (k : ℕ). sets shape₀ edgesAt (edgeTable k)) e
 

@@ -159,5 +159,6 @@ module _ (file : List ℕ) (c : Counts) (sections : Sections file (c .nodes) (c 
     table-more k places q =
         ap (flatMap virtualStorageWords)
         (placed-more virtualStorages places k (virtualStorageAt file 0) (omega (arith, count))
-        ∙ ap (λ (v : VirtualStorage). placedVirtualStorages virtualStorages places ++ (record { row = k; period = v .period } ∷ [])) (ap (λ (j : ℕ). getD virtualStorages j (virtualStorageAt file 0)) q ∙ virtual-storage-is))
+        ∙ ap (λ (v : VirtualStorage). placedVirtualStorages virtualStorages places ++ (record { row = k; period = v .period } ∷ []))
+        (ap (λ (j : ℕ). getD virtualStorages j (virtualStorageAt file 0)) q ∙ virtual-storage-is))
         ∙ flat-snoc virtualStorageWords (placedVirtualStorages virtualStorages places) (record { row = k; period = periodAt file at })

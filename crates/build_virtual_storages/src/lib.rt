@@ -162,7 +162,8 @@ pub fn create_virtual_storage_constraints(
     requires { ⌜ EdgeTables (now s) c (now «first_in») (now «next_in») (now «first_out») (now «next_out») (now «edge_to_col»)
         × WorkRoom (now words) (now numbers) × HoldingVarying sentinel (now words) (now numbers) f ⌝ }
     ensures { λ r. ⌜ ((rows : List (List Element)) → RowsHeld (map (freshRow sentinel) rows) (now (words .entry)) (now (numbers .entry)) f
-        → AfterVariableRows sentinel rows (virtualStorageRows (networkOf (now (s .entry)) c)) virtualStoragesMadeAt (virtualStorageWidth * c .«virtual_storages») (virtualStorageTable (networkOf (now (s .entry)) c))
+        → AfterVariableRows sentinel rows (virtualStorageRows (networkOf (now (s .entry)) c)) virtualStoragesMadeAt (virtualStorageWidth * c .«virtual_storages»)
+        (virtualStorageTable (networkOf (now (s .entry)) c))
         (now (words .entry)) r (now (words .exit)) (now (numbers .exit))) ⌝ }
 {
     let mut at = c.virtual_storages_at;

@@ -66,8 +66,16 @@ module _ (s : Sentinel) (z : Sizes) where
   costs-are l l′ e =
       e ∙ one-fill l (z .«edge_columns») (z .sets) (ofBits binary64 0) ∙ rw (of-columns (λ (c : Column). c .cost) (z .«edge_columns») (z .sets) (edgeColumn s) setColumn, zero-literal)
 
-  pub uppers-are : (l l₁ l₂ : List Float) (h : Float) → h ≡ high s → l₁ ≡ sets l 0 (replicate (z .«edge_columns») h) → l₂ ≡ sets l₁ (z .«edge_columns») (replicate (z .sets) (ofBits binary64 0x3ff0000000000000))
+  pub uppers-are : (l l₁ l₂ : List Float) (h : Float) → h ≡ high s → l₁ ≡ sets l 0 (replicate (z .«edge_columns») h)
+      → l₂ ≡ sets l₁ (z .«edge_columns») (replicate (z .sets) (ofBits binary64 0x3ff0000000000000))
       → l₂ ≡ sets l 0 (map (λ (c : Column). c .upper) (columnsOf s z))
   unfolding edgeColumn setColumn
   uppers-are l l₁ l₂ h eh e₁ e₂ =
-      e₂ ∙ rw (e₁, eh, two-fills l (z .«edge_columns») (z .sets) (high s) (ofBits binary64 0x3ff0000000000000), of-columns (λ (c : Column). c .upper) (z .«edge_columns») (z .sets) (edgeColumn s) setColumn, one-literal)
+      e₂ ∙ rw (
+        e₁,
+        eh,
+        two-fills l (z .«edge_columns») (z .sets) (high s) (ofBits binary64 0x3ff0000000000000),
+        of-columns (λ (c : Column). c .upper)
+            (z .«edge_columns») (z .sets) (edgeColumn s) setColumn,
+        one-literal,
+      )

@@ -37,4 +37,18 @@ module _ (z : Sizes) (words old s₁ s₂ s₃ s₄ s₅ s₆ : List ℕ) where
       → s₂ ≡ sets s₁ nodesAt (part nodesAt (2 * z .nodes) made) → s₁ ≡ sets old 0 (part 0 countsLength made) → s₆ ≡ shapeWritten z words old
   unfolding shapeWritten
   written f e d c b a =
-      rw (f, e, d, c, b, a, is-made virtualStoragesAt (6 * z .«virtual_storages»), is-made aggregatesAt (z .aggregates), is-made nodeRowsAt (4 * z .«node_rows»), is-made edgesAt (3 * z .edges), is-made nodesAt (2 * z .nodes), is-made 0 countsLength)
+      rw (
+        f,
+        e,
+        d,
+        c,
+        b,
+        a,
+        is-made virtualStoragesAt (6 * z .«virtual_storages»),
+        is-made aggregatesAt (z .aggregates),
+        is-made nodeRowsAt
+            (4 * z .«node_rows»),
+        is-made edgesAt (3 * z .edges),
+        is-made nodesAt (2 * z .nodes),
+        is-made 0 countsLength,
+      )

@@ -6,7 +6,9 @@ use mathlib.Core.List.{List, _++_, map}
 use lib.ListN.{getD, replicate}
 use lib.Seq.{sets}
 use lib.Ieee.{Float}
-use Rattle.layout.specs.Layout.{nodeCeiling, edgeCeiling, aggregateCeiling, virtualStorageCeiling, setCeiling, rowCeiling, elementCeiling, nodeRowCeiling, countsLength, nodesAt, edgesAt, nodeRowsAt, aggregatesAt, virtualStoragesAt, nodeWidth, edgeWidth, nodeRowWidth, virtualStorageWidth, startsMadeAt, shapeMadeAt, nodesMadeAt, edgesMadeAt, nodeRowsMadeAt, aggregatesMadeAt, virtualStoragesMadeAt, uppersMadeAt, elementsMadeAt}
+use Rattle.layout.specs.Layout.{nodeCeiling, edgeCeiling, aggregateCeiling, virtualStorageCeiling, setCeiling, rowCeiling, elementCeiling, nodeRowCeiling, countsLength}
+use Rattle.layout.specs.Layout.{nodesAt, edgesAt, nodeRowsAt, aggregatesAt, virtualStoragesAt, nodeWidth, edgeWidth, nodeRowWidth, virtualStorageWidth}
+use Rattle.layout.specs.Layout.{startsMadeAt, shapeMadeAt, nodesMadeAt, edgesMadeAt, nodeRowsMadeAt, aggregatesMadeAt, virtualStoragesMadeAt, uppersMadeAt, elementsMadeAt}
 use Rattle.laws.specs.Part.{part}
 use Rattle.pywr.specs.declared.Sentinel.{Sentinel}
 use Rattle.pywr.specs.Programme.{Column}

@@ -29,7 +29,8 @@ module _ {A : Type 0} where
   -- what was written stands there
   pub part-same : (l vs : List A) (at n : ℕ) → length vs ≡ n → at + n ≤ length l → part at n (sets l at vs) ≡ vs
   part-same l vs at n e h =
-      rw (← e) (ap (part at (length vs)) (sets-eq vs l at (omega (arith, e))) ∙ rw (append-assoc, drop-at (take at l) (vs ++ drop (at + length vs) l) at (length-take-le at l (omega (arith, e))), take-append-seam))
+      rw (← e) (ap (part at (length vs)) (sets-eq vs l at (omega (arith, e)))
+      ∙ rw (append-assoc, drop-at (take at l) (vs ++ drop (at + length vs) l) at (length-take-le at l (omega (arith, e))), take-append-seam))
 
   -- a part in front of what is written, and one behind it
   pub part-before : (l vs : List A) (b a n : ℕ) → a + n ≤ b → part a n (sets l b vs) ≡ part a n l

@@ -18,7 +18,8 @@ ghost use Rattle.step_work.specs.Written.{Written};
 ghost use Rattle.step_aggregate_intervals.specs.AggregateIntervals.{aggregateNumbered};
 
 pub fn find_aggregate_intervals(file: &[u8], shape: &[u16], work: &mut [f64])
-    requires { ⌜ (shapeLength ≤ length (now shape)) × (stepWorkLength ≤ length (now work)) × (nodesIn (now shape) ≤ nodeCeiling) × (aggregatesIn (now shape) ≤ aggregateCeiling) × (virtualStorageStepsAt (nodesIn (now shape)) (aggregatesIn (now shape)) ≤ length (now file)) ⌝ }
+    requires { ⌜ (shapeLength ≤ length (now shape)) × (stepWorkLength ≤ length (now work)) × (nodesIn (now shape) ≤ nodeCeiling)
+        × (aggregatesIn (now shape) ≤ aggregateCeiling) × (virtualStorageStepsAt (nodesIn (now shape)) (aggregatesIn (now shape)) ≤ length (now file)) ⌝ }
     ensures { λ _. ⌜ Written (aggregateNumbered (now (shape .entry)) (now (file .entry))) aggregatesHeldAt (aggregatesIn (now (shape .entry))) (now (work .entry)) (now (work .exit)) ⌝ }
 {
     let first = DATE_LENGTH + NODE_STEP_LENGTH * wide16(shape[NODE_COUNT_AT]);

@@ -107,7 +107,8 @@ fn check_end(file: &[u8], end: usize) -> Answer
 // Judged by the store with this shape run; what it does not read may hold anything.
 pub fn read_step(file: &[u8], shape: &[u16]) -> Answer
     requires { ⌜ (shapeLength ≤ length (now shape)) × (nodesIn (now shape) ≤ nodeCeiling) × (aggregatesIn (now shape) ≤ aggregateCeiling) × (virtualStoragesIn (now shape) ≤ virtualStorageCeiling) ⌝ }
-    ensures { λ r. ⌜ ((s : Store) → s .shape ≡ now (shape .entry) → r ≡ answerOf (readStep (shapeOf s .nodes) (length (shapeOf s .aggregates)) (length (shapeOf s .virtualStorages)) (now (file .entry)))) ⌝ }
+    ensures { λ r. ⌜ ((s : Store) → s .shape ≡ now (shape .entry)
+        → r ≡ answerOf (readStep (shapeOf s .nodes) (length (shapeOf s .aggregates)) (length (shapeOf s .virtualStorages)) (now (file .entry)))) ⌝ }
 {
     let count = wide16(shape[NODE_COUNT_AT]);
     let aggregates = wide16(shape[AGGREGATE_COUNT_AT]);

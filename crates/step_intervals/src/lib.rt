@@ -12,7 +12,8 @@ ghost use Rattle.step_intervals.specs.Found.{Found};
 
 // Every interval of a step, for the counts and kinds of the shape run and a file of their length.
 pub fn find_intervals(file: &[u8], shape: &[u16], work: &mut [f64]) -> Answer
-    requires { ⌜ (shapeLength ≤ length (now shape)) × (stepWorkLength ≤ length (now work)) × (nodesIn (now shape) ≤ nodeCeiling) × (aggregatesIn (now shape) ≤ aggregateCeiling) × (virtualStoragesIn (now shape) ≤ virtualStorageCeiling)
+    requires { ⌜ (shapeLength ≤ length (now shape)) × (stepWorkLength ≤ length (now work)) × (nodesIn (now shape) ≤ nodeCeiling)
+        × (aggregatesIn (now shape) ≤ aggregateCeiling) × (virtualStoragesIn (now shape) ≤ virtualStorageCeiling)
         × (fileLength (nodesIn (now shape)) (aggregatesIn (now shape)) (virtualStoragesIn (now shape)) ≤ length (now file)) ⌝ }
     ensures { λ r. ⌜ ((s : Store) → s .shape ≡ now (shape .entry) → Found s (now (file .entry)) r (now (work .exit))) ⌝ }
 {

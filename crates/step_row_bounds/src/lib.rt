@@ -77,7 +77,8 @@ pub fn apply_intervals(
     work: &[f64],
     first: usize,
 )
-    requires { ⌜ RowTable (now shape) table words count × (rowCeiling ≤ length (now «row_lower»)) × (rowCeiling ≤ length (now «row_upper»)) × (stepWorkLength ≤ length (now work)) × (first + count ≤ uppersAt) ⌝ }
+    requires { ⌜ RowTable (now shape) table words count × (rowCeiling ≤ length (now «row_lower»)) × (rowCeiling ≤ length (now «row_upper»))
+        × (stepWorkLength ≤ length (now work)) × (first + count ≤ uppersAt) ⌝ }
     ensures { λ _. ⌜ ((rows : List Row) (lower upper : List Float) → length rows ≡ varyingIn (now (shape .entry))
         → BoundsWritten rows lower upper (now («row_lower» .entry)) (now («row_upper» .entry))
         → BoundsWritten (applyIntervals (entries (λ at. entryRow (now (shape .entry)) at) words table count) (heldFrom (now (work .entry)) first count) rows)

@@ -39,9 +39,11 @@ pub fn find_virtual_storage_intervals(
     sentinel: Sentinel,
     work: &mut [f64],
 ) -> Answer
-    requires { ⌜ (shapeLength ≤ length (now shape)) × (stepWorkLength ≤ length (now work)) × (nodesIn (now shape) ≤ nodeCeiling) × (aggregatesIn (now shape) ≤ aggregateCeiling) × (virtualStoragesIn (now shape) ≤ virtualStorageCeiling)
+    requires { ⌜ (shapeLength ≤ length (now shape)) × (stepWorkLength ≤ length (now work)) × (nodesIn (now shape) ≤ nodeCeiling)
+        × (aggregatesIn (now shape) ≤ aggregateCeiling) × (virtualStoragesIn (now shape) ≤ virtualStorageCeiling)
         × (fileLength (nodesIn (now shape)) (aggregatesIn (now shape)) (virtualStoragesIn (now shape)) ≤ length (now file)) ⌝ }
-    ensures { λ r. ⌜ Looked 15 (virtualStorageNumbered sentinel days (now (shape .entry)) (now (file .entry))) virtualStoragesHeldAt (virtualStoragesIn (now (shape .entry))) (now (work .entry)) r (now (work .exit)) ⌝ }
+    ensures { λ r. ⌜ Looked 15 (virtualStorageNumbered sentinel days (now (shape .entry)) (now (file .entry))) virtualStoragesHeldAt
+        (virtualStoragesIn (now (shape .entry))) (now (work .entry)) r (now (work .exit)) ⌝ }
 {
     let first = virtual_storages_at(shape);
     let virtual_storages = wide16(shape[VIRTUAL_STORAGE_COUNT_AT]);

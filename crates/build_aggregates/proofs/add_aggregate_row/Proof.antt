@@ -24,15 +24,20 @@ to-add-variable-row c =
 add-variable-row-requires : tie.Need-add-variable-row-requires
 add-variable-row-requires c κs =
     let after-aggregate-row = to-aggregate-row c in
-    let start = to-start after-aggregate-row in
-    (record { words-room = search needs; numbers-room = search needs }, after-aggregate-row .aggregate-row .ensures .few, after-aggregate-row .aggregate-row .ensures .rising, holding-lent _ _ _ (start .pre .2 .numbers-room) (start .pre .3) _ _ _ _ (after-aggregate-row .aggregate-row .ensures))
+    let start = to-start after-aggregate-row in (
+      record { words-room = search needs; numbers-room = search needs },
+      after-aggregate-row .aggregate-row .ensures .few,
+      after-aggregate-row .aggregate-row .ensures .rising,
+      holding-lent _ _ _ (start .pre .2 .numbers-room) (start .pre .3) _ _ _ _ (after-aggregate-row .aggregate-row .ensures),
+    )
 
 returns : tie.Need-returns
 returns c =
     let after-add-variable-row = to-add-variable-row c in
     let after-aggregate-row = to-aggregate-row (after-add-variable-row .before) in
     let start = to-start after-aggregate-row in
-    λ rows held. asked-lent _ _ _ (start .pre .2 .numbers-room) (start .pre .3) _ _ _ _ (after-aggregate-row .aggregate-row .ensures) _ _ _ _ (after-add-variable-row .add-variable-row .ensures) rows held
+    λ rows held. asked-lent _ _ _ (start .pre .2 .numbers-room) (start .pre .3) _ _ _ _ (after-aggregate-row .aggregate-row .ensures) _ _ _ _
+    (after-add-variable-row .add-variable-row .ensures) rows held
 
 pub add-aggregate-row-spec : {M : Type 1} → statement M
 add-aggregate-row-spec =

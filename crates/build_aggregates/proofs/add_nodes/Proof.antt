@@ -66,8 +66,11 @@ loop-again c =
     let at-loop = in-loop .before in
     let after-set-size = at-loop .before in
     let start = after-set-size .before .before .before in
-    let l = at-loop .loop in
-    (nodes-more _ (start .args .c) _ _ _ _ _ _ (l .inv .0) _ _ _ _ _ (omega (arith, after-set-size .set-size .ensures .0, in-loop .loop-test .taken)) (after-member .member .ensures) refl (after-add-node .add-node .ensures), after-add-node .add-node .kept .1 .1 .1 .1 .1 .1 .1 .1 .1 .1 .0 ∙ l .inv .1)
+    let l = at-loop .loop in (
+      nodes-more _ (start .args .c) _ _ _ _ _ _ (l .inv .0) _ _ _ _ _ (omega (arith, after-set-size .set-size .ensures .0, in-loop .loop-test .taken))
+          (after-member .member .ensures) refl (after-add-node .add-node .ensures),
+      after-add-node .add-node .kept .1 .1 .1 .1 .1 .1 .1 .1 .1 .1 .0 ∙ l .inv .1,
+    )
 
 same-length : tie.Need-same-length Inv-loop μ-loop
 same-length c =

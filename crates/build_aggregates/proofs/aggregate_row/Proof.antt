@@ -75,8 +75,12 @@ loop-again c =
     let start = after-set-count .before .before .before in
     let t = start in
     let l = at-loop .loop in
-    let lt : l .i < byte (t .args .s .now) (t .args .at + 3) = omega (arith, after-set-count .set-count .ensures .0, in-loop .loop-test .taken) in
-    (sets-more _ (t .args .c) _ _ _ _ _ _ (l .inv .0) _ _ _ _ lt (c .set-end .ensures) (after-add-nodes .add-nodes .ensures), set-next _ _ _ (t .pre .1) _ _ lt (l .inv .1) _ (c .set-end .ensures), after-add-nodes .add-nodes .kept .1 .1 .1 .1 .1 .1 .1 .1 .1 .0 ∙ l .inv .2)
+    let lt : l .i < byte (t .args .s .now) (t .args .at + 3) = omega (arith, after-set-count .set-count .ensures .0, in-loop .loop-test .taken) in (
+      sets-more _ (t .args .c) _ _ _ _ _ _ (l .inv .0) _ _ _ _ lt (c .set-end .ensures) (after-add-nodes .add-nodes .ensures),
+      set-next _ _ _ (t .pre .1) _ _ lt
+          (l .inv .1) _ (c .set-end .ensures),
+      after-add-nodes .add-nodes .kept .1 .1 .1 .1 .1 .1 .1 .1 .1 .0 ∙ l .inv .2,
+    )
 
 same-length : tie.Need-same-length Inv-loop μ-loop
 same-length c =

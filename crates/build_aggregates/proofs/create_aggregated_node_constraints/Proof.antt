@@ -77,8 +77,12 @@ add-aggregate-row-requires c κs =
     let t = to-start (to-loop c) in
     let l = to-loop c .loop in
     let lt = c .before .before .before .if1 .taken in
-    let a = l .inv .0 (t .pre .2 .rows) (t .pre .2 .held) in
-    (t .pre .0, aggregate-check _ (t .args .c) (t .pre .0 .sections) _ _ lt (l .inv .1), record { words-room = omega (arith, l .inv .3, t .pre .1 .words-room); numbers-room = omega (arith, l .inv .4, t .pre .1 .numbers-room) }, record { rows = _; held = a .held })
+    let a = l .inv .0 (t .pre .2 .rows) (t .pre .2 .held) in (
+      t .pre .0,
+      aggregate-check _ (t .args .c) (t .pre .0 .sections) _ _ lt (l .inv .1),
+      record { words-room = omega (arith, l .inv .3, t .pre .1 .words-room); numbers-room = omega (arith, l .inv .4, t .pre .1 .numbers-room) },
+      record { rows = _; held = a .held },
+    )
 
 same-length : tie.Need-same-length Inv-loop μ-loop
 same-length c =
@@ -99,7 +103,8 @@ returns c =
     let lt = then1 .if1 .taken in
     λ rows held.
     let a = l .inv .0 rows held in
-    asked-full _ _ _ _ _ _ _ (omega arith) _ _ _ _ _ _ _ _ (asked-under _ (t .args .c) (t .pre .0 .sections) _ _ lt (l .inv .1)) (asked-row _ (t .args .c) (t .pre .0 .sections) _ _ lt (l .inv .1)) a (after-add-aggregate-row .add-aggregate-row .ensures _ (a .held)) _ (c .enum-told .given .1)
+    asked-full _ _ _ _ _ _ _ (omega arith) _ _ _ _ _ _ _ _ (asked-under _ (t .args .c) (t .pre .0 .sections) _ _ lt (l .inv .1))
+    (asked-row _ (t .args .c) (t .pre .0 .sections) _ _ lt (l .inv .1)) a (after-add-aggregate-row .add-aggregate-row .ensures _ (a .held)) _ (c .enum-told .given .1)
 
 sub-put-aggregate : tie.Need-sub-put-aggregate Inv-loop μ-loop
 sub-put-aggregate c =
@@ -119,7 +124,8 @@ narrow16-requires c κs =
     let l = at-loop .loop in
     let lt = then1 .if1 .taken in
     let a = l .inv .0 (t .pre .2 .rows) (t .pre .2 .held) in
-    place-fits _ _ _ _ _ _ _ (omega arith) _ _ _ _ _ _ _ _ (asked-under _ (t .args .c) (t .pre .0 .sections) _ _ lt (l .inv .1)) (asked-row _ (t .args .c) (t .pre .0 .sections) _ _ lt (l .inv .1)) a (after-add-aggregate-row .add-aggregate-row .ensures _ (a .held)) _ _ (after-r .r .given .1)
+    place-fits _ _ _ _ _ _ _ (omega arith) _ _ _ _ _ _ _ _ (asked-under _ (t .args .c) (t .pre .0 .sections) _ _ lt (l .inv .1))
+    (asked-row _ (t .args .c) (t .pre .0 .sections) _ _ lt (l .inv .1)) a (after-add-aggregate-row .add-aggregate-row .ensures _ (a .held)) _ _ (after-r .r .given .1)
 
 put-aggregate-requires : tie.Need-put-aggregate-requires Inv-loop μ-loop
 put-aggregate-requires c κs =
@@ -127,7 +133,15 @@ put-aggregate-requires c κs =
     let l = to-loop (to-add-aggregate-row-arg3 (to-slice-known4 (c .before))) .loop in
     let lt = to-then1 (to-add-aggregate-row (to-slice-known4 (c .before))) .if1 .taken in
     let call = to-add-aggregate-row (to-slice-known4 (c .before)) .add-aggregate-row in
-    omega (arith, tail-length shapeMadeAt (call .last .1 .1 .1 .1 .1 .1 .1 .1 .1 .0), call .kept .1 .1 .1 .1 .1 .1 .1 .1 .1 .0, l .inv .3, t .pre .1 .words-room, t .pre .0 .sections .few-aggregates, lt)
+    omega (
+      arith,
+      tail-length shapeMadeAt (call .last .1 .1 .1 .1 .1 .1 .1 .1 .1 .0),
+      call .kept .1 .1 .1 .1 .1 .1 .1 .1 .1 .0,
+      l .inv .3,
+      t .pre .1 .words-room,
+      t .pre .0 .sections .few-aggregates,
+      lt,
+    )
 
 aggregate-end-requires : tie.Need-aggregate-end-requires Inv-loop μ-loop
 aggregate-end-requires c κs =
@@ -161,12 +175,15 @@ loop-again c =
     let call = after-add-aggregate-row .add-aggregate-row in (
       (λ rows held.
           let a = l .inv .0 rows held in
-          asked-more _ _ _ _ _ _ _ (omega arith) _ _ _ _ _ _ _ _ (asked-under _ (t .args .c) (t .pre .0 .sections) _ _ lt (l .inv .1)) (asked-row _ (t .args .c) (t .pre .0 .sections) _ _ lt (l .inv .1)) a (call .ensures _ (a .held)) _ _ (after-r .r .given .1) (aggregatesAt + l .i) (after-narrow16 .narrow16 .result ∷ []) _ (omega arith) refl
+          asked-more _ _ _ _ _ _ _ (omega arith) _ _ _ _ _ _ _ _ (asked-under _ (t .args .c) (t .pre .0 .sections) _ _ lt (l .inv .1))
+          (asked-row _ (t .args .c) (t .pre .0 .sections) _ _ lt (l .inv .1)) a (call .ensures _ (a .held)) _ _ (after-r .r .given .1) (aggregatesAt + l .i)
+          (after-narrow16 .narrow16 .result ∷ []) _ (omega arith) refl
           (omega (arith, call .kept .1 .1 .1 .1 .1 .1 .1 .1 .1 .0, l .inv .3, t .pre .1 .words-room, t .pre .0 .sections .few-aggregates, lt))
           (λ places e. ap (λ (k : ℕ). places ++ (k ∷ [])) (sym (after-narrow16 .narrow16 .ensures))) (after-put-aggregate .put-aggregate .ensures)),
       aggregate-next _ (t .args .c) (t .pre .0 .sections) _ _ lt (l .inv .1) _ (c .aggregate-end .ensures),
       omega arith,
-      tail-kept shapeMadeAt (call .last .1 .1 .1 .1 .1 .1 .1 .1 .1 .0) (after-put-aggregate .put-aggregate .last .0) (after-put-aggregate .put-aggregate .kept .0) ∙ call .kept .1 .1 .1 .1 .1 .1 .1 .1 .1 .0 ∙ l .inv .3,
+      tail-kept shapeMadeAt (call .last .1 .1 .1 .1 .1 .1 .1 .1 .1 .0) (after-put-aggregate .put-aggregate .last .0)
+          (after-put-aggregate .put-aggregate .kept .0) ∙ call .kept .1 .1 .1 .1 .1 .1 .1 .1 .1 .0 ∙ l .inv .3,
       call .kept .1 .1 .1 .1 .1 .1 .1 .1 .1 .1 .0 ∙ l .inv .4,
     )
 

@@ -34,7 +34,8 @@ returns-3 c =
     let start-place = after-run .before .before .before in
     let start = start-place in
     λ rows held.
-    row-added rows _ _ _ _ _ _ _ held (start .pre .0 .numbers-room) (omega (arith, after-run .run .given .0)) (start .pre .1) (start .pre .0 .words-room) (omega (arith, else1 .if1 .left)) (omega (arith, else2 .if2 .left)) _ _ (after-put-columns .put-columns .ensures) (c .narrow16 .ensures)
+    row-added rows _ _ _ _ _ _ _ held (start .pre .0 .numbers-room) (omega (arith, after-run .run .given .0)) (start .pre .1) (start .pre .0 .words-room)
+    (omega (arith, else1 .if1 .left)) (omega (arith, else2 .if2 .left)) _ _ (after-put-columns .put-columns .ensures) (c .narrow16 .ensures)
 
 pub add-fixed-row-spec : {M : Type 1} → statement M
 add-fixed-row-spec =

@@ -54,8 +54,19 @@ add-fixed-row-requires : tie.Need-add-fixed-row-requires
 add-fixed-row-requires c κs =
     let after-exclusivity-row = to-exclusivity-row c in
     let start = to-start (to-is-exclusive after-exclusivity-row) in
-    let few = held-few _ _ _ _ (start .pre .5 .held) in
-    (record { words-room = start .pre .4 .words-room; numbers-room = lent-long (start .args .numbers .now) (after-exclusivity-row .exclusivity-row .last .1 .1 .1 .1 .1 .1 .0) (2048 + start .args .f .elements) (after-exclusivity-row .exclusivity-row .kept .1 .1 .1 .1 .1 .1 .0) (start .pre .4 .numbers-room) }, after-exclusivity-row .exclusivity-row .ensures .few, few .0, few .1, after-exclusivity-row .exclusivity-row .ensures .rising)
+    let few = held-few _ _ _ _ (start .pre .5 .held) in (
+      record {
+        words-room = start .pre .4 .words-room;
+        numbers-room = lent-long (start .args .numbers .now)
+            (after-exclusivity-row .exclusivity-row .last .1 .1 .1 .1 .1 .1 .0) (2048 + start .args .f .elements)
+            (after-exclusivity-row .exclusivity-row .kept .1 .1 .1 .1 .1 .1 .0)
+            (start .pre .4 .numbers-room);
+      },
+      after-exclusivity-row .exclusivity-row .ensures .few,
+      few .0,
+      few .1,
+      after-exclusivity-row .exclusivity-row .ensures .rising,
+    )
 
 returns : tie.Need-returns
 unfolding double
@@ -71,7 +82,8 @@ returns c =
     let start = to-start after-is-exclusive in
     let x = sym (after-is-exclusive .is-exclusive .ensures) ∙ then1 .if1 .taken in
     λ map m. exclusivity-row-added _ _ _ _ _ _ _ _ (after-exclusivity-row .exclusivity-row .ensures) x map m _ _ _ _ refl (lent-room _ _ _ (start .pre .5) (start .pre .4 .numbers-room) .0) _ _ _ _ _
-    (after-lower .u32-to-f64 .ensures ∙ ap double (after-min-active .min-active .ensures)) (after-upper .u32-to-f642 .ensures ∙ ap double (after-max-active .max-active .ensures)) (after-add-fixed-row .add-fixed-row .ensures)
+    (after-lower .u32-to-f64 .ensures ∙ ap double (after-min-active .min-active .ensures))
+    (after-upper .u32-to-f642 .ensures ∙ ap double (after-max-active .max-active .ensures)) (after-add-fixed-row .add-fixed-row .ensures)
 
 returns-2 : tie.Need-returns-2
 returns-2 c =

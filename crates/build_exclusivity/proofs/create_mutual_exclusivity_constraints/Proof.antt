@@ -58,8 +58,15 @@ add-exclusivity-row-requires c κs =
     let at-loop = in-loop .before in
     let start = to-start at-loop in
     let p = start .pre in
-    let l = at-loop .loop .inv in
-    (p .1, p .4, aggregate-starts _ _ _ _ _ _ (p .0) _ (in-loop .loop-test .taken) _ (l .0 .stands), known-sets _ _ _ _ _ _ (p .0) _ (in-loop .loop-test .taken) _ (l .0 .stands) _ _ (p .1) (p .2), record { words-room = omega (arith, l .1, p .5 .words-room); numbers-room = omega (arith, l .2, p .5 .numbers-room) }, adding-holding _ _ _ _ _ _ (l .0 .adding _ (map-is (start)) (p .6 .rows) (p .6 .held)))
+    let l = at-loop .loop .inv in (
+      p .1,
+      p .4,
+      aggregate-starts _ _ _ _ _ _ (p .0) _ (in-loop .loop-test .taken) _ (l .0 .stands),
+      known-sets _ _ _ _ _ _ (p .0) _ (in-loop .loop-test .taken)
+          _ (l .0 .stands) _ _ (p .1) (p .2),
+      record { words-room = omega (arith, l .1, p .5 .words-room); numbers-room = omega (arith, l .2, p .5 .numbers-room) },
+      adding-holding _ _ _ _ _ _ (l .0 .adding _ (map-is (start)) (p .6 .rows) (p .6 .held)),
+    )
 
 same-length : tie.Need-same-length Inv-loop μ-loop
 same-length c =
@@ -76,7 +83,8 @@ returns c =
     let in-loop = to-in-loop after-add-exclusivity-row in
     let at-loop = in-loop .before in
     let start = to-start at-loop in
-    aggregate-over _ _ _ _ _ _ _ _ _ _ _ _ (at-loop .loop .inv .0) (in-loop .loop-test .taken) _ _ _ (after-add-exclusivity-row .add-exclusivity-row .ensures) (c .enum-told .given .1) _ (map-is (start))
+    aggregate-over _ _ _ _ _ _ _ _ _ _ _ _ (at-loop .loop .inv .0) (in-loop .loop-test .taken) _ _ _ (after-add-exclusivity-row .add-exclusivity-row .ensures)
+    (c .enum-told .given .1) _ (map-is (start))
 
 aggregate-end-requires : tie.Need-aggregate-end-requires Inv-loop μ-loop
 aggregate-end-requires c κs =
@@ -93,7 +101,8 @@ loop-again c =
     let after-add-exclusivity-row-arg = after-add-exclusivity-row .before .before .before in
     let in-loop = after-add-exclusivity-row-arg .before in
     let at-loop = in-loop .before in (
-      rw (c .aggregate-end .ensures) (aggregate-more _ _ _ _ _ _ _ _ _ _ _ _ (at-loop .loop .inv .0) (in-loop .loop-test .taken) _ _ _ (after-add-exclusivity-row .add-exclusivity-row .ensures) _ (c .before .before .r .given .1)),
+      rw (c .aggregate-end .ensures) (aggregate-more _ _ _ _ _ _ _ _ _ _ _ _ (at-loop .loop .inv .0) (in-loop .loop-test .taken) _ _ _
+          (after-add-exclusivity-row .add-exclusivity-row .ensures) _ (c .before .before .r .given .1)),
       after-add-exclusivity-row .add-exclusivity-row .kept .1 .1 .1 .1 .1 .0 ∙ at-loop .loop .inv .1,
       after-add-exclusivity-row .add-exclusivity-row .kept .1 .1 .1 .1 .1 .1 .0 ∙ at-loop .loop .inv .2,
     )

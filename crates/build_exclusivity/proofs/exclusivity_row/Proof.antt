@@ -63,8 +63,13 @@ add-element-requires c κs =
     let in-loop = after-set-number .before in
     let at-loop = in-loop .before in
     let start = to-start at-loop in
-    let k = next-known _ _ _ _ _ _ _ _ _ _ _ (at-loop .loop .inv .0) (in-loop .loop-test .taken) (start .pre .3) .1 in
-    (at-loop .loop .inv .0 .few, omega (arith, at-loop .loop .inv .1, start .pre .4), omega (arith, k, after-narrow16 .narrow16 .ensures, after-set-number .set-number .ensures, start .pre .0 .few, start .pre .1), at-loop .loop .inv .0 .rising)
+    let k = next-known _ _ _ _ _ _ _ _ _ _ _ (at-loop .loop .inv .0) (in-loop .loop-test .taken) (start .pre .3) .1 in (
+      at-loop .loop .inv .0 .few,
+      omega (arith, at-loop .loop .inv .1, start .pre .4),
+      omega
+          (arith, k, after-narrow16 .narrow16 .ensures, after-set-number .set-number .ensures, start .pre .0 .few, start .pre .1),
+      at-loop .loop .inv .0 .rising,
+    )
 
 set-end-requires : tie.Need-set-end-requires Inv-loop μ-loop
 set-end-requires c κs =
@@ -80,8 +85,11 @@ loop-again c =
     let after-narrow16 = after-add-element .before .before .before in
     let after-set-number = after-narrow16 .before in
     let in-loop = after-set-number .before in
-    let at-loop = in-loop .before in
-    (rw (c .set-end .ensures) (gathering-next _ _ _ _ _ _ _ _ _ _ _ (at-loop .loop .inv .0) (in-loop .loop-test .taken) _ _ _ _ _ _ (after-set-number .set-number .ensures) (after-narrow16 .narrow16 .ensures) refl (after-add-element .add-element .ensures)), after-add-element .add-element .kept .1 .0 ∙ at-loop .loop .inv .1)
+    let at-loop = in-loop .before in (
+      rw (c .set-end .ensures) (gathering-next _ _ _ _ _ _ _ _ _ _ _ (at-loop .loop .inv .0) (in-loop .loop-test .taken) _ _ _ _ _ _
+          (after-set-number .set-number .ensures) (after-narrow16 .narrow16 .ensures) refl (after-add-element .add-element .ensures)),
+      after-add-element .add-element .kept .1 .0 ∙ at-loop .loop .inv .1,
+    )
 
 same-length : tie.Need-same-length Inv-loop μ-loop
 same-length c =

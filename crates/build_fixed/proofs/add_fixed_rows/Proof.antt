@@ -70,7 +70,8 @@ create-constant-constraints-requires c κs =
           start .pre .3 .numbers-room,
         );
       },
-      mass-holding (start .args .sentinel) (networkOf (start .args .s .now) (start .args .c)) _ _ _ _ _ _ (after-create-mass-balance-constraints .create-mass-balance-constraints .ensures) _ (after-m .m .given .1) (start .pre .4),
+      mass-holding (start .args .sentinel) (networkOf (start .args .s .now) (start .args .c)) _ _ _ _ _ _
+          (after-create-mass-balance-constraints .create-mass-balance-constraints .ensures) _ (after-m .m .given .1) (start .pre .4),
     )
 
 create-mutual-exclusivity-constraints-requires : tie.Need-create-mutual-exclusivity-constraints-requires
@@ -99,7 +100,9 @@ create-mutual-exclusivity-constraints-requires c κs =
           start .pre .3 .numbers-room,
         );
       },
-      constant-holding (start .args .sentinel) (networkOf (start .args .s .now) (start .args .c)) _ _ _ _ _ _ (after-create-mass-balance-constraints .create-mass-balance-constraints .ensures) _ (after-m .m .given .1) _ _ _ (after-create-constant-constraints .create-constant-constraints .ensures) _ (after-b .b .given .1) (start .pre .4),
+      constant-holding (start .args .sentinel) (networkOf (start .args .s .now) (start .args .c)) _ _ _ _ _ _
+          (after-create-mass-balance-constraints .create-mass-balance-constraints .ensures) _ (after-m .m .given .1) _ _ _
+          (after-create-constant-constraints .create-constant-constraints .ensures) _ (after-b .b .given .1) (start .pre .4),
     )
 
 same-length : tie.Need-same-length

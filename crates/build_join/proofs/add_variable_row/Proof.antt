@@ -36,7 +36,8 @@ returns-2 c =
     let start = to-start after-position in
     let s = start .args .sentinel in
     λ rows held.
-    row-new s rows _ _ _ _ _ held (after-position .position .ensures (map (freshRow s) rows) held) _ _ _ _ _ (else1 .if1 .left) refl (after-high .high .ensures) (after-add-fixed-row .add-fixed-row .ensures (map (freshRow s) rows) held) _ (after-r .r .given .1)
+    row-new s rows _ _ _ _ _ held (after-position .position .ensures (map (freshRow s) rows) held) _ _ _ _ _ (else1 .if1 .left) refl (after-high .high .ensures)
+    (after-add-fixed-row .add-fixed-row .ensures (map (freshRow s) rows) held) _ (after-r .r .given .1)
 
 returns-3 : tie.Need-returns-3
 unfolding zero64 ofBits
@@ -48,7 +49,8 @@ returns-3 c =
     let start = to-start after-position in
     let s = start .args .sentinel in
     λ rows held.
-    row-full s rows _ _ _ _ _ held (after-position .position .ensures (map (freshRow s) rows) held) _ _ _ _ _ (else1 .if1 .left) refl (after-high .high .ensures) (after-add-fixed-row .add-fixed-row .ensures (map (freshRow s) rows) held) (c .enum-told .given .1)
+    row-full s rows _ _ _ _ _ held (after-position .position .ensures (map (freshRow s) rows) held) _ _ _ _ _ (else1 .if1 .left) refl
+    (after-high .high .ensures) (after-add-fixed-row .add-fixed-row .ensures (map (freshRow s) rows) held) (c .enum-told .given .1)
 
 pub add-variable-row-spec : {M : Type 1} → statement M
 add-variable-row-spec =

@@ -26,7 +26,8 @@ sub-if1 c =
 returns : tie.Need-returns
 returns c =
     let start = to-start (c .before) in
-    length-differs _ _ _ _ _ _ (start .pre .3) (c .before .before .before .wide16 .ensures .0) (c .before .wide162 .ensures .0) _ _ (start .pre .0 .numbers-room) (start .pre .1) (start .pre .2) (c .if1 .taken)
+    length-differs _ _ _ _ _ _ (start .pre .3) (c .before .before .before .wide16 .ensures .0) (c .before .wide162 .ensures .0) _ _
+    (start .pre .0 .numbers-room) (start .pre .1) (start .pre .2) (c .if1 .taken)
 
 same-elements-requires : tie.Need-same-elements-requires
 same-elements-requires c κs =

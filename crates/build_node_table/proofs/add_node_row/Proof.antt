@@ -27,7 +27,8 @@ to-slice-known4 c =
 narrow16-requires : tie.Need-narrow16-requires
 narrow16-requires c κs =
     let h = to-start (to-add-variable-row (to-slice-known4 c)) .pre .3 in
-    place-fits _ (joined (h .asks) .rows) _ _ _ _ _ _ _ (h .held .held) (to-add-variable-row (to-slice-known4 c) .add-variable-row .ensures (joined (h .asks) .rows) (h .held .held)) _ _ (c .before .before .r .given .1)
+    place-fits _ (joined (h .asks) .rows) _ _ _ _ _ _ _ (h .held .held)
+    (to-add-variable-row (to-slice-known4 c) .add-variable-row .ensures (joined (h .asks) .rows) (h .held .held)) _ _ (c .before .before .r .given .1)
 
 put-node-row-requires : tie.Need-put-node-row-requires
 put-node-row-requires c κs =
@@ -50,7 +51,8 @@ returns-2 c =
     let long = start .pre .0 .words-room in
     let kept = after-add-variable-row .add-variable-row .kept .0 in
     λ t et asks h.
-    row-placed _ asks _ _ _ _ _ _ _ h (after-add-variable-row .add-variable-row .ensures (joined asks .rows) (h .held)) _ _ (after-r .r .given .1) _ _ _ (after-narrow16 .narrow16 .ensures) et (omega arith) (after-put-node-row .put-node-row .ensures)
+    row-placed _ asks _ _ _ _ _ _ _ h (after-add-variable-row .add-variable-row .ensures (joined asks .rows) (h .held)) _ _ (after-r .r .given .1) _ _ _
+    (after-narrow16 .narrow16 .ensures) et (omega arith) (after-put-node-row .put-node-row .ensures)
 
 pub add-node-row-spec : {M : Type 1} → statement M
 add-node-row-spec =

@@ -53,16 +53,39 @@ to-slice-known7 c =
 add-varying-rows-requires : tie.Need-add-varying-rows-requires
 add-varying-rows-requires c κs =
     let after-start-rows = to-start-rows c in
-    let start = to-start after-start-rows in
-    (start .pre .0, record { setAt = _; sets = _; tables = start .pre .1 }, start .pre .2, record { words-room = omega (arith, after-start-rows .start-rows .kept .0, start .pre .3 .words-room); numbers-room = start .pre .3 .numbers-room }, after-start-rows .start-rows .ensures .0 _)
+    let start = to-start after-start-rows in (
+      start .pre .0,
+      record { setAt = _; sets = _; tables = start .pre .1 },
+      start .pre .2,
+      record { words-room = omega (arith, after-start-rows .start-rows .kept .0, start .pre .3 .words-room); numbers-room = start .pre .3 .numbers-room },
+      after-start-rows .start-rows .ensures .0 _,
+    )
 
 add-fixed-rows-requires : tie.Need-add-fixed-rows-requires
 add-fixed-rows-requires c κs =
     let after-v = to-v c in
     let after-add-varying-rows = to-add-varying-rows (after-v .before .before) in
     let after-start-rows = to-start-rows (after-add-varying-rows .before) in
-    let start = to-start after-start-rows in
-    (start .pre .0, start .pre .1, start .pre .2, record { words-room = omega (arith, after-start-rows .start-rows .kept .0, after-add-varying-rows .add-varying-rows .kept .1 .1 .1 .1 .1 .1 .1 .1 .1 .1 .1 .0, start .pre .3 .words-room); numbers-room = omega (arith, after-add-varying-rows .add-varying-rows .kept .1 .1 .1 .1 .1 .1 .1 .1 .1 .1 .1 .1 .0, start .pre .3 .numbers-room) }, record { rows = _; held = after-add-varying-rows .add-varying-rows .ensures .done _ (after-v .v .given .1) .held })
+    let start = to-start after-start-rows in (
+      start .pre .0,
+      start .pre .1,
+      start .pre .2,
+      record {
+        words-room = omega (
+          arith,
+          after-start-rows .start-rows .kept .0,
+          after-add-varying-rows .add-varying-rows .kept .1 .1 .1 .1 .1 .1 .1 .1 .1 .1 .1 .0,
+          start .pre .3 .words-room,
+        );
+        numbers-room = omega
+            (arith, after-add-varying-rows .add-varying-rows .kept .1 .1 .1 .1 .1 .1 .1 .1 .1 .1 .1 .1 .0, start .pre .3 .numbers-room);
+      },
+      record {
+        rows = _;
+        held =
+            after-add-varying-rows .add-varying-rows .ensures .done _ (after-v .v .given .1) .held;
+      },
+    )
 
 write-tables-requires : tie.Need-write-tables-requires
 write-tables-requires c κs =
@@ -74,8 +97,20 @@ write-tables-requires c κs =
     let start = to-start after-start-rows in
     let v = after-add-varying-rows .add-varying-rows .ensures .done _ (after-v .v .given .1) in
     let a = after-add-fixed-rows .add-fixed-rows .ensures (programmeOf (start .args .sentinel) (networkOf (start .args .s .now) (start .args .c)) .programme .varying) (v .held) in
-    let t = start .pre .0 in
-    (few (start .args .sentinel) _ (start .args .c) _ _ _ _ _ (start .pre .0) _ _ _ _ (start .pre .1) _ (start .pre .2) _ _ _ _ _ _ v _ a (after-f .f .given .1), omega (arith, t .sections .fixed, t .sections .inside), omega (arith, after-start-rows .start-rows .kept .0, after-add-varying-rows .add-varying-rows .kept .1 .1 .1 .1 .1 .1 .1 .1 .1 .1 .1 .0, after-add-fixed-rows .add-fixed-rows .kept .1 .1 .1 .1 .1 .1 .1 .1 .1 .1 .1 .1 .1 .0, start .pre .3 .words-room), varying-most (start .args .sentinel) _ (start .args .c) _ _ _ _ _ (start .pre .0) _ _ _ _ (start .pre .1) _ (start .pre .2) _ _ _ _ _ _ v _ a (after-f .f .given .1), placed _ _ _ _ _ _ _ t)
+    let t = start .pre .0 in (
+      few (start .args .sentinel) _ (start .args .c) _ _ _ _ _ (start .pre .0) _ _ _ _ (start .pre .1) _ (start .pre .2) _ _ _ _ _ _ v _ a
+          (after-f .f .given .1),
+      omega (arith, t .sections .fixed, t .sections .inside),
+      omega (
+        arith,
+        after-start-rows .start-rows .kept .0,
+        after-add-varying-rows .add-varying-rows .kept .1 .1 .1 .1 .1 .1 .1 .1 .1 .1 .1 .0,
+        after-add-fixed-rows .add-fixed-rows .kept .1 .1 .1 .1 .1 .1 .1 .1 .1 .1 .1 .1 .1 .0,
+        start .pre .3 .words-room,
+      ),
+      varying-most (start .args .sentinel) _ (start .args .c) _ _ _ _ _ (start .pre .0) _ _ _ _ (start .pre .1) _ (start .pre .2) _ _ _ _ _ _ v _ a (after-f .f .given .1),
+      placed _ _ _ _ _ _ _ t,
+    )
 
 same-length : tie.Need-same-length
 same-length c =
@@ -96,7 +131,8 @@ same-length-3 c =
     let after-add-fixed-rows = to-add-fixed-rows (c .before .before) in
     let after-add-varying-rows = to-add-varying-rows (to-slice-known5 after-add-fixed-rows) in
     let after-start-rows = to-start-rows (after-add-varying-rows .before) in
-    after-add-fixed-rows .add-fixed-rows .kept .1 .1 .1 .1 .1 .1 .1 .1 .1 .1 .1 .1 .1 .0 ∙ after-add-varying-rows .add-varying-rows .kept .1 .1 .1 .1 .1 .1 .1 .1 .1 .1 .1 .0 ∙ after-start-rows .start-rows .kept .0
+    after-add-fixed-rows .add-fixed-rows .kept .1 .1 .1 .1 .1 .1 .1 .1 .1 .1 .1 .1 .1 .0
+    ∙ after-add-varying-rows .add-varying-rows .kept .1 .1 .1 .1 .1 .1 .1 .1 .1 .1 .1 .0 ∙ after-start-rows .start-rows .kept .0
 
 same-length-4 : tie.Need-same-length-4
 same-length-4 c =
@@ -111,7 +147,9 @@ returns-2 c =
     let after-add-varying-rows = to-add-varying-rows (after-v .before .before) in
     let start = to-start (to-start-rows (after-add-varying-rows .before)) in
     let v = after-add-varying-rows .add-varying-rows .ensures .done _ (after-v .v .given .1) in
-    fixed-refused (start .args .sentinel) _ (start .args .c) _ _ _ _ _ (start .pre .0) _ _ (after-add-fixed-rows .add-fixed-rows .ensures (programmeOf (start .args .sentinel) (networkOf (start .args .s .now) (start .args .c)) .programme .varying) (v .held) .full (c .enum-told2 .given .1))
+    fixed-refused (start .args .sentinel) _ (start .args .c) _ _ _ _ _ (start .pre .0) _ _
+    (after-add-fixed-rows .add-fixed-rows .ensures (programmeOf (start .args .sentinel) (networkOf (start .args .s .now) (start .args .c)) .programme .varying)
+    (v .held) .full (c .enum-told2 .given .1))
 
 same-length-5 : tie.Need-same-length-5
 same-length-5 c =
@@ -119,7 +157,8 @@ same-length-5 c =
     let after-add-fixed-rows = to-add-fixed-rows (to-slice-known7 after-write-tables) in
     let after-add-varying-rows = to-add-varying-rows (to-slice-known5 after-add-fixed-rows) in
     let after-start-rows = to-start-rows (after-add-varying-rows .before) in
-    after-write-tables .write-tables .kept .1 .1 .1 .1 .1 .0 ∙ after-add-fixed-rows .add-fixed-rows .kept .1 .1 .1 .1 .1 .1 .1 .1 .1 .1 .1 .1 .1 .0 ∙ after-add-varying-rows .add-varying-rows .kept .1 .1 .1 .1 .1 .1 .1 .1 .1 .1 .1 .0 ∙ after-start-rows .start-rows .kept .0
+    after-write-tables .write-tables .kept .1 .1 .1 .1 .1 .0 ∙ after-add-fixed-rows .add-fixed-rows .kept .1 .1 .1 .1 .1 .1 .1 .1 .1 .1 .1 .1 .1 .0
+    ∙ after-add-varying-rows .add-varying-rows .kept .1 .1 .1 .1 .1 .1 .1 .1 .1 .1 .1 .0 ∙ after-start-rows .start-rows .kept .0
 
 same-length-6 : tie.Need-same-length-6
 same-length-6 c =
@@ -138,7 +177,14 @@ returns-3 c =
     let start = to-start after-start-rows in
     let v = after-add-varying-rows .add-varying-rows .ensures .done _ (after-v .v .given .1) in
     let a = after-add-fixed-rows .add-fixed-rows .ensures (programmeOf (start .args .sentinel) (networkOf (start .args .s .now) (start .args .c)) .programme .varying) (v .held) in
-    all-made (start .args .sentinel) _ (start .args .c) _ _ _ _ _ (start .pre .0) _ _ _ _ (start .pre .1) _ (start .pre .2) _ _ _ _ _ _ v _ a (after-f .f .given .1) _ (omega (arith, after-start-rows .start-rows .kept .0, after-add-varying-rows .add-varying-rows .kept .1 .1 .1 .1 .1 .1 .1 .1 .1 .1 .1 .0, after-add-fixed-rows .add-fixed-rows .kept .1 .1 .1 .1 .1 .1 .1 .1 .1 .1 .1 .1 .1 .0, start .pre .3 .words-room)) (after-write-tables .write-tables .ensures)
+    all-made (start .args .sentinel) _ (start .args .c) _ _ _ _ _ (start .pre .0) _ _ _ _ (start .pre .1) _ (start .pre .2) _ _ _ _ _ _ v _ a
+    (after-f .f .given .1) _ (omega (
+      arith,
+      after-start-rows .start-rows .kept .0,
+      after-add-varying-rows .add-varying-rows .kept .1 .1 .1 .1 .1 .1 .1 .1 .1 .1 .1 .0,
+      after-add-fixed-rows .add-fixed-rows .kept .1 .1 .1 .1 .1 .1 .1 .1 .1 .1 .1 .1 .1 .0,
+      start .pre .3 .words-room,
+    )) (after-write-tables .write-tables .ensures)
 
 pub add-rows-spec : {M : Type 1} → statement M
 add-rows-spec =

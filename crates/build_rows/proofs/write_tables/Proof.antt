@@ -75,7 +75,8 @@ same-length : tie.Need-same-length
 same-length c =
     let after-write-counts = c .before .before in
     let after-write-edges = to-write-edges c in
-    tail-kept shapeMadeAt (words₂ after-write-edges) (after-write-counts .write-counts .last .0) (after-write-counts .write-counts .kept .0) ∙ long₂ after-write-edges ∙ long₁ (to-write-nodes after-write-edges)
+    tail-kept shapeMadeAt (words₂ after-write-edges) (after-write-counts .write-counts .last .0) (after-write-counts .write-counts .kept .0)
+    ∙ long₂ after-write-edges ∙ long₁ (to-write-nodes after-write-edges)
 
 returns : tie.Need-returns
 returns c =
@@ -83,7 +84,9 @@ returns c =
     let after-write-edges = to-write-edges c in
     let after-write-nodes = to-write-nodes after-write-edges in
     let t = to-start after-write-nodes .args in
-    tables-lent (t .sentinel) (t .s .now) (t .edge-to-col .now) (t .z) (t .varying) (t .words .now) (after-write-nodes .write-nodes .last .1 .1 .0) (after-write-edges .write-edges .last .1 .1 .1 .1 .0) (after-write-counts .write-counts .last .0) (after-write-nodes .write-nodes .ensures) (after-write-edges .write-edges .ensures) (after-write-counts .write-counts .ensures)
+    tables-lent (t .sentinel) (t .s .now) (t .edge-to-col .now) (t .z) (t .varying) (t .words .now) (after-write-nodes .write-nodes .last .1 .1 .0)
+    (after-write-edges .write-edges .last .1 .1 .1 .1 .0) (after-write-counts .write-counts .last .0) (after-write-nodes .write-nodes .ensures)
+    (after-write-edges .write-edges .ensures) (after-write-counts .write-counts .ensures)
 
 pub write-tables-spec : {M : Type 1} → statement M
 write-tables-spec =

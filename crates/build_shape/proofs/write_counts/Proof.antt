@@ -93,7 +93,19 @@ returns c =
     let after-narrow162 = after-narrow163 .before in
     let after-narrow16 = after-narrow162 .before in
     let after-sentinel-word = after-narrow16 .before in
-    rw (after-sentinel-word .sentinel-word .ensures, after-narrow16 .narrow16 .ensures, after-narrow162 .narrow162 .ensures, after-narrow163 .narrow163 .ensures, after-narrow164 .narrow164 .ensures, after-narrow165 .narrow165 .ensures, after-narrow166 .narrow166 .ensures, after-narrow167 .narrow167 .ensures, after-narrow168 .narrow168 .ensures, after-narrow169 .narrow169 .ensures, c .narrow1610 .ensures)
+    rw (
+      after-sentinel-word .sentinel-word .ensures,
+      after-narrow16 .narrow16 .ensures,
+      after-narrow162 .narrow162 .ensures,
+      after-narrow163 .narrow163 .ensures,
+      after-narrow164 .narrow164 .ensures,
+      after-narrow165 .narrow165 .ensures,
+      after-narrow166 .narrow166 .ensures,
+      after-narrow167 .narrow167 .ensures,
+      after-narrow168 .narrow168 .ensures,
+      after-narrow169 .narrow169 .ensures,
+      c .narrow1610 .ensures,
+    )
 
 pub write-counts-spec : {M : Type 1} → statement M
 write-counts-spec =

@@ -75,7 +75,9 @@ loop-again c =
     let at-loop = in-loop .before in
     let start = at-loop .before .before .before in
     let e = after-narrow16 .narrow16 .ensures in
-    edges-more _ _ _ _ _ _ _ _ _ _ (in-loop .loop-test .taken) (after-from-node-index .from-node-index .ensures ∙ ap (λ (k : ℕ). edgeAt (start .args .s .now) (20 * start .args .nodes + 6 * k) .from) e) (after-to-node-index .to-node-index .ensures ∙ ap (λ (k : ℕ). edgeAt (start .args .s .now) (20 * start .args .nodes + 6 * k) .to) e) refl (at-loop .loop .inv)
+    edges-more _ _ _ _ _ _ _ _ _ _ (in-loop .loop-test .taken)
+    (after-from-node-index .from-node-index .ensures ∙ ap (λ (k : ℕ). edgeAt (start .args .s .now) (20 * start .args .nodes + 6 * k) .from) e)
+    (after-to-node-index .to-node-index .ensures ∙ ap (λ (k : ℕ). edgeAt (start .args .s .now) (20 * start .args .nodes + 6 * k) .to) e) refl (at-loop .loop .inv)
 
 same-length : tie.Need-same-length Inv-loop μ-loop
 same-length c =

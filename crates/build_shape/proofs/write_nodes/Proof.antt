@@ -61,7 +61,9 @@ loop-again c =
     let at-loop = in-loop .before in
     let start = at-loop .before .before .before in
     let e = after-narrow16 .narrow16 .ensures in
-    nodes-more _ _ _ _ _ _ _ (in-loop .loop-test .taken) (after-byte-to-u16 .byte-to-u16 .ensures .0 ∙ after-kind .kind .ensures ∙ ap (λ (k : ℕ). nodeAt (start .args .s .now) (20 * k) .kind) e) (flag-yes _ (sym (after-is-constant .is-constant .ensures ∙ ap (λ (k : ℕ). nodeAt (start .args .s .now) (20 * k) .constant) e) ∙ c .if1 .taken)) (at-loop .loop .inv)
+    nodes-more _ _ _ _ _ _ _ (in-loop .loop-test .taken)
+    (after-byte-to-u16 .byte-to-u16 .ensures .0 ∙ after-kind .kind .ensures ∙ ap (λ (k : ℕ). nodeAt (start .args .s .now) (20 * k) .kind) e)
+    (flag-yes _ (sym (after-is-constant .is-constant .ensures ∙ ap (λ (k : ℕ). nodeAt (start .args .s .now) (20 * k) .constant) e) ∙ c .if1 .taken)) (at-loop .loop .inv)
 
 slice-write-shape-3 : tie.Need-slice-write-shape-3 Inv-loop μ-loop
 slice-write-shape-3 c =
@@ -80,7 +82,9 @@ loop-again-2 c =
     let at-loop = in-loop .before in
     let start = at-loop .before .before .before in
     let e = after-narrow16 .narrow16 .ensures in
-    nodes-more _ _ _ _ _ _ _ (in-loop .loop-test .taken) (after-byte-to-u16 .byte-to-u16 .ensures .0 ∙ after-kind .kind .ensures ∙ ap (λ (k : ℕ). nodeAt (start .args .s .now) (20 * k) .kind) e) (flag-no _ (sym (after-is-constant .is-constant .ensures ∙ ap (λ (k : ℕ). nodeAt (start .args .s .now) (20 * k) .constant) e) ∙ c .if1 .left)) (at-loop .loop .inv)
+    nodes-more _ _ _ _ _ _ _ (in-loop .loop-test .taken)
+    (after-byte-to-u16 .byte-to-u16 .ensures .0 ∙ after-kind .kind .ensures ∙ ap (λ (k : ℕ). nodeAt (start .args .s .now) (20 * k) .kind) e)
+    (flag-no _ (sym (after-is-constant .is-constant .ensures ∙ ap (λ (k : ℕ). nodeAt (start .args .s .now) (20 * k) .constant) e) ∙ c .if1 .left)) (at-loop .loop .inv)
 
 same-length : tie.Need-same-length Inv-loop μ-loop
 same-length c =

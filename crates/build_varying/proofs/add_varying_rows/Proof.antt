@@ -86,7 +86,12 @@ create-virtual-storage-constraints-requires c κs =
           after-create-aggregated-node-constraints .create-aggregated-node-constraints .kept .1 .1 .1 .1 .1 .1 .1 .1 .0,
           start .pre .3 .words-room,
         );
-        numbers-room = omega (arith, after-create-node-constraints .create-node-constraints .kept .1 .1 .1 .1 .1 .1 .1 .1 .1 .1 .1 .1 .0, after-create-aggregated-node-constraints .create-aggregated-node-constraints .kept .1 .1 .1 .1 .1 .1 .1 .1 .1 .0, start .pre .3 .numbers-room);
+        numbers-room = omega (
+          arith,
+          after-create-node-constraints .create-node-constraints .kept .1 .1 .1 .1 .1 .1 .1 .1 .1 .1 .1 .1 .0,
+          after-create-aggregated-node-constraints .create-aggregated-node-constraints .kept .1 .1 .1 .1 .1 .1 .1 .1 .1 .0,
+          start .pre .3 .numbers-room,
+        );
       },
       aggregates-holding (start .args .sentinel) (networkOf (start .args .s .now) (start .args .c)) _ _ _ _ _ g _ (after-a .a .given .1),
     )

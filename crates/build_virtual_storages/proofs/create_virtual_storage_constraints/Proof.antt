@@ -79,8 +79,12 @@ add-virtual-storage-row-requires c κs =
     let t = to-start (to-loop c) in
     let l = to-loop c .loop in
     let lt = c .before .before .before .if1 .taken in
-    let a = l .inv .0 (t .pre .2 .rows) (t .pre .2 .held) in
-    (t .pre .0, virtual-storage-check _ (t .args .c) (t .pre .0 .sections) _ _ lt (l .inv .1), record { words-room = omega (arith, l .inv .3, t .pre .1 .words-room); numbers-room = omega (arith, l .inv .4, t .pre .1 .numbers-room) }, record { rows = _; held = a .held })
+    let a = l .inv .0 (t .pre .2 .rows) (t .pre .2 .held) in (
+      t .pre .0,
+      virtual-storage-check _ (t .args .c) (t .pre .0 .sections) _ _ lt (l .inv .1),
+      record { words-room = omega (arith, l .inv .3, t .pre .1 .words-room); numbers-room = omega (arith, l .inv .4, t .pre .1 .numbers-room) },
+      record { rows = _; held = a .held },
+    )
 
 same-length : tie.Need-same-length Inv-loop μ-loop
 same-length c =
@@ -101,7 +105,8 @@ returns c =
     let lt = then1 .if1 .taken in
     λ rows held.
     let a = l .inv .0 rows held in
-    asked-full _ _ _ _ _ _ _ (omega arith) _ _ _ _ _ _ _ _ (asked-under _ (t .args .c) (t .pre .0 .sections) _ _ lt (l .inv .1)) (asked-row _ (t .args .c) (t .pre .0 .sections) _ _ lt (l .inv .1)) a (after-add-virtual-storage-row .add-virtual-storage-row .ensures _ (a .held)) _ (c .enum-told .given .1)
+    asked-full _ _ _ _ _ _ _ (omega arith) _ _ _ _ _ _ _ _ (asked-under _ (t .args .c) (t .pre .0 .sections) _ _ lt (l .inv .1))
+    (asked-row _ (t .args .c) (t .pre .0 .sections) _ _ lt (l .inv .1)) a (after-add-virtual-storage-row .add-virtual-storage-row .ensures _ (a .held)) _ (c .enum-told .given .1)
 
 active-period-requires : tie.Need-active-period-requires Inv-loop μ-loop
 active-period-requires c κs =
@@ -128,7 +133,8 @@ narrow16-requires c κs =
     let l = at-loop .loop in
     let lt = then1 .if1 .taken in
     let a = l .inv .0 (t .pre .2 .rows) (t .pre .2 .held) in
-    place-fits _ _ _ _ _ _ _ (omega arith) _ _ _ _ _ _ _ _ (asked-under _ (t .args .c) (t .pre .0 .sections) _ _ lt (l .inv .1)) (asked-row _ (t .args .c) (t .pre .0 .sections) _ _ lt (l .inv .1)) a (after-add-virtual-storage-row .add-virtual-storage-row .ensures _ (a .held)) _ _ (after-r .r .given .1)
+    place-fits _ _ _ _ _ _ _ (omega arith) _ _ _ _ _ _ _ _ (asked-under _ (t .args .c) (t .pre .0 .sections) _ _ lt (l .inv .1))
+    (asked-row _ (t .args .c) (t .pre .0 .sections) _ _ lt (l .inv .1)) a (after-add-virtual-storage-row .add-virtual-storage-row .ensures _ (a .held)) _ _ (after-r .r .given .1)
 
 put-virtual-storage-requires : tie.Need-put-virtual-storage-requires Inv-loop μ-loop
 put-virtual-storage-requires c κs =
@@ -136,7 +142,15 @@ put-virtual-storage-requires c κs =
     let l = to-loop (to-add-virtual-storage-row-arg3 (to-slice-known4 (c .before))) .loop in
     let lt = to-then1 (to-add-virtual-storage-row (to-slice-known4 (c .before))) .if1 .taken in
     let call = to-add-virtual-storage-row (to-slice-known4 (c .before)) .add-virtual-storage-row in
-    omega (arith, tail-length shapeMadeAt (call .last .1 .1 .1 .1 .1 .1 .1 .1 .1 .0), call .kept .1 .1 .1 .1 .1 .1 .1 .1 .1 .0, l .inv .3, t .pre .1 .words-room, t .pre .0 .sections .few-virtual-storages, lt)
+    omega (
+      arith,
+      tail-length shapeMadeAt (call .last .1 .1 .1 .1 .1 .1 .1 .1 .1 .0),
+      call .kept .1 .1 .1 .1 .1 .1 .1 .1 .1 .0,
+      l .inv .3,
+      t .pre .1 .words-room,
+      t .pre .0 .sections .few-virtual-storages,
+      lt,
+    )
 
 virtual-storage-end-requires : tie.Need-virtual-storage-end-requires Inv-loop μ-loop
 virtual-storage-end-requires c κs =
@@ -171,13 +185,16 @@ loop-again c =
     let call = after-add-virtual-storage-row .add-virtual-storage-row in (
       (λ rows held.
           let a = l .inv .0 rows held in
-          asked-more _ _ _ _ _ _ _ (omega arith) _ _ _ _ _ _ _ _ (asked-under _ (t .args .c) (t .pre .0 .sections) _ _ lt (l .inv .1)) (asked-row _ (t .args .c) (t .pre .0 .sections) _ _ lt (l .inv .1)) a (call .ensures _ (a .held)) _ _ (after-r .r .given .1) (virtualStoragesAt + 6 * l .i) _ _ (omega arith) (virtual-storage-wide _)
+          asked-more _ _ _ _ _ _ _ (omega arith) _ _ _ _ _ _ _ _ (asked-under _ (t .args .c) (t .pre .0 .sections) _ _ lt (l .inv .1))
+          (asked-row _ (t .args .c) (t .pre .0 .sections) _ _ lt (l .inv .1)) a (call .ensures _ (a .held)) _ _ (after-r .r .given .1)
+          (virtualStoragesAt + 6 * l .i) _ _ (omega arith) (virtual-storage-wide _)
           (omega (arith, call .kept .1 .1 .1 .1 .1 .1 .1 .1 .1 .0, l .inv .3, t .pre .1 .words-room, t .pre .0 .sections .few-virtual-storages, lt))
           (table-more _ (t .args .c) (t .pre .0 .sections) _ _ lt (l .inv .1) _)
           (entry-same _ _ _ _ _ _ _ (after-put-virtual-storage .put-virtual-storage .ensures) (after-narrow16 .narrow16 .ensures) (after-active-period .active-period .ensures))),
       virtual-storage-next _ (t .args .c) (t .pre .0 .sections) _ _ lt (l .inv .1) _ (c .virtual-storage-end .ensures),
       omega arith,
-      tail-kept shapeMadeAt (call .last .1 .1 .1 .1 .1 .1 .1 .1 .1 .0) (after-put-virtual-storage .put-virtual-storage .last .0) (after-put-virtual-storage .put-virtual-storage .kept .0) ∙ call .kept .1 .1 .1 .1 .1 .1 .1 .1 .1 .0 ∙ l .inv .3,
+      tail-kept shapeMadeAt (call .last .1 .1 .1 .1 .1 .1 .1 .1 .1 .0) (after-put-virtual-storage .put-virtual-storage .last .0)
+          (after-put-virtual-storage .put-virtual-storage .kept .0) ∙ call .kept .1 .1 .1 .1 .1 .1 .1 .1 .1 .0 ∙ l .inv .3,
       call .kept .1 .1 .1 .1 .1 .1 .1 .1 .1 .1 .0 ∙ l .inv .4,
     )
 

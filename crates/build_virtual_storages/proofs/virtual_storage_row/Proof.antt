@@ -74,8 +74,11 @@ loop-again c =
     let start = after-part-count .before .before .before in
     let t = start in
     let l = at-loop .loop in
-    let lt : l .k < byte (t .args .s .now) (t .args .at + 7) = omega (arith, after-part-count .part-count .ensures .0, in-loop .loop-test .taken) in
-    (parts-more _ (t .args .c) _ _ _ _ _ (l .inv .0) _ _ _ _ _ lt (after-part-node .part-node .ensures) (after-part-factor .part-factor .ensures) (after-add-node .add-node .ensures), after-add-node .add-node .kept .1 .1 .1 .1 .1 .1 .1 .1 .1 .1 .0 ∙ l .inv .1)
+    let lt : l .k < byte (t .args .s .now) (t .args .at + 7) = omega (arith, after-part-count .part-count .ensures .0, in-loop .loop-test .taken) in (
+      parts-more _ (t .args .c) _ _ _ _ _ (l .inv .0) _ _ _ _ _ lt (after-part-node .part-node .ensures) (after-part-factor .part-factor .ensures)
+          (after-add-node .add-node .ensures),
+      after-add-node .add-node .kept .1 .1 .1 .1 .1 .1 .1 .1 .1 .1 .0 ∙ l .inv .1,
+    )
 
 same-length : tie.Need-same-length Inv-loop μ-loop
 same-length c =

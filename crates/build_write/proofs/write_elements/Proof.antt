@@ -23,7 +23,8 @@ sub-row c =
     let c5 = c2 .before .before .before in
     let c8 = c5 .before .before .before in
     let p = c8 .before .pre in
-    row-fits (c8 .before .args .z) _ (p .1) _ _ _ (c5 .loop .r) _ _ (p .0) (p .2 .numbers-room) (p .3) (c2 .before .before .loop-test .taken) (c2 .wide16 .ensures .0) (c .wide162 .ensures .0) (c5 .loop .inv) .rises
+    row-fits (c8 .before .args .z) _ (p .1) _ _ _ (c5 .loop .r) _ _ (p .0) (p .2 .numbers-room) (p .3) (c2 .before .before .loop-test .taken)
+    (c2 .wide16 .ensures .0) (c .wide162 .ensures .0) (c5 .loop .inv) .rises
 
 part-row-end : tie.Need-part-row-end Inv-loop μ-loop
 part-row-end c =
@@ -31,7 +32,8 @@ part-row-end c =
     let c5 = c2 .before .before .before in
     let c8 = c5 .before .before .before in
     let p = c8 .before .pre in
-    row-fits (c8 .before .args .z) _ (p .1) _ _ _ (c5 .loop .r) _ _ (p .0) (p .2 .numbers-room) (p .3) (c2 .before .before .loop-test .taken) (c2 .wide16 .ensures .0) (c .wide162 .ensures .0) (c5 .loop .inv) .held
+    row-fits (c8 .before .args .z) _ (p .1) _ _ _ (c5 .loop .r) _ _ (p .0) (p .2 .numbers-room) (p .3) (c2 .before .before .loop-test .taken)
+    (c2 .wide16 .ensures .0) (c .wide162 .ensures .0) (c5 .loop .inv) .held
 
 sub-write-row : tie.Need-sub-write-row Inv-loop μ-loop
 sub-write-row c =
@@ -39,7 +41,8 @@ sub-write-row c =
     let c6 = c3 .before .before .before in
     let c9 = c6 .before .before .before in
     let p = c9 .before .pre in
-    let fits = row-fits (c9 .before .args .z) _ (p .1) _ _ _ (c6 .loop .r) _ _ (p .0) (p .2 .numbers-room) (p .3) (c3 .before .before .loop-test .taken) (c3 .wide16 .ensures .0) (c .before .wide162 .ensures .0) (c6 .loop .inv) in
+    let fits = row-fits (c9 .before .args .z) _ (p .1) _ _ _ (c6 .loop .r) _ _ (p .0) (p .2 .numbers-room) (p .3) (c3 .before .before .loop-test .taken)
+    (c3 .wide16 .ensures .0) (c .before .wide162 .ensures .0) (c6 .loop .inv) in
     omega (arith, fits .within)
 
 write-row-requires : tie.Need-write-row-requires Inv-loop μ-loop
@@ -49,7 +52,8 @@ write-row-requires c κs =
     let c7 = c4 .before .before .before in
     let c10 = c7 .before .before .before in
     let p = c10 .before .pre in
-    row-fits (c10 .before .args .z) _ (p .1) _ _ _ (c7 .loop .r) _ _ (p .0) (p .2 .numbers-room) (p .3) (c4 .before .before .loop-test .taken) (c4 .wide16 .ensures .0) (c2 .wide162 .ensures .0) (c7 .loop .inv) .room _ (omega arith)
+    row-fits (c10 .before .args .z) _ (p .1) _ _ _ (c7 .loop .r) _ _ (p .0) (p .2 .numbers-room) (p .3) (c4 .before .before .loop-test .taken)
+    (c4 .wide16 .ensures .0) (c2 .wide162 .ensures .0) (c7 .loop .inv) .room _ (omega arith)
 
 loop-again : tie.Need-loop-again Inv-loop μ-loop
 loop-again c =
@@ -59,7 +63,8 @@ loop-again c =
     let c10 = c7 .before .before .before in
     let c13 = c10 .before .before .before in
     let p = c13 .before .pre in
-    more (c13 .before .args .z) _ (p .1) _ _ _ _ (c10 .loop .r) _ _ (p .0) (p .2 .numbers-room) (p .3) (c7 .before .before .loop-test .taken) (c7 .wide16 .ensures .0) (c5 .wide162 .ensures .0) (c2 .write-row .ensures) (c2 .write-row .kept .0) (c10 .loop .inv)
+    more (c13 .before .args .z) _ (p .1) _ _ _ _ (c10 .loop .r) _ _ (p .0) (p .2 .numbers-room) (p .3) (c7 .before .before .loop-test .taken)
+    (c7 .wide16 .ensures .0) (c5 .wide162 .ensures .0) (c2 .write-row .ensures) (c2 .write-row .kept .0) (c10 .loop .inv)
 
 returns : tie.Need-returns Inv-loop μ-loop
 returns c =

@@ -61,8 +61,11 @@ copy-u16-requires-3 c κs =
     let after-shape2 = c .before .before .before in
     let after-copy-u162 = after-shape2 .before in
     let after-copy-u16 = to-copy-u16 after-copy-u162 in
-    let start = to-start after-copy-u16 in
-    (omega (arith, after-copy-u162 .copy-u162 .kept .0, after-copy-u16 .copy-u16 .kept .0, start .pre .0 .edges, start .pre .2), made-room (start .args .words .now) _ (start .pre .1) (omega (arith, start .pre .0 .edges)))
+    let start = to-start after-copy-u16 in (
+      omega (arith, after-copy-u162 .copy-u162 .kept .0, after-copy-u16 .copy-u16 .kept .0, start .pre .0 .edges, start .pre .2),
+      made-room
+          (start .args .words .now) _ (start .pre .1) (omega (arith, start .pre .0 .edges)),
+    )
 
 mul-copy-u16-3 : tie.Need-mul-copy-u16-3
 mul-copy-u16-3 c =
@@ -73,8 +76,11 @@ copy-u16-requires-4 c κs =
     let after-copy-u163 = to-copy-u163 c in
     let after-copy-u162 = to-copy-u162 after-copy-u163 in
     let after-copy-u16 = to-copy-u16 after-copy-u162 in
-    let start = to-start after-copy-u16 in
-    (node-rows-room _ _ _ _ _ (after-copy-u163 .copy-u163 .kept .0) (after-copy-u162 .copy-u162 .kept .0) (after-copy-u16 .copy-u16 .kept .0) (start .pre .0 .nodeRows) (start .pre .2), made-room (start .args .words .now) _ (start .pre .1) (omega (arith, start .pre .0 .nodeRows)))
+    let start = to-start after-copy-u16 in (
+      node-rows-room _ _ _ _ _ (after-copy-u163 .copy-u163 .kept .0) (after-copy-u162 .copy-u162 .kept .0) (after-copy-u16 .copy-u16 .kept .0)
+          (start .pre .0 .nodeRows) (start .pre .2),
+      made-room (start .args .words .now) _ (start .pre .1) (omega (arith, start .pre .0 .nodeRows)),
+    )
 
 copy-u16-requires-5 : tie.Need-copy-u16-requires-5
 copy-u16-requires-5 c κs =
@@ -82,8 +88,11 @@ copy-u16-requires-5 c κs =
     let after-copy-u163 = to-copy-u163 (after-copy-u164 .before) in
     let after-copy-u162 = to-copy-u162 after-copy-u163 in
     let after-copy-u16 = to-copy-u16 after-copy-u162 in
-    let start = to-start after-copy-u16 in
-    (aggregates-room _ _ _ _ _ _ (after-copy-u164 .copy-u164 .kept .0) (after-copy-u163 .copy-u163 .kept .0) (after-copy-u162 .copy-u162 .kept .0) (after-copy-u16 .copy-u16 .kept .0) (start .pre .0 .aggregates) (start .pre .2), made-room (start .args .words .now) _ (start .pre .1) (omega (arith, start .pre .0 .aggregates)))
+    let start = to-start after-copy-u16 in (
+      aggregates-room _ _ _ _ _ _ (after-copy-u164 .copy-u164 .kept .0) (after-copy-u163 .copy-u163 .kept .0) (after-copy-u162 .copy-u162 .kept .0)
+          (after-copy-u16 .copy-u16 .kept .0) (start .pre .0 .aggregates) (start .pre .2),
+      made-room (start .args .words .now) _ (start .pre .1) (omega (arith, start .pre .0 .aggregates)),
+    )
 
 mul-copy-u16-4 : tie.Need-mul-copy-u16-4
 mul-copy-u16-4 c =
@@ -97,8 +106,12 @@ copy-u16-requires-6 c κs =
     let after-copy-u163 = to-copy-u163 (after-copy-u164 .before) in
     let after-copy-u162 = to-copy-u162 after-copy-u163 in
     let after-copy-u16 = to-copy-u16 after-copy-u162 in
-    let start = to-start after-copy-u16 in
-    (virtual-storages-room _ _ _ _ _ _ _ (after-copy-u165 .copy-u165 .kept .0) (after-copy-u164 .copy-u164 .kept .0) (after-copy-u163 .copy-u163 .kept .0) (after-copy-u162 .copy-u162 .kept .0) (after-copy-u16 .copy-u16 .kept .0) (start .pre .0 .virtualStorages) (start .pre .2), made-room (start .args .words .now) _ (start .pre .1) (omega (arith, start .pre .0 .virtualStorages)))
+    let start = to-start after-copy-u16 in (
+      virtual-storages-room _ _ _ _ _ _ _ (after-copy-u165 .copy-u165 .kept .0) (after-copy-u164 .copy-u164 .kept .0) (after-copy-u163 .copy-u163 .kept .0)
+          (after-copy-u162 .copy-u162 .kept .0) (after-copy-u16 .copy-u16 .kept .0) (start .pre .0 .virtualStorages) (start .pre .2),
+      made-room
+          (start .args .words .now) _ (start .pre .1) (omega (arith, start .pre .0 .virtualStorages)),
+    )
 
 same-length : tie.Need-same-length
 same-length c =
@@ -108,7 +121,8 @@ same-length c =
     let after-copy-u163 = to-copy-u163 (after-copy-u164 .before) in
     let after-copy-u162 = to-copy-u162 after-copy-u163 in
     let after-copy-u16 = to-copy-u16 after-copy-u162 in
-    after-copy-u166 .copy-u166 .kept .0 ∙ after-copy-u165 .copy-u165 .kept .0 ∙ after-copy-u164 .copy-u164 .kept .0 ∙ after-copy-u163 .copy-u163 .kept .0 ∙ after-copy-u162 .copy-u162 .kept .0 ∙ after-copy-u16 .copy-u16 .kept .0
+    after-copy-u166 .copy-u166 .kept .0 ∙ after-copy-u165 .copy-u165 .kept .0 ∙ after-copy-u164 .copy-u164 .kept .0 ∙ after-copy-u163 .copy-u163 .kept .0
+    ∙ after-copy-u162 .copy-u162 .kept .0 ∙ after-copy-u16 .copy-u16 .kept .0
 
 returns : tie.Need-returns
 returns c =
@@ -119,7 +133,8 @@ returns c =
     let after-copy-u162 = to-copy-u162 after-copy-u163 in
     let after-copy-u16 = to-copy-u16 after-copy-u162 in
     let start = to-start after-copy-u16 in
-    written (start .args .z) _ _ _ _ _ _ _ _ (after-copy-u166 .copy-u166 .ensures) (after-copy-u165 .copy-u165 .ensures) (after-copy-u164 .copy-u164 .ensures) (after-copy-u163 .copy-u163 .ensures) (after-copy-u162 .copy-u162 .ensures) (after-copy-u16 .copy-u16 .ensures)
+    written (start .args .z) _ _ _ _ _ _ _ _ (after-copy-u166 .copy-u166 .ensures) (after-copy-u165 .copy-u165 .ensures) (after-copy-u164 .copy-u164 .ensures)
+    (after-copy-u163 .copy-u163 .ensures) (after-copy-u162 .copy-u162 .ensures) (after-copy-u16 .copy-u16 .ensures)
 
 pub write-shape-spec : {M : Type 1} → statement M
 write-shape-spec =

@@ -94,7 +94,8 @@ loop-again c =
     let after-shared-slice-known2 = after-wide16 .before .before .before in
     let start = after-shared-slice-known2 .before .before in
     let fit = start .pre .6 (ofShape (start .args .shape .now)) refl in
-    rw (after-wide164 .wide164 .ensures .0) (added-more _ _ _ _ _ _ (at-loop .loop .inv) (omega (arith, in-loop .loop-test .taken, after-wide16 .wide16 .ensures .0)) fit _ (c .before .edge-cost .ensures))
+    rw (after-wide164 .wide164 .ensures .0)
+    (added-more _ _ _ _ _ _ (at-loop .loop .inv) (omega (arith, in-loop .loop-test .taken, after-wide16 .wide16 .ensures .0)) fit _ (c .before .edge-cost .ensures))
 
 same-length : tie.Need-same-length Inv-loop μ-loop
 same-length c =

@@ -53,7 +53,8 @@ returns c =
     λ s rows w.
     let a = start .args in
     let t = over s (a .columns .now) (a .row-starts .now) (a .shape .now) in
-    node-continuous t (a .work .now) (a .at) rows _ _ _ w _ (after-held-interval .held-interval .ensures ∙ rw (after-wide16 .wide16 .ensures .0)) (then1 .if1 .taken) _ _ _ (after-wide162 .wide162 .ensures .0)
+    node-continuous t (a .work .now) (a .at) rows _ _ _ w _ (after-held-interval .held-interval .ensures ∙ rw (after-wide16 .wide16 .ensures .0))
+    (then1 .if1 .taken) _ _ _ (after-wide162 .wide162 .ensures .0)
     (start .pre .2 .row) (omega (arith, start .pre .1 .rows .rows, start .pre .0 .lower-long)) (omega (arith, start .pre .1 .rows .rows, start .pre .0 .upper-long))
     (after-apply-row-bounds .apply-row-bounds .ensures)
 

@@ -31,7 +31,16 @@ returns c =
     let after-wide16 = after-columns-under .before .before .before in
     let after-shared-slice-known2 = after-wide16 .before .before .before in
     let start = after-shared-slice-known2 .before .before in
-    λ s ec er es. rw (ec, er, es, after-columns-under .columns-under .ensures, after-falls .falls .ensures, c .start-falls .ensures, after-wide16 .wide16 .ensures .0, after-row-count .row-count .ensures) (sym (rising _ _ (start .pre .starts) (search needs)))
+    λ s ec er es. rw (
+      ec,
+      er,
+      es,
+      after-columns-under .columns-under .ensures,
+      after-falls .falls .ensures,
+      c .start-falls .ensures,
+      after-wide16 .wide16 .ensures .0,
+      after-row-count .row-count .ensures,
+    ) (sym (rising _ _ (start .pre .starts) (search needs)))
 
 pub columns-rise-spec : {M : Type 1} → statement M
 columns-rise-spec =

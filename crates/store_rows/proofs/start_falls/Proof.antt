@@ -31,8 +31,11 @@ loop-again c =
     let after-wide322 = c .before in
     let after-wide32 = after-wide322 .before .before in
     let in-loop = after-wide32 .before .before in
-    let at-loop = in-loop .before in
-    (search needs, summed-more (at-loop .loop .inv .1) _ (c .start-fall .ensures .0 ∙ rw (after-wide32 .wide32 .ensures .0, after-wide322 .wide322 .ensures .0)) (c .start-fall .ensures .1) (in-loop .loop-test .taken))
+    let at-loop = in-loop .before in (
+      search needs,
+      summed-more (at-loop .loop .inv .1) _ (c .start-fall .ensures .0 ∙ rw (after-wide32 .wide32 .ensures .0, after-wide322 .wide322 .ensures .0))
+          (c .start-fall .ensures .1) (in-loop .loop-test .taken),
+    )
 
 returns : tie.Need-returns Inv-loop μ-loop
 returns c =
