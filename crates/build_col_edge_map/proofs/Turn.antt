@@ -17,7 +17,7 @@ use Rattle.pywr.specs.ColEdgeMap.{Columns, columns, columnAt, putNew, addSimple
 use Rattle.pywr.proofs.ColumnLaws.{put-length, new-length}
 use Rattle.pywr.proofs.LinkLaws.{many, single-is}
 use Rattle.network_edge.specs.Edge.{edgeAt}
-use Rattle.network_laws.specs.NetworkAt.{nodesAt, edgesAt, networkAt}
+use Rattle.network_laws.specs.NetworkAt.{nodeRecords, edgeRecords, networkAt}
 use Rattle.network_laws.proofs.Index.{edge-count, edge-index}
 use Rattle.network_laws.proofs.RecordReaders.{kind-law}
 use Rattle.laws.specs.Linked.{Linked}
@@ -122,7 +122,7 @@ module _ (file : List ℕ) (nodes edges : ℕ) where
   abbrev pub sharedBy : ℕ → Option ℕ
   sharedBy e =
       let from : ℕ = le16 file (20 * nodes + 6 * e + 2) in
-      sharesAcross (byte file (20 * from + 2)) (edgesWith target from 0 (edgesAt file nodes edges)) (edgesWith source from 0 (edgesAt file nodes edges))
+      sharesAcross (byte file (20 * from + 2)) (edgesWith target from 0 (edgeRecords file nodes edges)) (edgesWith source from 0 (edgeRecords file nodes edges))
 
   module _ {first-in next-in first-out next-out : List ℕ} (ins : EdgesListed target file nodes edges first-in next-in) (outs : EdgesListed source file nodes edges first-out next-out) where
     pub shared-read : (e from before : ℕ) → from ≡ le16 file (20 * nodes + 6 * e + 2)
@@ -131,21 +131,21 @@ module _ (file : List ℕ) (nodes edges : ℕ) where
         → before ≡ code (sharedBy e)
     shared-read e from before q h =
         let n : ℕ = le16 file (20 * nodes + 6 * e + 2) in
-        (rw q at h) edges (edgesWith target n 0 (edgesAt file nodes edges)) (edgesWith source n 0 (edgesAt file nodes edges)) (ins .listed n) (outs .listed n)
+        (rw q at h) edges (edgesWith target n 0 (edgeRecords file nodes edges)) (edgesWith source n 0 (edgeRecords file nodes edges)) (ins .listed n) (outs .listed n)
 
   -- it is an edge
   pub shared-under : {first-in next-in : List ℕ} → EdgesListed target file nodes edges first-in next-in → (e before : ℕ) → before ≡ code (sharedBy e) → before ≢ 0 → before - 1 < edges
   shared-under {first-in} {next-in} ins e before q f =
       let n : ℕ = le16 file (20 * nodes + 6 * e + 2) in
-      in-under (byte file (20 * n + 2)) (edgesWith target n 0 (edgesAt file nodes edges)) (edgesWith source n 0 (edgesAt file nodes edges)) edges next-in (getD first-in n 0) before (ins .listed n) q f
+      in-under (byte file (20 * n + 2)) (edgesWith target n 0 (edgeRecords file nodes edges)) (edgesWith source n 0 (edgeRecords file nodes edges)) edges next-in (getD first-in n 0) before (ins .listed n) q f
 
   shared-is : (a v e : ℕ) → le16 file (20 * nodes + 6 * e + 2) < nodes → sharesWith (networkAt file nodes edges a v) (edgeAt file (20 * nodes + 6 * e)) ≡ sharedBy e
   unfolding sharesWith incoming outgoing networkAt
   shared-is a v e h =
       let from : ℕ = le16 file (20 * nodes + 6 * e + 2) in
-      ap (λ (kind : ℕ). sharesAcross kind (edgesWith target from 0 (edgesAt file nodes edges)) (edgesWith source from 0 (edgesAt file nodes edges))) (kind-law file nodes from h)
+      ap (λ (kind : ℕ). sharesAcross kind (edgesWith target from 0 (edgeRecords file nodes edges)) (edgesWith source from 0 (edgeRecords file nodes edges))) (kind-law file nodes from h)
 
-  edge-is : (e : ℕ) → e < edges → getD (edgesAt file nodes edges) e (edgeAt file 0) ≡ edgeAt file (20 * nodes + 6 * e)
+  edge-is : (e : ℕ) → e < edges → getD (edgeRecords file nodes edges) e (edgeAt file 0) ≡ edgeAt file (20 * nodes + 6 * e)
   unfolding networkAt
   edge-is e h = edge-index file nodes edges 0 0 e (edgeAt file 0) h
 
@@ -156,9 +156,9 @@ module _ (file : List ℕ) (nodes edges : ℕ) where
     pub few-columns : count ≤ e
     pub long : length (now-columns .of) ≡ edges
     pub mapped : Mapped now-columns table count
-    pub rest : (a v : ℕ) → columns (networkAt file nodes edges a v) ≡ placeEdges (networkAt file nodes edges a v) e (drop e (edgesAt file nodes edges)) now-columns
+    pub rest : (a v : ℕ) → columns (networkAt file nodes edges a v) ≡ placeEdges (networkAt file nodes edges a v) e (drop e (edgeRecords file nodes edges)) now-columns
 
-  edges-long : length (edgesAt file nodes edges) ≡ edges
+  edges-long : length (edgeRecords file nodes edges) ≡ edges
   unfolding networkAt
   edges-long = edge-count file nodes edges 0 0
 
@@ -166,11 +166,11 @@ module _ (file : List ℕ) (nodes edges : ℕ) where
   unfolding columns networkAt
   none-placed h =
       record {
-        now-columns = record { of = replicate (length (edgesAt file nodes edges)) none; count = 0 };
+        now-columns = record { of = replicate (length (edgeRecords file nodes edges)) none; count = 0 };
         few = omega arith;
         few-columns = omega arith;
-        long = length-replicate (length (edgesAt file nodes edges)) none ∙ edges-long;
-        mapped = record { table-is = zeros-taken (length (edgesAt file nodes edges)) 512 (omega (arith, edges-long)); count-is = refl };
+        long = length-replicate (length (edgeRecords file nodes edges)) none ∙ edges-long;
+        mapped = record { table-is = zeros-taken (length (edgeRecords file nodes edges)) 512 (omega (arith, edges-long)); count-is = refl };
         rest = λ a v. refl;
       }
 
@@ -185,7 +185,7 @@ module _ (file : List ℕ) (nodes edges : ℕ) where
           mapped = m;
           rest = λ a v.
               h .rest a v
-              ∙ place-next (networkAt file nodes edges a v) (edgesAt file nodes edges) e (h .now-columns) o _ (edgeAt file 0) (omega (arith, edges-long)) (edge-is e lt) (shared-is a v e from ∙ q);
+              ∙ place-next (networkAt file nodes edges a v) (edgeRecords file nodes edges) e (h .now-columns) o _ (edgeAt file 0) (omega (arith, edges-long)) (edge-is e lt) (shared-is a v e from ∙ q);
         }
 
     pub simple-placed : code (sharedBy e) ≡ 0 → Mapped (addSimpleEdge (columnAt (h .now-columns) e) e (h .now-columns)) table′ r → Placed (e + 1) r table′
@@ -201,5 +201,5 @@ module _ (file : List ℕ) (nodes edges : ℕ) where
   unfolding placeEdges
   all-placed e count table h le a v =
       let all : columns (networkAt file nodes edges a v) ≡ h .now-columns =
-      h .rest a v ∙ rw (drop-of-length-le (edgesAt file nodes edges) {i = e} (omega (arith, edges-long))) in
+      h .rest a v ∙ rw (drop-of-length-le (edgeRecords file nodes edges) {i = e} (omega (arith, edges-long))) in
       rw all (h .mapped)

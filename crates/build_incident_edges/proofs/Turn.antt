@@ -13,7 +13,7 @@ use lib.Dec.{eqb}
 use Rattle.pywr.specs.Bytes.{le16}
 use Rattle.pywr.specs.Network.{Edge, keepIf, edgesWith}
 use Rattle.network_edge.specs.Edge.{edgeAt}
-use Rattle.network_laws.specs.NetworkAt.{edgesAt, networkAt}
+use Rattle.network_laws.specs.NetworkAt.{edgeRecords, networkAt}
 use Rattle.network_laws.proofs.Index.{edge-count, edge-index}
 use Rattle.laws.specs.Linked.{Later, Linked}
 use Rattle.build_incident_edges.specs.IncidentEdges.{endAt}
@@ -65,13 +65,13 @@ pub record ListedFrom (file : List ℕ) (nodes edges end e : ℕ) (first next : 
   pub few : e ≤ edges
   pub first-length : length first ≡ 256
   pub next-length : length next ≡ 512
-  pub listed : (n : ℕ) → Linked edges next (getD first n 0) (edgesWith (endAt end) n e (drop e (edgesAt file nodes edges)))
+  pub listed : (n : ℕ) → Linked edges next (getD first n 0) (edgesWith (endAt end) n e (drop e (edgeRecords file nodes edges)))
 
 pub none-listed : (file : List ℕ) (nodes edges end : ℕ) → ListedFrom file nodes edges end edges (replicate 256 0) (replicate 512 0)
 unfolding edgesWith networkAt
 none-listed file nodes edges end =
-    let short : length (edgesAt file nodes edges) ≤ edges = omega (arith, edge-count file nodes edges 0 0) in
-    record { few = omega arith; first-length = refl; next-length = refl; listed = λ n. rw (drop-of-length-le (edgesAt file nodes edges) short) (zeros-at 256 n) }
+    let short : length (edgeRecords file nodes edges) ≤ edges = omega (arith, edge-count file nodes edges 0 0) in
+    record { few = omega arith; first-length = refl; next-length = refl; listed = λ n. rw (drop-of-length-le (edgeRecords file nodes edges) short) (zeros-at 256 n) }
 
 -- edge j goes in front of its node's list
 pub edge-listed : (file : List ℕ) (nodes edges end e j node plus-one : ℕ) (first next : List ℕ) → (end ≡ 2) ⊎ (end ≡ 4) → e ≡ suc j → plus-one ≡ j + 1
@@ -79,7 +79,7 @@ pub edge-listed : (file : List ℕ) (nodes edges end e j node plus-one : ℕ) (f
     → ListedFrom file nodes edges end j (set first node plus-one) (set next j (getD first node 0))
 unfolding networkAt
 edge-listed file nodes edges end e j node plus-one first next is q p at under most h =
-    let es : List Edge = edgesAt file nodes edges in
+    let es : List Edge = edgeRecords file nodes edges in
     let x : getD es j (edgeAt file 0) ≡ edgeAt file (20 * nodes + 6 * j) = edge-index file nodes edges 0 0 j (edgeAt file 0) (omega arith) in
     let p′ : plus-one ≡ suc j = omega arith in
     record {

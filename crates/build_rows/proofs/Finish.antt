@@ -19,7 +19,7 @@ use Rattle.pywr.specs.Programme.{Row, Built}
 use Rattle.pywr.specs.VaryingRows.{requestsFrom}
 use Rattle.pywr.specs.Build.{nodeShape, assemble, programmeOf, elementCount, build}
 use Rattle.pywr.specs.Written.{nodeWords, edgeWords, countWords, rowsOf}
-use Rattle.network_laws.specs.NetworkAt.{nodesAt, networkAt}
+use Rattle.network_laws.specs.NetworkAt.{nodeRecords, networkAt}
 use Rattle.network_laws.proofs.Index.{node-count, edge-count, aggregate-count, virtual-storage-count}
 use Rattle.network_record.specs.declared.Counts.{Counts}
 use Rattle.build_exclusive_sets.specs.Sets.{setsAt}
@@ -70,7 +70,7 @@ module _ (s : Sentinel) (file : List ℕ) (c : Counts) (firstIn nextIn firstOut 
   abbrev b : Built
   b = programmeOf s net
 
-  shape-nodes : flatMap nodeWords (map nodeShape (nodesAt file (c .nodes))) ≡ flatMap nodeWords (b .shape .nodes)
+  shape-nodes : flatMap nodeWords (map nodeShape (nodeRecords file (c .nodes))) ≡ flatMap nodeWords (b .shape .nodes)
   unfolding programmeOf assemble networkAt
   shape-nodes = refl
 
@@ -157,7 +157,7 @@ module _ (s : Sentinel) (file : List ℕ) (c : Counts) (firstIn nextIn firstOut 
       varying-most = omega (arith, v .held .rowCount, held .rowCount, length-append (b .programme .varying) (b .programme .fixed))
 
       pub all-made : (words₃ : List ℕ) → wordsLength ≤ length words₂
-          → words₃ ≡ sets (sets (sets words₂ nodesMadeAt (flatMap nodeWords (map nodeShape (nodesAt file (c .nodes))))) edgesMadeAt
+          → words₃ ≡ sets (sets (sets words₂ nodesMadeAt (flatMap nodeWords (map nodeShape (nodeRecords file (c .nodes))))) edgesMadeAt
           (flatMap edgeWords (edgeEntries file table (c .nodes) (c .edges)))) shapeMadeAt (counts s sizes (n .filled .rows))
           → AfterAssemble s file (Assembled.Done sizes) words₃ numbers₂
       all-made words₃ room e =
@@ -180,7 +180,7 @@ module _ (s : Sentinel) (file : List ℕ) (c : Counts) (firstIn nextIn firstOut 
                 (record { built = b; is = is; laid = subst (λ (w : List ℕ). Laid s b sizes w numbers₂) (sym e) laid });
           }
         where
-          nodes-are : flatMap nodeWords (map nodeShape (nodesAt file (c .nodes))) ≡ flatMap nodeWords (b .shape .nodes)
+          nodes-are : flatMap nodeWords (map nodeShape (nodeRecords file (c .nodes))) ≡ flatMap nodeWords (b .shape .nodes)
           nodes-are = shape-nodes
 
           edges-are : flatMap edgeWords (edgeEntries file table (c .nodes) (c .edges)) ≡ flatMap edgeWords (b .shape .mappedEdges)

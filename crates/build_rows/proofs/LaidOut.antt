@@ -14,7 +14,7 @@ use Rattle.pywr.specs.declared.Sentinel.{Sentinel}
 use Rattle.pywr.specs.Programme.{Row, Built}
 use Rattle.pywr.specs.Build.{nodeShape}
 use Rattle.pywr.specs.Written.{nodeWords, edgeWords, nodeRowWords, virtualStorageWords, countWords, rowsOf}
-use Rattle.network_laws.specs.NetworkAt.{nodesAt as nodeRecords}
+use Rattle.network_laws.specs.NetworkAt.{nodeRecords}
 use Rattle.build_shape.specs.ShapeTables.{edgeEntries, counts}
 use Rattle.build_write.specs.declared.Sizes.{Sizes}
 use Rattle.build_write.specs.Lp.{Few, columnsOf}

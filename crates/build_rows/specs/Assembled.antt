@@ -12,7 +12,7 @@ use Rattle.pywr.specs.Result.{value, refused}
 use Rattle.pywr.specs.Programme.{Built}
 use Rattle.pywr.specs.Build.{nodeShape, build}
 use Rattle.pywr.specs.Written.{nodeWords, edgeWords, nodeRowWords, virtualStorageWords, countWords, rowsOf}
-use Rattle.network_laws.specs.NetworkAt.{nodesAt}
+use Rattle.network_laws.specs.NetworkAt.{nodeRecords}
 use Rattle.build_shape.specs.ShapeTables.{edgeEntries, counts}
 use Rattle.build_write.specs.declared.Sizes.{Sizes}
 use Rattle.build_write.specs.Lp.{Few, columnsOf}
@@ -47,6 +47,6 @@ abbrev pub tablesWritten : Sentinel → List ℕ → List ℕ → Sizes → ℕ 
 tablesWritten s file table z varying words =
     sets
     (sets
-    (sets words nodesMadeAt (flatMap nodeWords (map nodeShape (nodesAt file (z .nodes)))))
+    (sets words nodesMadeAt (flatMap nodeWords (map nodeShape (nodeRecords file (z .nodes)))))
     edgesMadeAt (flatMap edgeWords (edgeEntries file table (z .nodes) (z .edges))))
     shapeMadeAt (counts s z varying)

@@ -19,7 +19,7 @@ use Rattle.pywr.specs.Written.{flagWord, nodeWords, edgeWords}
 use Rattle.fields.specs.Records.{recordsAt, recordsEnd}
 use Rattle.fields.proofs.RecordLaws.{records-more, records-length, end-fixed}
 use Rattle.network_node.specs.Node.{nodeAt}
-use Rattle.network_laws.specs.NetworkAt.{nodesAt as nodeRecords}
+use Rattle.network_laws.specs.NetworkAt.{nodeRecords}
 use Rattle.build_shape.specs.ShapeTables.{edgeEntry, edgesFrom, edgeEntries}
 
 -- ---- words put one behind the other

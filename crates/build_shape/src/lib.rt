@@ -10,7 +10,7 @@ ghost use Rattle.pywr.specs.Written.{sentinelWord, nodeWords, edgeWords};
 ghost use Rattle.network_node.specs.Node.{nodePlace};
 ghost use Rattle.network_edge.specs.Edge.{edgePlace};
 ghost use Rattle.build_write.specs.Lp.{Few};
-ghost use Rattle.network_laws.specs.NetworkAt.{nodesAt as nodeRecords};
+ghost use Rattle.network_laws.specs.NetworkAt.{nodeRecords};
 ghost use Rattle.build_shape.specs.ShapeTables.{edgeEntries, counts};
 use build_write::Sizes;
 use layout::AGGREGATE_COUNT_AT;

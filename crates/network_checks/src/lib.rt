@@ -13,7 +13,7 @@ ghost use Rattle.fields.specs.Records.{recordsAt, recordsEnd};
 ghost use Rattle.network_node.specs.Node.{nodeAt, nodeLength, nodePlace};
 ghost use Rattle.network_edge.specs.Edge.{edgePlace};
 ghost use Rattle.network_aggregate.specs.AggregatedNode.{setAt, aggregateAt, aggregateEnd};
-ghost use Rattle.network_laws.specs.NetworkAt.{nodesAt, edgesAt};
+ghost use Rattle.network_laws.specs.NetworkAt.{nodeRecords, edgeRecords};
 ghost use Rattle.network_laws.specs.Passed.{NodePassed, EdgePassed, SetPassed, AggregatePassed};
 ghost use Rattle.network_record.specs.Counts.{networkOf, SectionsOf};
 ghost use Rattle.network_checks.specs.Marks.{markAll, markSets, markExclusive, MarkedBy};
@@ -41,8 +41,8 @@ fn mark_ends(
     out: &mut [bool; NODE_CEILING],
 )
     requires { ⌜ (n ≤ nodeCeiling) × (e ≤ edgeCeiling) × ((j : ℕ) → j < e → EdgePassed (now s) n (edgePlace n j)) ⌝ }
-    ensures { λ _. ⌜ (now (into .exit) ≡ markAll (map target (edgesAt (now (s .entry)) n e)) (now (into .entry)))
-        × (now (out .exit) ≡ markAll (map source (edgesAt (now (s .entry)) n e)) (now (out .entry))) ⌝ }
+    ensures { λ _. ⌜ (now (into .exit) ≡ markAll (map target (edgeRecords (now (s .entry)) n e)) (now (into .entry)))
+        × (now (out .exit) ≡ markAll (map source (edgeRecords (now (s .entry)) n e)) (now (out .entry))) ⌝ }
 {
     let mut j: usize = 0;
     while j < e {
@@ -90,7 +90,7 @@ fn first_unconnected(
     requires { ⌜ (c .nodes ≤ nodeCeiling) × (nodePlace (c .nodes) ≤ length (now s))
         × MarkedBy (λ i. not (isEmpty (incoming (networkOf (now s) c) i))) (c .nodes) (now into)
         × MarkedBy (λ i. not (isEmpty (outgoing (networkOf (now s) c) i))) (c .nodes) (now out) ⌝ }
-    ensures { λ r. ⌜ foundBy r ≡ firstRefused (unconnectedLink (networkOf (now (s .entry)) c)) 0 (nodesAt (now (s .entry)) (c .nodes)) ⌝ }
+    ensures { λ r. ⌜ foundBy r ≡ firstRefused (unconnectedLink (networkOf (now (s .entry)) c)) 0 (nodeRecords (now (s .entry)) (c .nodes)) ⌝ }
 {
     let mut i: usize = 0;
     while i < c.nodes {
@@ -105,7 +105,7 @@ fn first_unconnected(
 // 8 by node.
 fn check_links(s: &[u8], c: Counts) -> Refusal
     requires { ⌜ SectionsOf (now s) c ⌝ }
-    ensures { λ r. ⌜ foundBy r ≡ firstRefused (unconnectedLink (networkOf (now (s .entry)) c)) 0 (nodesAt (now (s .entry)) (c .nodes)) ⌝ }
+    ensures { λ r. ⌜ foundBy r ≡ firstRefused (unconnectedLink (networkOf (now (s .entry)) c)) 0 (nodeRecords (now (s .entry)) (c .nodes)) ⌝ }
 {
     let mut into = [false; NODE_CEILING];
     let mut out = [false; NODE_CEILING];
@@ -198,7 +198,7 @@ fn is_unbounded(s: &[u8], i: NodeIndex, exclusive: &[bool; NODE_CEILING]) -> boo
 fn first_bad_constant(s: &[u8], c: Counts, exclusive: &[bool; NODE_CEILING]) -> Refusal
     requires { ⌜ (c .nodes ≤ nodeCeiling) × ((i : ℕ) → i < c .nodes → NodePassed (now s) (nodePlace i))
         × MarkedBy (isExclusive (networkOf (now s) c .aggregates)) (c .nodes) (now exclusive) ⌝ }
-    ensures { λ r. ⌜ foundBy r ≡ firstRefused (badConstant (networkOf (now (s .entry)) c)) 0 (nodesAt (now (s .entry)) (c .nodes)) ⌝ }
+    ensures { λ r. ⌜ foundBy r ≡ firstRefused (badConstant (networkOf (now (s .entry)) c)) 0 (nodeRecords (now (s .entry)) (c .nodes)) ⌝ }
 {
     let mut i: usize = 0;
     while i < c.nodes {
@@ -217,7 +217,7 @@ fn first_bad_constant(s: &[u8], c: Counts, exclusive: &[bool; NODE_CEILING]) -> 
 // By node 9, then 10.
 fn check_constants(s: &[u8], c: Counts) -> Refusal
     requires { ⌜ SectionsOf (now s) c ⌝ }
-    ensures { λ r. ⌜ foundBy r ≡ firstRefused (badConstant (networkOf (now (s .entry)) c)) 0 (nodesAt (now (s .entry)) (c .nodes)) ⌝ }
+    ensures { λ r. ⌜ foundBy r ≡ firstRefused (badConstant (networkOf (now (s .entry)) c)) 0 (nodeRecords (now (s .entry)) (c .nodes)) ⌝ }
 {
     let mut exclusive = [false; NODE_CEILING];
     mark_exclusive(

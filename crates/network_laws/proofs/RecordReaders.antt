@@ -20,7 +20,7 @@ use Rattle.network_node.specs.Node.{nodeAt, checkNode}
 use Rattle.network_edge.specs.Edge.{edgeAt, pairAmong, badEdgeAt, checkEdge}
 use Rattle.network_aggregate.specs.AggregatedNode.{setAt, setEnd, aggregateAt, checkMember, checkSet, checkAggregate}
 use Rattle.network_virtual_storage.specs.VirtualStorage.{partAt, periodAt, virtualStorageAt, checkPart, checkDates, checkVirtualStorage}
-use Rattle.network_laws.specs.NetworkAt.{nodesAt, networkAt}
+use Rattle.network_laws.specs.NetworkAt.{nodeRecords, networkAt}
 use Rattle.network_laws.proofs.Readers.{answer, byte-then, byte-through, node-then, active-then, bound-then, coefficient-then, read-then}
 use Rattle.network_laws.proofs.Passed.{member-end, set-end, part-end}
 
@@ -143,7 +143,7 @@ module _ (file : List ℕ) where
 
   -- ---- an edge: its ends are looked up where their records stand
 
-  pub kind-law : (n i : ℕ) → i < n → kindOf (nodesAt file n) i ≡ byte file (20 * i + 2)
+  pub kind-law : (n i : ℕ) → i < n → kindOf (nodeRecords file n) i ≡ byte file (20 * i + 2)
   unfolding kindOf
   kind-law n i h =
       let q : recordsEnd (λ at. at + 20) i 0 ≡ 20 * i = end-fixed 20 i 0 ∙ omega arith in

@@ -10,11 +10,11 @@ use Rattle.network_aggregate.specs.AggregatedNode.{aggregateAt, aggregateEnd}
 use Rattle.network_virtual_storage.specs.VirtualStorage.{virtualStorageAt, virtualStorageEnd}
 
 module _ (file : List ℕ) where
-  abbrev pub nodesAt : ℕ → List Node
-  nodesAt n = recordsAt (nodeAt file) (λ at. at + nodeLength) n 0
+  abbrev pub nodeRecords : ℕ → List Node
+  nodeRecords n = recordsAt (nodeAt file) (λ at. at + nodeLength) n 0
 
-  abbrev pub edgesAt : ℕ → ℕ → List Edge
-  edgesAt n e = recordsAt (edgeAt file) (λ at. at + edgeLength) e (nodePlace n)
+  abbrev pub edgeRecords : ℕ → ℕ → List Edge
+  edgeRecords n e = recordsAt (edgeAt file) (λ at. at + edgeLength) e (nodePlace n)
 
   -- where aggregate k starts
   abbrev pub aggregateStart : ℕ → ℕ → ℕ → ℕ
@@ -28,8 +28,8 @@ module _ (file : List ℕ) where
   unfoldable pub networkAt : ℕ → ℕ → ℕ → ℕ → Network
   networkAt n e a v =
       record {
-        nodes = nodesAt n;
-        edges = edgesAt n e;
+        nodes = nodeRecords n;
+        edges = edgeRecords n e;
         aggregates = recordsAt (aggregateAt file) (aggregateEnd file) a (edgePlace n e);
         virtualStorages = recordsAt (virtualStorageAt file) (virtualStorageEnd file) v (aggregateStart n e a);
       }

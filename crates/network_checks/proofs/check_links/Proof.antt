@@ -6,7 +6,7 @@ use mathlib.Core.Bool.{Bool, false}
 use Prim.Native.Nat.{ℕ, _<_}
 use lib.ListN.{getD}
 use Rattle.pywr.specs.Network.{source, target, incoming, outgoing}
-use Rattle.network_laws.specs.NetworkAt.{edgesAt, networkAt}
+use Rattle.network_laws.specs.NetworkAt.{edgeRecords, networkAt}
 use Rattle.network_laws.proofs.Accepted.{fixed-within, edge-accepted}
 use Rattle.network_checks.proofs.MarkLaws.{ends-marked}
 use borrow.Author.Needs.{needs}
@@ -33,8 +33,8 @@ first-unconnected-requires c κs =
     let below : (i : ℕ) → i < n → i < 256 = λ i lt. omega (arith, lt, start .pre .few-nodes) in (
       start .pre .few-nodes,
       omega (arith, fixed-within _ _ _ _ _ _ (start .pre)),
-      λ i lt. ap (λ (marks : List Bool). getD marks i false) (c .before .before .mark-ends .ensures .0) ∙ ends-marked target (edgesAt s n e) 256 i (below i lt),
-      λ i lt. ap (λ (marks : List Bool). getD marks i false) (c .before .before .mark-ends .ensures .1) ∙ ends-marked source (edgesAt s n e) 256 i (below i lt),
+      λ i lt. ap (λ (marks : List Bool). getD marks i false) (c .before .before .mark-ends .ensures .0) ∙ ends-marked target (edgeRecords s n e) 256 i (below i lt),
+      λ i lt. ap (λ (marks : List Bool). getD marks i false) (c .before .before .mark-ends .ensures .1) ∙ ends-marked source (edgeRecords s n e) 256 i (below i lt),
     )
 
 pub check-links-spec : {M : Type 1} → statement M

@@ -6,7 +6,7 @@ use Prim.Native.Nat.{_+_, _*_, _-_, _≤_}
 use Rattle.pywr.specs.NetworkFile.{firstRefused, badConstant}
 use Rattle.fields.specs.Records.{recordsAt}
 use Rattle.network_node.specs.Node.{nodeAt}
-use Rattle.network_laws.specs.NetworkAt.{nodesAt}
+use Rattle.network_laws.specs.NetworkAt.{nodeRecords}
 use Rattle.network_record.specs.Counts.{networkOf}
 use Rattle.network_checks.proofs.NodeLoops.{refused-here, refused-later, refused-none}
 use Rattle.network_checks.proofs.Constants.{crossed, unbounded, bounded}
@@ -17,7 +17,7 @@ use Rattle.network_checks.proofs.first_bad_constant.Tie as tie
 abbrev Inv-loop : tie.InvT-loop
 Inv-loop s c exclusive i₀ i =
     (i ≤ c .nodes)
-    × (firstRefused (badConstant (networkOf s c)) 0 (nodesAt s (c .nodes))
+    × (firstRefused (badConstant (networkOf s c)) 0 (nodeRecords s (c .nodes))
     ≡ firstRefused (badConstant (networkOf s c)) i (recordsAt (nodeAt s) (λ at. at + 20) (c .nodes - i) (20 * i)))
 
 abbrev μ-loop : tie.MeasureT-loop

@@ -8,7 +8,7 @@ use Rattle.pywr.specs.Network.{source, target}
 use Rattle.fields.specs.Records.{recordsAt}
 use Rattle.fields.proofs.RecordLaws.{records-over}
 use Rattle.network_edge.specs.Edge.{edgeAt}
-use Rattle.network_laws.specs.NetworkAt.{edgesAt}
+use Rattle.network_laws.specs.NetworkAt.{edgeRecords}
 use Rattle.network_checks.specs.Marks.{markAll}
 use Rattle.network_checks.proofs.MarkLoops.{end-read, mark-edge}
 use borrow.Author.Needs.{needs}
@@ -18,8 +18,8 @@ use Rattle.network_checks.proofs.mark_ends.Tie as tie
 abbrev Inv-loop : tie.InvT-loop
 Inv-loop s n e into₀ out₀ j₀ into out j =
     (j ≤ e)
-    × (markAll (map target (edgesAt s n e)) into₀ ≡ markAll (map target (recordsAt (edgeAt s) (λ at. at + 6) (e - j) (20 * n + 6 * j))) into)
-    × (markAll (map source (edgesAt s n e)) out₀ ≡ markAll (map source (recordsAt (edgeAt s) (λ at. at + 6) (e - j) (20 * n + 6 * j))) out)
+    × (markAll (map target (edgeRecords s n e)) into₀ ≡ markAll (map target (recordsAt (edgeAt s) (λ at. at + 6) (e - j) (20 * n + 6 * j))) into)
+    × (markAll (map source (edgeRecords s n e)) out₀ ≡ markAll (map source (recordsAt (edgeAt s) (λ at. at + 6) (e - j) (20 * n + 6 * j))) out)
 
 abbrev μ-loop : tie.MeasureT-loop
 μ-loop s n e into₀ out₀ j₀ into out j = e - j
