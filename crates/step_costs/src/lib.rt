@@ -1,5 +1,4 @@
 // The costs of a step: each edge's cost added into its column (update_edge_objectives of builder.rs, cost of edge.rs and node.rs).
-use fields::f64_at;
 use layout::EDGE_COLUMN_COUNT_AT;
 use layout::EDGE_COUNT_AT;
 use layout::EDGE_TO;
@@ -10,21 +9,18 @@ use layout::NODE_WIDTH;
 use layout::NODES_AT;
 use layout::SET_COUNT_AT;
 use pywr::NodeIndex;
-use step_record::DATE_LENGTH;
-use step_record::NODE_COST_OFFSET;
-use step_record::NODE_STEP_LENGTH;
+use step_fields::node_cost;
 use widths::wide16;
 ghost use mathlib.Core.Path.{_≡_};
 ghost use mathlib.Core.Bool.{true};
-ghost use Prim.Native.Nat.{ℕ, _+_, _≤_, _<_};
+ghost use Prim.Native.Nat.{ℕ, _≤_, _<_};
 ghost use lib.ListN.{length};
 ghost use lib.Seq.{sets};
 ghost use Rattle.layout.specs.Layout.{nodeCeiling, edgeCeiling, setCeiling, columnCeiling, shapeLength, edgesAt, edgeWidth, nodesIn, edgesIn, edgeColumnsIn, setsIn};
 ghost use Rattle.pywr.specs.Store.{Store, edgeCount, columnCount, shapeOf};
 ghost use Rattle.pywr.specs.Misshapen.{edgeFits, allEntries};
 ghost use Rattle.pywr.specs.Costs.{outgoingCost, incomingCost, edgeCost, stepCosts};
-ghost use Rattle.step_record.specs.Check.{nodeStepLength};
-ghost use Rattle.step_file.specs.Decoded.{f64At, decoded, nodeStepPlace, aggregateStepsAt};
+ghost use Rattle.step_file.specs.Decoded.{decoded, aggregateStepsAt};
 ghost use Rattle.step_costs.specs.NodeCosts.{kindIn, costIn};
 
 // The cost that a node gives to its edges out.
@@ -50,15 +46,6 @@ fn incoming_cost(kind: u16, cost: f64) -> f64
     cost
 }
 
-// The cost of node i in the step file.
-fn node_cost(file: &[u8], i: NodeIndex) -> f64
-    requires { ⌜ nodeStepPlace (i .0) + nodeStepLength ≤ length (now file) ⌝ }
-    ensures { λ r. ⌜ r ≡ costIn (now (file .entry)) (i .0) ⌝ }
-{
-    let k = wide16(i.0);
-    f64_at(file, DATE_LENGTH + NODE_STEP_LENGTH * k + NODE_COST_OFFSET)
-}
-
 // The cost of an edge: from's outgoing plus to's incoming.
 fn edge_cost(file: &[u8], shape: &[u16], from: NodeIndex, to: NodeIndex) -> f64
     requires { ⌜ (shapeLength ≤ length (now shape)) × (nodesIn (now shape) ≤ nodeCeiling) × (from .0 < nodesIn (now shape)) × (to .0 < nodesIn (now shape))
@@ -68,8 +55,8 @@ fn edge_cost(file: &[u8], shape: &[u16], from: NodeIndex, to: NodeIndex) -> f64
 {
     let f = wide16(from.0);
     let t = wide16(to.0);
-    let out = outgoing_cost(shape[NODES_AT + NODE_WIDTH * f], node_cost(file, from));
-    let into = incoming_cost(shape[NODES_AT + NODE_WIDTH * t], node_cost(file, to));
+    let out = outgoing_cost(shape[NODES_AT + NODE_WIDTH * f], node_cost(file, f));
+    let into = incoming_cost(shape[NODES_AT + NODE_WIDTH * t], node_cost(file, t));
     out + into
 }
 

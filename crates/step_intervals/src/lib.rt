@@ -1,7 +1,5 @@
 // The intervals of a step, written into the lent work run, and refusals 14 and 15.
-use fields::f64_at;
 use pywr::Answer;
-use step_record::DAYS_OFFSET;
 ghost use mathlib.Core.Path.{_≡_};
 ghost use Prim.Native.Nat.{_≤_};
 ghost use lib.ListN.{length};
@@ -17,7 +15,7 @@ pub fn find_intervals(file: &[u8], shape: &[u16], work: &mut [f64]) -> Answer
         × (fileLength (nodesIn (now shape)) (aggregatesIn (now shape)) (virtualStoragesIn (now shape)) ≤ length (now file)) ⌝ }
     ensures { λ r. ⌜ ((s : Store) → s .shape ≡ now (shape .entry) → Found s (now (file .entry)) r (now (work .exit))) ⌝ }
 {
-    let days = f64_at(file, DAYS_OFFSET);
+    let days = step_fields::days(file);
     let sentinel = store_shape::kept_sentinel(shape);
     let r = step_node_intervals::find_node_intervals(file, shape, days, sentinel, work);
     match r {

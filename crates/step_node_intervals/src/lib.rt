@@ -1,5 +1,4 @@
 // The nodes' intervals of a step, written into the lent work run, and refusal 14.
-use fields::f64_at;
 use layout::NODE_COUNT_AT;
 use layout::NODE_FLAG;
 use layout::NODE_WIDTH;
@@ -10,11 +9,6 @@ use pywr::Interval;
 use pywr::NodeBounds;
 use pywr::NodeIndex;
 use pywr::Sentinel;
-use step_record::DATE_LENGTH;
-use step_record::NODE_MAX_OFFSET;
-use step_record::NODE_MIN_OFFSET;
-use step_record::NODE_STEP_LENGTH;
-use step_record::NODE_VOLUME_OFFSET;
 use widths::wide16;
 ghost use mathlib.Core.Path.{_≡_};
 ghost use Prim.Native.Nat.{_+_, _*_, _≤_};
@@ -40,11 +34,10 @@ fn node_interval(
     if shape[NODES_AT + NODE_WIDTH * k + NODE_FLAG] == 1 {
         return step_bounds::sentinels(sentinel);
     }
-    let at = DATE_LENGTH + NODE_STEP_LENGTH * k;
-    let min = f64_at(file, at + NODE_MIN_OFFSET);
-    let max = f64_at(file, at + NODE_MAX_OFFSET);
+    let min = step_fields::node_min(file, k);
+    let max = step_fields::node_max(file, k);
     if shape[NODES_AT + NODE_WIDTH * k] == 3 {
-        let volume = f64_at(file, at + NODE_VOLUME_OFFSET);
+        let volume = step_fields::node_volume(file, k);
         return step_bounds::interval_of(days, step_bounds::storage_bounds(min, max, volume));
     }
     step_bounds::interval_of(days, NodeBounds::Flow(min, max))

@@ -1,13 +1,7 @@
 // The interval of a virtual storage on the date of a step (virtual_storage.rs).
-use fields::f64_at;
 use pywr::Interval;
 use pywr::NodeBounds;
 use pywr::Sentinel;
-use step_record::DAY_OFFSET;
-use step_record::MONTH_OFFSET;
-use step_record::VIRTUAL_MAX_OFFSET;
-use step_record::VIRTUAL_MIN_OFFSET;
-use step_record::VIRTUAL_VOLUME_OFFSET;
 ghost use mathlib.Core.Path.{_≡_};
 ghost use Prim.Native.Nat.{_+_, _≤_};
 ghost use lib.ListN.{length};
@@ -21,9 +15,9 @@ fn bounds_at(file: &[u8], at: usize) -> NodeBounds
     requires { ⌜ at + virtualStorageStepLength ≤ length (now file) ⌝ }
     ensures { λ r. ⌜ r ≡ virtualStorageStepAt (now (file .entry)) at ⌝ }
 {
-    let min = f64_at(file, at + VIRTUAL_MIN_OFFSET);
-    let max = f64_at(file, at + VIRTUAL_MAX_OFFSET);
-    let volume = f64_at(file, at + VIRTUAL_VOLUME_OFFSET);
+    let min = step_fields::virtual_min(file, at);
+    let max = step_fields::virtual_max(file, at);
+    let volume = step_fields::virtual_volume(file, at);
     step_bounds::virtual_bounds(min, max, volume)
 }
 
@@ -39,8 +33,8 @@ pub fn virtual_storage_interval(
     requires { ⌜ (daysOffset ≤ length (now file)) × (at + virtualStorageStepLength ≤ length (now file)) × (place + virtualStorageWidth ≤ length (now shape)) ⌝ }
     ensures { λ r. ⌜ r ≡ virtualIntervalAt sentinel days (now (shape .entry)) (now (file .entry)) place at ⌝ }
 {
-    let month = widths::byte_to_u16(file[MONTH_OFFSET]);
-    let day = widths::byte_to_u16(file[DAY_OFFSET]);
+    let month = step_fields::month(file);
+    let day = step_fields::day(file);
     if step_period::is_active_at(shape, place, month, day) {
         return step_bounds::interval_of(days, bounds_at(file, at));
     }

@@ -8,28 +8,14 @@ use layout::VIRTUAL_STORAGES_AT;
 use layout::VIRTUAL_STORAGES_HELD_AT;
 use pywr::Answer;
 use pywr::Sentinel;
-use step_record::AGGREGATE_STEP_LENGTH;
-use step_record::DATE_LENGTH;
-use step_record::NODE_STEP_LENGTH;
-use step_record::VIRTUAL_STORAGE_STEP_LENGTH;
 use widths::wide16;
 ghost use mathlib.Core.Path.{_≡_};
 ghost use Prim.Native.Nat.{_≤_};
 ghost use lib.ListN.{length};
 ghost use Rattle.layout.specs.Layout.{nodeCeiling, aggregateCeiling, virtualStorageCeiling, shapeLength, nodesIn, aggregatesIn, virtualStoragesIn, virtualStoragesHeldAt, stepWorkLength};
-ghost use Rattle.step_file.specs.Decoded.{virtualStorageStepsAt, fileLength};
+ghost use Rattle.step_file.specs.Decoded.{fileLength};
 ghost use Rattle.step_work.specs.Written.{Looked};
 ghost use Rattle.step_virtual_storage_intervals.specs.VirtualStorageIntervals.{virtualStorageNumbered};
-
-// Where the virtual storages' records start: behind the date, the nodes' and the aggregates'.
-fn virtual_storages_at(shape: &[u16]) -> usize
-    requires { ⌜ (shapeLength ≤ length (now shape)) × (nodesIn (now shape) ≤ nodeCeiling) × (aggregatesIn (now shape) ≤ aggregateCeiling) ⌝ }
-    ensures { λ r. ⌜ r ≡ virtualStorageStepsAt (nodesIn (now (shape .entry))) (aggregatesIn (now (shape .entry))) ⌝ }
-{
-    DATE_LENGTH
-        + NODE_STEP_LENGTH * wide16(shape[NODE_COUNT_AT])
-        + AGGREGATE_STEP_LENGTH * wide16(shape[AGGREGATE_COUNT_AT])
-}
 
 // The virtual storages' intervals, up to the first whose lower bound is over its upper: 15.
 pub fn find_virtual_storage_intervals(
@@ -45,7 +31,8 @@ pub fn find_virtual_storage_intervals(
     ensures { λ r. ⌜ Looked 15 (virtualStorageNumbered sentinel days (now (shape .entry)) (now (file .entry))) virtualStoragesHeldAt
         (virtualStoragesIn (now (shape .entry))) (now (work .entry)) r (now (work .exit)) ⌝ }
 {
-    let first = virtual_storages_at(shape);
+    let nodes = wide16(shape[NODE_COUNT_AT]);
+    let aggregates = wide16(shape[AGGREGATE_COUNT_AT]);
     let virtual_storages = wide16(shape[VIRTUAL_STORAGE_COUNT_AT]);
     let mut i: usize = 0;
     while i < virtual_storages {
@@ -53,7 +40,7 @@ pub fn find_virtual_storage_intervals(
             file,
             shape,
             VIRTUAL_STORAGES_AT + VIRTUAL_STORAGE_WIDTH * i,
-            first + VIRTUAL_STORAGE_STEP_LENGTH * i,
+            step_fields::virtual_storage_at(nodes, aggregates, i),
             days,
             sentinel,
         );

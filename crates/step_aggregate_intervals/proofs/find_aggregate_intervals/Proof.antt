@@ -11,10 +11,10 @@ use Rattle.step_aggregate_intervals.proofs.find_aggregate_intervals.Sta
 use Rattle.step_aggregate_intervals.proofs.find_aggregate_intervals.Tie as tie
 
 abbrev Inv-loop : tie.InvT-loop
-Inv-loop file shape work₀ first aggregates i₀ work i = Writing (aggregateNumbered shape file) 256 aggregates work₀ work i
+Inv-loop file shape work₀ nodes aggregates i₀ work i = Writing (aggregateNumbered shape file) 256 aggregates work₀ work i
 
 abbrev μ-loop : tie.MeasureT-loop
-μ-loop file shape work₀ first aggregates i₀ work i = aggregates - i
+μ-loop file shape work₀ nodes aggregates i₀ work i = aggregates - i
 
 loop-holds : tie.Need-loop-holds Inv-loop μ-loop
 loop-holds c =
@@ -23,7 +23,7 @@ loop-holds c =
 slice-write-work-2 : tie.Need-slice-write-work-2 Inv-loop μ-loop
 slice-write-work-2 c =
     let at-loop = c .before .before .before in
-    omega (arith, length-set (at-loop .loop .work) (256 + at-loop .loop .i) (c .before .f64-at .result), at-loop .loop .inv .long)
+    omega (arith, length-set (at-loop .loop .work) (256 + at-loop .loop .i) (c .before .aggregate-lower .result), at-loop .loop .inv .long)
 
 loop-again : tie.Need-loop-again Inv-loop μ-loop
 unfolding aggregateNumbered aggregateStepAt
@@ -31,8 +31,8 @@ loop-again c =
     let in-loop = c .before .before in
     let at-loop = in-loop .before in
     let after-wide = at-loop .before .before .before in
-    writing-more _ (record { lower = c .before .f64-at .result; upper = c .f64-at2 .result }) refl (search needs) (search needs) (in-loop .loop-test .taken)
-    (rw (c .before .f64-at .ensures, c .f64-at2 .ensures, after-wide .wide16 .ensures .0)) (at-loop .loop .inv)
+    writing-more _ (record { lower = c .before .aggregate-lower .result; upper = c .aggregate-upper .result }) refl (search needs) (search needs) (in-loop .loop-test .taken)
+    (rw (c .before .aggregate-lower .ensures, c .aggregate-upper .ensures, after-wide .wide16 .ensures .0)) (at-loop .loop .inv)
 
 same-length : tie.Need-same-length Inv-loop μ-loop
 same-length c =

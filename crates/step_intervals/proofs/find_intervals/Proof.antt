@@ -5,7 +5,7 @@ use Rattle.step_intervals.proofs.find_intervals.Statement.{statement}
 use Rattle.step_intervals.proofs.find_intervals.Tie as tie
 
 -- from a place to an earlier one
-abbrev to-start : tie.After-f64-at → tie.Start
+abbrev to-start : tie.After-days → tie.Start
 to-start c =
     let after-shared-slice-known = c .before .before .before in
     after-shared-slice-known .before
@@ -29,9 +29,9 @@ returns : tie.Need-returns
 returns c =
     let after-find-node-intervals = to-find-node-intervals-from-known-told c in
     let after-kept-sentinel = after-find-node-intervals .before .before in
-    let after-f64-at = after-kept-sentinel .before in
-    let start = to-start after-f64-at in
-    λ s e. nodes-refuse s (start .args .shape .now) (start .args .file .now) e (after-f64-at .f64-at .result) (after-f64-at .f64-at .ensures) (after-kept-sentinel .kept-sentinel .result)
+    let after-days = after-kept-sentinel .before in
+    let start = to-start after-days in
+    λ s e. nodes-refuse s (start .args .shape .now) (start .args .file .now) e (after-days .days .result) (after-days .days .ensures) (after-kept-sentinel .kept-sentinel .result)
     (after-kept-sentinel .kept-sentinel .ensures) _ _ _ (after-find-node-intervals .find-node-intervals .ensures) _ _ (c .before .r .given .1)
 
 returns-2 : tie.Need-returns-2
@@ -41,9 +41,9 @@ returns-2 c =
     let after-enum-told = after-find-aggregate-intervals .before .before in
     let after-find-node-intervals = to-find-node-intervals-from-enum-told after-enum-told in
     let after-kept-sentinel = after-find-node-intervals .before .before in
-    let after-f64-at = after-kept-sentinel .before in
-    let start = to-start after-f64-at in
-    λ s e. all-found s (start .args .shape .now) (start .args .file .now) e (after-f64-at .f64-at .result) (after-f64-at .f64-at .ensures) (after-kept-sentinel .kept-sentinel .result)
+    let after-days = after-kept-sentinel .before in
+    let start = to-start after-days in
+    λ s e. all-found s (start .args .shape .now) (start .args .file .now) e (after-days .days .result) (after-days .days .ensures) (after-kept-sentinel .kept-sentinel .result)
     (after-kept-sentinel .kept-sentinel .ensures) _ _ _ (after-find-node-intervals .find-node-intervals .ensures) (start .pre .2) (start .pre .3)
     (after-enum-told .enum-told .given .1) _ _ _ (after-find-aggregate-intervals .find-aggregate-intervals .ensures)
     (after-find-virtual-storage-intervals .find-virtual-storage-intervals .ensures)

@@ -16,36 +16,36 @@ returns c =
 returns-2 : tie.Need-returns-2
 unfolding nodeNumbered nodeStepAt boundsRead nodeInterval
 returns-2 c =
-    let after-f64-at3 = c .before .before in
-    let then2 = after-f64-at3 .before in
-    let after-f64-at2 = then2 .before .before in
-    let after-f64-at = after-f64-at2 .before in
-    let else1 = after-f64-at .before in
+    let after-node-volume = c .before .before in
+    let then2 = after-node-volume .before in
+    let after-node-max = then2 .before .before in
+    let after-node-min = after-node-max .before in
+    let else1 = after-node-min .before in
     let after-wide = else1 .before .before in
     rw (
       ← (after-wide .wide16 .ensures .0),
       ne-eqb _ _ (else1 .if1 .left),
       eq-eqb _ _ (then2 .if2 .taken),
-      ← (after-f64-at .f64-at .ensures),
-      ← (after-f64-at2 .f64-at2 .ensures),
-      ← (after-f64-at3 .f64-at3 .ensures),
+      ← (after-node-min .node-min .ensures),
+      ← (after-node-max .node-max .ensures),
+      ← (after-node-volume .node-volume .ensures),
       ← (c .before .storage-bounds .ensures),
     ) (c .interval-of .ensures)
 
 returns-3 : tie.Need-returns-3
 unfolding nodeNumbered nodeStepAt boundsRead nodeInterval
 returns-3 c =
-    let after-f64-at2 = c .before .before .before in
-    let after-f64-at = after-f64-at2 .before in
-    let else1 = after-f64-at .before in
+    let after-node-max = c .before .before .before in
+    let after-node-min = after-node-max .before in
+    let else1 = after-node-min .before in
     let after-wide = else1 .before .before in
     rw (
       ← (after-wide .wide16 .ensures .0),
       ne-eqb _ _ (else1 .if1 .left),
       ne-eqb _ _ (c .before .if2 .left),
-      ← (after-f64-at .f64-at .ensures),
+      ← (after-node-min .node-min .ensures),
       ←
-          (after-f64-at2 .f64-at2 .ensures),
+          (after-node-max .node-max .ensures),
     ) (c .interval-of2 .ensures)
 
 pub node-interval-spec : {M : Type 1} → statement M

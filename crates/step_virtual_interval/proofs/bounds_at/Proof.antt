@@ -7,7 +7,7 @@ use Rattle.step_virtual_interval.proofs.bounds_at.Tie as tie
 returns : tie.Need-returns
 unfolding virtualStorageStepAt
 returns c =
-    rw (← (c .before .before .before .f64-at .ensures), ← (c .before .before .f64-at2 .ensures), ← (c .before .f64-at3 .ensures)) (c .virtual-bounds .ensures)
+    rw (← (c .before .before .before .virtual-min .ensures), ← (c .before .before .virtual-max .ensures), ← (c .before .virtual-volume .ensures)) (c .virtual-bounds .ensures)
 
 pub bounds-at-spec : {M : Type 1} → statement M
 bounds-at-spec =
