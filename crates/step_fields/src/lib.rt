@@ -73,7 +73,10 @@ pub fn node_volume(file: &[u8], k: usize) -> f64
     requires { ⌜ nodeStepPlace k + nodeStepLength ≤ length (now file) ⌝ }
     ensures { λ r. ⌜ r ≡ f64At (now (file .entry)) (nodeStepPlace k + nodeVolumeOffset) ⌝ }
 {
-    f64_at(file, DATE_LENGTH + NODE_STEP_LENGTH * k + NODE_VOLUME_OFFSET)
+    f64_at(
+        file,
+        DATE_LENGTH + NODE_STEP_LENGTH * k + NODE_VOLUME_OFFSET,
+    )
 }
 
 // The record of aggregate k, behind those of all nodes.

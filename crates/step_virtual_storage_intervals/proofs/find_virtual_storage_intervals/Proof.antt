@@ -11,16 +11,22 @@ use Rattle.step_virtual_storage_intervals.proofs.find_virtual_storage_i
 use Rattle.step_virtual_storage_intervals.proofs.find_virtual_storage_intervals.Tie as tie
 
 abbrev Inv-loop : tie.InvT-loop
-Inv-loop file shape days sentinel work₀ first virtualStorages i₀ work i = Passed (virtualStorageNumbered sentinel days shape file) virtualStoragesHeldAt virtualStorages work₀ work i
+Inv-loop file shape days sentinel work₀ nodes aggregates virtualStorages i₀ work i = Passed (virtualStorageNumbered sentinel days shape file) virtualStoragesHeldAt virtualStorages work₀ work i
 
 abbrev μ-loop : tie.MeasureT-loop
-μ-loop file shape days sentinel work₀ first virtualStorages i₀ work i = virtualStorages - i
+μ-loop file shape days sentinel work₀ nodes aggregates virtualStorages i₀ work i = virtualStorages - i
 
 -- from a place to an earlier one
+abbrev to-start : tie.After-wide163 Inv-loop μ-loop → tie.Start Inv-loop μ-loop
+to-start c =
+    let after-shared-slice-known4 = c .before .before .before in
+    let after-slice-known = after-shared-slice-known4 .before .before .before in
+    after-slice-known .before .before .before
+
 abbrev to-loop : tie.Then1 Inv-loop μ-loop → tie.At-loop Inv-loop μ-loop
 to-loop c =
-    let in-loop = c .before .before .before in
-    in-loop .before
+    let after-virtual-storage-at = c .before .before .before in
+    after-virtual-storage-at .before .before
 
 loop-holds : tie.Need-loop-holds Inv-loop μ-loop
 loop-holds c =
@@ -34,35 +40,50 @@ returns : tie.Need-returns Inv-loop μ-loop
 unfolding virtualStorageNumbered
 returns c =
     let after-virtual-storage-interval = c .before .before in
-    let in-loop = after-virtual-storage-interval .before in
+    let after-virtual-storage-at = after-virtual-storage-interval .before in
+    let in-loop = after-virtual-storage-at .before in
     let at-loop = in-loop .before in
-    let after-wide16 = at-loop .before in
-    let after-stores-at = after-wide16 .before .before in
-    rw (← (after-wide16 .wide16 .ensures .0))
+    let after-wide163 = at-loop .before in
+    let after-wide162 = after-wide163 .before .before in
+    let after-wide16 = after-wide162 .before .before in
+    rw (← (after-wide163 .wide163 .ensures .0))
     (passed-stops _ _ (in-loop .loop-test .taken)
-    (after-virtual-storage-interval .virtual-storage-interval .ensures ∙ rw (after-stores-at .virtual-storages-at .ensures)) (c .before .is-crossed .ensures) (at-loop .loop .inv) 15 (c .if1 .taken))
+    (after-virtual-storage-interval .virtual-storage-interval .ensures
+    ∙ rw (after-virtual-storage-at .virtual-storage-at .ensures, after-wide16 .wide16 .ensures .0, after-wide162 .wide162 .ensures .0)) (c .before .is-crossed .ensures) (at-loop .loop .inv) 15 (c .if1 .taken))
 
 slice-write-work-2 : tie.Need-slice-write-work-2 Inv-loop μ-loop
 slice-write-work-2 c =
     let after-virtual-storage-interval = c .before .before in
-    let at-loop = after-virtual-storage-interval .before .before in
+    let in-loop = after-virtual-storage-interval .before .before in
+    let at-loop = in-loop .before in
+    let after-wide163 = at-loop .before in
+    let start = to-start after-wide163 in
     omega (
       arith,
       length-set (at-loop .loop .work) (virtualStoragesHeldAt + at-loop .loop .i)
           (after-virtual-storage-interval .virtual-storage-interval .result .lower),
       at-loop .loop .inv .writing .long,
+      in-loop .loop-test .taken,
+      after-wide163 .wide163 .ensures .0,
+      start .pre .1,
+      start .pre .4,
     )
 
 loop-again : tie.Need-loop-again Inv-loop μ-loop
 unfolding virtualStorageNumbered
 loop-again c =
     let after-virtual-storage-interval = c .before .before in
-    let in-loop = after-virtual-storage-interval .before in
+    let after-virtual-storage-at = after-virtual-storage-interval .before in
+    let in-loop = after-virtual-storage-at .before in
     let at-loop = in-loop .before in
-    let after-stores-at = at-loop .before .before .before in
+    let after-wide163 = at-loop .before in
+    let after-wide162 = after-wide163 .before .before in
+    let after-wide16 = after-wide162 .before .before in
+    let start = to-start after-wide163 in
     passed-more _ _ (in-loop .loop-test .taken)
-    (after-virtual-storage-interval .virtual-storage-interval .ensures ∙ rw (after-stores-at .virtual-storages-at .ensures)) (c .before .is-crossed .ensures) (at-loop .loop .inv) _ refl (search needs)
-    (search needs) (c .if1 .left)
+    (after-virtual-storage-interval .virtual-storage-interval .ensures
+    ∙ rw (after-virtual-storage-at .virtual-storage-at .ensures, after-wide16 .wide16 .ensures .0, after-wide162 .wide162 .ensures .0)) (c .before .is-crossed .ensures) (at-loop .loop .inv) _ refl
+    (omega (arith, after-wide163 .wide163 .ensures .0, start .pre .4)) (start .pre .1) (c .if1 .left)
 
 same-length-2 : tie.Need-same-length-2 Inv-loop μ-loop
 same-length-2 c =
@@ -70,7 +91,7 @@ same-length-2 c =
 
 returns-2 : tie.Need-returns-2 Inv-loop μ-loop
 returns-2 c =
-    rw (← (c .before .before .wide16 .ensures .0)) (passed-all 15 (c .loop-test .left) (c .before .loop .inv))
+    rw (← (c .before .before .wide163 .ensures .0)) (passed-all 15 (c .loop-test .left) (c .before .loop .inv))
 
 pub find-virtual-storage-intervals-spec : {M : Type 1} → statement M
 find-virtual-storage-intervals-spec =
@@ -78,14 +99,16 @@ find-virtual-storage-intervals-spec =
     (tie.spec
     Inv-loop
     μ-loop
+    (λ c. search needs)
+    (λ c κs. search needs)
+    (λ c. search needs)
     (λ c κs. search needs)
     (λ c. search needs)
     (λ c κs. search needs)
     loop-holds
     (λ c. search needs)
     (λ c. search needs)
-    (λ c. search needs)
-    (λ c. search needs)
+    (λ c κs. search needs)
     (λ c κs. search needs)
     (λ c κs. search needs)
     same-length
