@@ -1,4 +1,4 @@
-// The fields of a step file, each read where it stands: no other crate of the step counts its bytes.
+// The fields of a step file, each read at its place; the offsets are those of step_record.
 use fields::f64_at;
 use step_record::AGGREGATE_LOWER_OFFSET;
 use step_record::AGGREGATE_STEP_LENGTH;
