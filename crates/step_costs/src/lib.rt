@@ -55,8 +55,8 @@ fn edge_cost(file: &[u8], shape: &[u16], from: NodeIndex, to: NodeIndex) -> f64
 {
     let f = wide16(from.0);
     let t = wide16(to.0);
-    let out = outgoing_cost(shape[NODES_AT + NODE_WIDTH * f], node_cost(file, f));
-    let into = incoming_cost(shape[NODES_AT + NODE_WIDTH * t], node_cost(file, t));
+    let out = outgoing_cost(shape[NODES_AT + NODE_WIDTH * f], node_cost(file, from));
+    let into = incoming_cost(shape[NODES_AT + NODE_WIDTH * t], node_cost(file, to));
     out + into
 }
 

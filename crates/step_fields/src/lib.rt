@@ -1,5 +1,6 @@
 // The fields of a step file, each read at its place; the offsets are those of step_record.
 use fields::f64_at;
+use pywr::NodeIndex;
 use step_record::AGGREGATE_LOWER_OFFSET;
 use step_record::AGGREGATE_STEP_LENGTH;
 use step_record::AGGREGATE_UPPER_OFFSET;
@@ -47,32 +48,36 @@ pub fn days(file: &[u8]) -> f64
     f64_at(file, DAYS_OFFSET)
 }
 
-// The record of node k.
-pub fn node_cost(file: &[u8], k: usize) -> f64
-    requires { ⌜ nodeStepPlace k + nodeStepLength ≤ length (now file) ⌝ }
-    ensures { λ r. ⌜ r ≡ f64At (now (file .entry)) (nodeStepPlace k + nodeCostOffset) ⌝ }
+// The record of a node.
+pub fn node_cost(file: &[u8], node: NodeIndex) -> f64
+    requires { ⌜ nodeStepPlace (node .0) + nodeStepLength ≤ length (now file) ⌝ }
+    ensures { λ r. ⌜ r ≡ f64At (now (file .entry)) (nodeStepPlace (node .0) + nodeCostOffset) ⌝ }
 {
+    let k = widths::wide16(node.0);
     f64_at(file, DATE_LENGTH + NODE_STEP_LENGTH * k + NODE_COST_OFFSET)
 }
 
-pub fn node_min(file: &[u8], k: usize) -> f64
-    requires { ⌜ nodeStepPlace k + nodeStepLength ≤ length (now file) ⌝ }
-    ensures { λ r. ⌜ r ≡ f64At (now (file .entry)) (nodeStepPlace k + nodeMinOffset) ⌝ }
+pub fn node_min(file: &[u8], node: NodeIndex) -> f64
+    requires { ⌜ nodeStepPlace (node .0) + nodeStepLength ≤ length (now file) ⌝ }
+    ensures { λ r. ⌜ r ≡ f64At (now (file .entry)) (nodeStepPlace (node .0) + nodeMinOffset) ⌝ }
 {
+    let k = widths::wide16(node.0);
     f64_at(file, DATE_LENGTH + NODE_STEP_LENGTH * k + NODE_MIN_OFFSET)
 }
 
-pub fn node_max(file: &[u8], k: usize) -> f64
-    requires { ⌜ nodeStepPlace k + nodeStepLength ≤ length (now file) ⌝ }
-    ensures { λ r. ⌜ r ≡ f64At (now (file .entry)) (nodeStepPlace k + nodeMaxOffset) ⌝ }
+pub fn node_max(file: &[u8], node: NodeIndex) -> f64
+    requires { ⌜ nodeStepPlace (node .0) + nodeStepLength ≤ length (now file) ⌝ }
+    ensures { λ r. ⌜ r ≡ f64At (now (file .entry)) (nodeStepPlace (node .0) + nodeMaxOffset) ⌝ }
 {
+    let k = widths::wide16(node.0);
     f64_at(file, DATE_LENGTH + NODE_STEP_LENGTH * k + NODE_MAX_OFFSET)
 }
 
-pub fn node_volume(file: &[u8], k: usize) -> f64
-    requires { ⌜ nodeStepPlace k + nodeStepLength ≤ length (now file) ⌝ }
-    ensures { λ r. ⌜ r ≡ f64At (now (file .entry)) (nodeStepPlace k + nodeVolumeOffset) ⌝ }
+pub fn node_volume(file: &[u8], node: NodeIndex) -> f64
+    requires { ⌜ nodeStepPlace (node .0) + nodeStepLength ≤ length (now file) ⌝ }
+    ensures { λ r. ⌜ r ≡ f64At (now (file .entry)) (nodeStepPlace (node .0) + nodeVolumeOffset) ⌝ }
 {
+    let k = widths::wide16(node.0);
     f64_at(
         file,
         DATE_LENGTH + NODE_STEP_LENGTH * k + NODE_VOLUME_OFFSET,

@@ -34,10 +34,10 @@ fn node_interval(
     if shape[NODES_AT + NODE_WIDTH * k + NODE_FLAG] == 1 {
         return step_bounds::sentinels(sentinel);
     }
-    let min = step_fields::node_min(file, k);
-    let max = step_fields::node_max(file, k);
+    let min = step_fields::node_min(file, node);
+    let max = step_fields::node_max(file, node);
     if shape[NODES_AT + NODE_WIDTH * k] == 3 {
-        let volume = step_fields::node_volume(file, k);
+        let volume = step_fields::node_volume(file, node);
         return step_bounds::interval_of(days, step_bounds::storage_bounds(min, max, volume));
     }
     step_bounds::interval_of(days, NodeBounds::Flow(min, max))

@@ -23,12 +23,12 @@ returns-2 c =
     let else1 = after-node-min .before in
     let after-wide = else1 .before .before in
     rw (
-      ← (after-wide .wide16 .ensures .0),
-      ne-eqb _ _ (else1 .if1 .left),
-      eq-eqb _ _ (then2 .if2 .taken),
       ← (after-node-min .node-min .ensures),
       ← (after-node-max .node-max .ensures),
       ← (after-node-volume .node-volume .ensures),
+      ← (after-wide .wide16 .ensures .0),
+      ne-eqb _ _ (else1 .if1 .left),
+      eq-eqb _ _ (then2 .if2 .taken),
       ← (c .before .storage-bounds .ensures),
     ) (c .interval-of .ensures)
 
@@ -40,12 +40,11 @@ returns-3 c =
     let else1 = after-node-min .before in
     let after-wide = else1 .before .before in
     rw (
+      ← (after-node-min .node-min .ensures),
+      ← (after-node-max .node-max .ensures),
       ← (after-wide .wide16 .ensures .0),
       ne-eqb _ _ (else1 .if1 .left),
       ne-eqb _ _ (c .before .if2 .left),
-      ← (after-node-min .node-min .ensures),
-      ←
-          (after-node-max .node-max .ensures),
     ) (c .interval-of2 .ensures)
 
 pub node-interval-spec : {M : Type 1} → statement M
