@@ -27,9 +27,6 @@ use layout::EDGE_CEILING;
 use layout::ELEMENTS_MADE_AT;
 use layout::NODE_CEILING;
 use layout::SHAPE_MADE_AT;
-use network_aggregate::SETS_OFFSET;
-use network_edge::EDGE_LENGTH;
-use network_node::NODE_LENGTH;
 use network_record::Counts;
 use pywr::ColumnNumber;
 use pywr::Sentinel;
@@ -96,7 +93,7 @@ fn aggregate_row(
     ensures { λ r. ⌜ Gathered (aggregateRow (columnMap (networkOf (now (s .entry)) c)) (aggregateAt (now (s .entry)) at)) (now (columns .exit)) (now (elements .exit)) r ⌝ }
 {
     let sets = network_aggregate::set_count(s, at);
-    let mut here = at + SETS_OFFSET;
+    let mut here = network_aggregate::sets_at(at);
     let mut n: usize = 0;
     let mut i: usize = 0;
     while i < sets {
@@ -187,7 +184,7 @@ pub fn create_aggregated_node_constraints(
         → AfterVariableRows sentinel rows (aggregateRows (networkOf (now (s .entry)) c)) aggregatesMadeAt (c .aggregates) aggregateTable
         (now (words .entry)) r (now (words .exit)) (now (numbers .exit))) ⌝ }
 {
-    let mut at = NODE_LENGTH * c.nodes + EDGE_LENGTH * c.edges;
+    let mut at = network_edge::edges_end(c.nodes, c.edges);
     let mut filled = f;
     let mut i: usize = 0;
     while i < c.aggregates {

@@ -15,9 +15,6 @@ use layout::MEMBERSHIP_CEILING;
 use layout::NODE_CEILING;
 use layout::SET_CEILING;
 use layout::SET_SIZE_CEILING;
-use network_aggregate::SETS_OFFSET;
-use network_edge::EDGE_LENGTH;
-use network_node::NODE_LENGTH;
 use network_record::Counts;
 
 // How many sets there are, or more than the ceiling.
@@ -69,7 +66,7 @@ fn add_sets(s: &[u8], at: usize, known: usize, set_at: &mut [u16; SET_CEILING]) 
 {
     let sets = network_aggregate::set_count(s, at);
     let mut count = known;
-    let mut here = at + SETS_OFFSET;
+    let mut here = network_aggregate::sets_at(at);
     let mut i: usize = 0;
     while i < sets {
         if set_number(s, set_at, count, here) < count {
@@ -95,7 +92,7 @@ pub fn collect_sets(s: &[u8], c: Counts, set_at: &mut [u16; SET_CEILING]) -> Set
 {
     let aggregates = c.aggregates;
     let mut count: usize = 0;
-    let mut at = NODE_LENGTH * c.nodes + EDGE_LENGTH * c.edges;
+    let mut at = network_edge::edges_end(c.nodes, c.edges);
     let mut i: usize = 0;
     while i < aggregates {
         if network_aggregate::is_exclusive(s, at) {

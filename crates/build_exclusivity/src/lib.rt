@@ -23,9 +23,6 @@ use build_append::RowsAdded;
 use layout::COLUMN_CEILING;
 use layout::ELEMENTS_MADE_AT;
 use layout::SET_CEILING;
-use network_aggregate::SETS_OFFSET;
-use network_edge::EDGE_LENGTH;
-use network_node::NODE_LENGTH;
 use network_record::Counts;
 use pywr::ColumnIndex;
 use pywr::ColumnNumber;
@@ -47,7 +44,7 @@ fn exclusivity_row(
 {
     let count = network_aggregate::set_count(s, at);
     let mut n: usize = 0;
-    let mut here = at + SETS_OFFSET;
+    let mut here = network_aggregate::sets_at(at);
     let mut i: usize = 0;
     while i < count {
         let k = build_exclusive_sets::set_number(s, set_at, sets, here);
@@ -125,7 +122,7 @@ pub fn create_mutual_exclusivity_constraints(
 {
     let aggregates = c.aggregates;
     let mut filled = f;
-    let mut at = NODE_LENGTH * c.nodes + EDGE_LENGTH * c.edges;
+    let mut at = network_edge::edges_end(c.nodes, c.edges);
     let mut i: usize = 0;
     while i < aggregates {
         let r = add_exclusivity_row(

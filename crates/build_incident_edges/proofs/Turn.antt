@@ -1,7 +1,7 @@
 -- A turn of the loop that lists the edges from the last to the first. Assumes nothing.
-use Prim.Native.Nat.{ℕ, zero, suc, _+_, _*_, _<_, _≤_}
-use mathlib.Core.Path.{_≡_, refl, sym, ap, _∙_, subst}
-use mathlib.Core.Logic.{_⊎_, inl, inr, _≢_, ⊎-elim}
+use Prim.Native.Nat.{ℕ, zero, suc, _+_, _<_, _≤_}
+use mathlib.Core.Path.{_≡_, refl, sym, ap, _∙_}
+use mathlib.Core.Logic.{inl, inr, _≢_, ⊎-elim}
 use mathlib.Core.List.{List, [], _∷_}
 use mathlib.Core.Bool.{Bool, true, false}
 use native.Mathlib.Decide.{ℕ-discrete}
@@ -10,13 +10,12 @@ use borrow.Author.Tests.{eq-eqb, ne-eqb}
 use lib.ListN.{length, getD, set, drop, replicate, length-set, drop-of-length-le}
 use lib.Seq.{drop-cons, getD-set-same, getD-set-other}
 use lib.Dec.{eqb}
-use Rattle.pywr.specs.Bytes.{le16}
 use Rattle.pywr.specs.Network.{Edge, keepIf, edgesWith}
-use Rattle.network_edge.specs.Edge.{edgeAt}
+use Rattle.network_edge.specs.Edge.{edgeAt, edgePlace, endOf}
+use Rattle.network_edge.specs.declared.End.{End}
 use Rattle.network_laws.specs.NetworkAt.{edgeRecords, networkAt}
 use Rattle.network_laws.proofs.Index.{edge-count, edge-index}
 use Rattle.laws.specs.Linked.{Later, Linked}
-use Rattle.build_incident_edges.specs.IncidentEdges.{endAt}
 use Rattle.laws.proofs.LinkedLaws.{linked-store}
 
 module _ (size : ℕ) (next : List ℕ) (end : Edge → ℕ) (n : ℕ) where
@@ -53,34 +52,27 @@ zeros-at zero n = refl
 zeros-at (suc k) zero = refl
 zeros-at (suc k) (suc n) = zeros-at k n
 
-pub end-most : (end : ℕ) → (end ≡ 2) ⊎ (end ≡ 4) → end ≤ 4
-end-most end is = ⊎-elim (λ (q : end ≡ 2). omega arith) (λ (q : end ≡ 4). omega arith) is
-
--- the end of an edge, read where it stands
-end-at : (file : List ℕ) (end at : ℕ) → (end ≡ 2) ⊎ (end ≡ 4) → endAt end (edgeAt file at) ≡ le16 file (at + end)
-end-at file end at is = ⊎-elim (λ (q : end ≡ 2). rw q) (λ (q : end ≡ 4). rw q) is
-
 -- the tables list the edges from e on
-pub record ListedFrom (file : List ℕ) (nodes edges end e : ℕ) (first next : List ℕ) : Type 0 where
+pub record ListedFrom (file : List ℕ) (nodes edges : ℕ) (end : End) (e : ℕ) (first next : List ℕ) : Type 0 where
   pub few : e ≤ edges
   pub first-length : length first ≡ 256
   pub next-length : length next ≡ 512
-  pub listed : (n : ℕ) → Linked edges next (getD first n 0) (edgesWith (endAt end) n e (drop e (edgeRecords file nodes edges)))
+  pub listed : (n : ℕ) → Linked edges next (getD first n 0) (edgesWith (endOf end) n e (drop e (edgeRecords file nodes edges)))
 
-pub none-listed : (file : List ℕ) (nodes edges end : ℕ) → ListedFrom file nodes edges end edges (replicate 256 0) (replicate 512 0)
+pub none-listed : (file : List ℕ) (nodes edges : ℕ) (end : End) → ListedFrom file nodes edges end edges (replicate 256 0) (replicate 512 0)
 unfolding edgesWith networkAt
 none-listed file nodes edges end =
     let short : length (edgeRecords file nodes edges) ≤ edges = omega (arith, edge-count file nodes edges 0 0) in
     record { few = omega arith; first-length = refl; next-length = refl; listed = λ n. rw (drop-of-length-le (edgeRecords file nodes edges) short) (zeros-at 256 n) }
 
 -- edge j goes in front of its node's list
-pub edge-listed : (file : List ℕ) (nodes edges end e j node plus-one : ℕ) (first next : List ℕ) → (end ≡ 2) ⊎ (end ≡ 4) → e ≡ suc j → plus-one ≡ j + 1
-    → node ≡ le16 file (20 * nodes + 6 * j + end) → node < 256 → edges ≤ 512 → ListedFrom file nodes edges end e first next
+pub edge-listed : (file : List ℕ) (nodes edges : ℕ) (end : End) (e j node plus-one : ℕ) (first next : List ℕ) → e ≡ suc j → plus-one ≡ j + 1
+    → node ≡ endOf end (edgeAt file (edgePlace nodes j)) → node < 256 → edges ≤ 512 → ListedFrom file nodes edges end e first next
     → ListedFrom file nodes edges end j (set first node plus-one) (set next j (getD first node 0))
 unfolding networkAt
-edge-listed file nodes edges end e j node plus-one first next is q p at under most h =
+edge-listed file nodes edges end e j node plus-one first next q p at under most h =
     let es : List Edge = edgeRecords file nodes edges in
-    let x : getD es j (edgeAt file 0) ≡ edgeAt file (20 * nodes + 6 * j) = edge-index file nodes edges 0 0 j (edgeAt file 0) (omega arith) in
+    let x : getD es j (edgeAt file 0) ≡ edgeAt file (edgePlace nodes j) = edge-index file nodes edges 0 0 j (edgeAt file 0) (omega arith) in
     let p′ : plus-one ≡ suc j = omega arith in
     record {
       few = omega arith;
@@ -88,8 +80,8 @@ edge-listed file nodes edges end e j node plus-one first next is q p at under mo
       next-length = length-set next j (getD first node 0) ∙ h .next-length;
       listed =
           rw p′
-          (cons-edge edges next first (endAt end) es j node (edgeAt file 0) (omega (arith, edge-count file nodes edges 0 0))
-          (ap (endAt end) x ∙ end-at file end (20 * nodes + 6 * j) is ∙ sym at)
+          (cons-edge edges next first (endOf end) es j node (edgeAt file 0) (omega (arith, edge-count file nodes edges 0 0))
+          (ap (endOf end) x ∙ sym at)
           (omega arith)
           (omega (arith, h .next-length))
           (omega (arith, h .first-length))

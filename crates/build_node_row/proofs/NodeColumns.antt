@@ -1,6 +1,6 @@
 -- The columns of a node's edges as the tables give them. Assumes nothing.
 use mathlib.Core.Path.{_≡_, refl, sym, _∙_, ap, ap₂}
-use Prim.Native.Nat.{ℕ, suc, _+_, _*_, _-_, _<_, _≤_}
+use Prim.Native.Nat.{ℕ, suc, _-_, _<_, _≤_}
 use mathlib.Core.List.{List, [], _∷_, map}
 use native.Mathlib.Omega.{arith}
 use borrow.Author.Tests.{eq-eqb, ne-eqb}
@@ -11,11 +11,11 @@ use mathlib.Core.Bool.{true, false}
 use mathlib.Core.Logic.{_≢_}
 use Rattle.laws.specs.Linked.{Linked}
 use Rattle.laws.proofs.LinkedLaws.{linked-size}
-use Rattle.pywr.specs.Bytes.{byte}
 use Rattle.pywr.specs.Network.{output, storage, Node, Network, noNode, kindOf, incoming, outgoing}
 use Rattle.pywr.specs.ColEdgeMap.{columns, columnOf, mappedEdges}
 use Rattle.pywr.specs.Rows.{columnMap, columnsInto, columnsOutOf, addNode}
 use Rattle.pywr.proofs.ReadLaws.{Sound, read-sound}
+use Rattle.network_node.specs.Node.{nodeAt, nodePlace}
 use Rattle.network_laws.proofs.Index.{node-index, edge-count}
 use Rattle.network_record.specs.declared.Counts.{Counts}
 use Rattle.build_incident_edges.proofs.Listed.{incoming-listed, outgoing-listed}
@@ -80,28 +80,28 @@ module _ (file : List ℕ) (c : Counts) (firstIn nextIn firstOut nextOut edgeToC
     pub out-columns : columnsOf edgeToCol (outgoing net n) ≡ columnsOutOf n (mappedEdges net)
     out-columns = are nextOut (getD firstOut n 0) (outgoing net n) out-list ∙ sym (columns-out-of net n)
 
-    pub kind-is : n < c .nodes → kindOf (net .nodes) n ≡ byte file (20 * n + 2)
+    pub kind-is : n < c .nodes → kindOf (net .nodes) n ≡ nodeAt file (nodePlace n) .kind
     unfolding kindOf
     kind-is h = ap (λ (x : Node). x .kind) (node-index file (c .nodes) (c .edges) (c .aggregates) (c .«virtual_storages») n noNode h)
 
-  -- ---- a node added by its kind; k is the node's number as the code widens it
+  -- ---- a node added by its kind as the file has it; k is the node's number as the code widens it
 
-  module _ (n k : ℕ) (e : k ≡ n) (h : n < c .nodes) (x : Float) where
-    kind-at : byte file (20 * k + 2) ≡ kindOf (net .nodes) n
-    kind-at = ap (λ (j : ℕ). byte file (20 * j + 2)) e ∙ sym (kind-is n h)
+  module _ (n k : ℕ) (e : k ≡ n) (h : n < c .nodes) (kind : ℕ) (read : kind ≡ nodeAt file (nodePlace n) .kind) (x : Float) where
+    kind-at : kind ≡ kindOf (net .nodes) n
+    kind-at = read ∙ sym (kind-is n h)
 
     module _ (cols : List ℕ) (els : List Float) (m : ℕ) (cols′ : List ℕ) (els′ : List Float) (r : ℕ) where
-      pub output-added : byte file (20 * k + 2) ≡ 1 → ColumnsAdded nextIn edgeToCol (getD firstIn k 0) x cols els m cols′ els′ r → NodeAdded file c n x cols els m cols′ els′ r
+      pub output-added : kind ≡ 1 → ColumnsAdded nextIn edgeToCol (getD firstIn k 0) x cols els m cols′ els′ r → NodeAdded file c n x cols els m cols′ els′ r
       unfolding addNode columnMap
-      output-added kind a =
-          let is : eqb (kindOf (net .nodes) n) output ≡ true = eq-eqb _ _ (sym kind-at ∙ kind) in
+      output-added one a =
+          let is : eqb (kindOf (net .nodes) n) output ≡ true = eq-eqb _ _ (sym kind-at ∙ one) in
           record {
             row = a .row (incoming net k) (in-linked k) ∙ rw (is, e, in-columns n);
             rising = a .rising;
             few = a .few;
           }
 
-      pub outgoing-added : byte file (20 * k + 2) ≢ 1 → byte file (20 * k + 2) ≢ 3
+      pub outgoing-added : kind ≢ 1 → kind ≢ 3
           → ColumnsAdded nextOut edgeToCol (getD firstOut k 0) x cols els m cols′ els′ r → NodeAdded file c n x cols els m cols′ els′ r
       unfolding addNode columnMap
       outgoing-added ne₁ ne₃ a =
@@ -114,14 +114,14 @@ module _ (file : List ℕ) (c : Counts) (firstIn nextIn firstOut nextOut edgeToC
           }
 
     pub storage-added : (cols : List ℕ) (els : List Float) (m : ℕ) (cols₁ : List ℕ) (els₁ : List Float) (m₁ : ℕ) (cols₂ : List ℕ) (els₂ : List Float) (r : ℕ)
-        → byte file (20 * k + 2) ≡ 3
+        → kind ≡ 3
         → ColumnsAdded nextIn edgeToCol (getD firstIn k 0) x cols els m cols₁ els₁ m₁
         → ColumnsAdded nextOut edgeToCol (getD firstOut k 0) (neg x) cols₁ els₁ m₁ cols₂ els₂ r
         → NodeAdded file c n x cols els m cols₂ els₂ r
     unfolding addNode columnMap
-    storage-added cols els m cols₁ els₁ m₁ cols₂ els₂ r kind a b =
-        let no : eqb (kindOf (net .nodes) n) output ≡ false = ne-eqb (kindOf (net .nodes) n) output (λ q. omega (arith, kind, kind-at, q)) in
-        let is : eqb (kindOf (net .nodes) n) storage ≡ true = eq-eqb _ _ (sym kind-at ∙ kind) in
+    storage-added cols els m cols₁ els₁ m₁ cols₂ els₂ r three a b =
+        let no : eqb (kindOf (net .nodes) n) output ≡ false = ne-eqb (kindOf (net .nodes) n) output (λ q. omega (arith, three, kind-at, q)) in
+        let is : eqb (kindOf (net .nodes) n) storage ≡ true = eq-eqb _ _ (sym kind-at ∙ three) in
         record {
           row = b .row (outgoing net k) (out-linked k) ∙ rw (no, is, e, out-columns n, a .row (incoming net k) (in-linked k), e, in-columns n);
           rising = b .rising;

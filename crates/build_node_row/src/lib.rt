@@ -13,8 +13,6 @@ ghost use Rattle.build_row.specs.Gathered.{Gathered};
 use layout::COLUMN_CEILING;
 use layout::EDGE_CEILING;
 use layout::NODE_CEILING;
-use network_node::KIND_OFFSET;
-use network_node::NODE_LENGTH;
 use network_record::Counts;
 use pywr::ColumnIndex;
 use pywr::ColumnNumber;
@@ -40,7 +38,7 @@ pub fn add_node(
     ensures { λ r. ⌜ NodeAdded (now (s .entry)) c (node .0) factor (now (columns .entry)) (now (elements .entry)) n (now (columns .exit)) (now (elements .exit)) r ⌝ }
 {
     let k = widths::wide16(node.0);
-    let kind = s[NODE_LENGTH * k + KIND_OFFSET];
+    let kind = network_node::kind(s, node);
     if kind == 1 {
         return build_row::add_columns(
             next_in,

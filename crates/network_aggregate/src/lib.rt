@@ -1,6 +1,6 @@
 // An aggregated node of the network file: the check of its `AG` record, and its fields.
 ghost use mathlib.Core.Path.{_≡_};
-ghost use Prim.Native.Nat.{_+_, _<_, _≤_};
+ghost use Prim.Native.Nat.{_+_, _<_, _≤_, _^_};
 ghost use lib.ListN.{length};
 ghost use Rattle.pywr.specs.Bytes.{byte, le16};
 ghost use Rattle.fields.specs.Field.{NextWithin};
@@ -21,7 +21,7 @@ const MIN_ACTIVE_OFFSET: usize = 4;
 
 const MAX_ACTIVE_OFFSET: usize = 8;
 
-pub const SETS_OFFSET: usize = 12;
+const SETS_OFFSET: usize = 12;
 
 // A set: its size, then its nodes.
 const MEMBERS_OFFSET: usize = 1;
@@ -143,6 +143,14 @@ pub fn max_active(s: &[u8], at: usize) -> u32
     ensures { λ r. ⌜ r ≡ aggregateAt (now (s .entry)) at .maxActive ⌝ }
 {
     fields::u32_at(s, at + MAX_ACTIVE_OFFSET)
+}
+
+// Where its sets start.
+pub fn sets_at(at: usize) -> usize
+    requires { ⌜ at + setsOffset < 2 ^ 64 ⌝ }
+    ensures { λ r. ⌜ r ≡ at + setsOffset ⌝ }
+{
+    at + SETS_OFFSET
 }
 
 // The set at `at`: its size, its node k, and where it ends.

@@ -19,9 +19,6 @@ ghost use Rattle.network_record.specs.Counts.{networkOf, SectionsOf};
 ghost use Rattle.network_checks.specs.Marks.{markAll, markSets, markExclusive, MarkedBy};
 ghost use Rattle.network_checks.specs.Refusal.{foundBy, resultWith};
 use layout::NODE_CEILING;
-use network_aggregate::SETS_OFFSET;
-use network_edge::EDGE_LENGTH;
-use network_node::NODE_LENGTH;
 use network_record::Counts;
 use pywr::EdgeIndex;
 use pywr::NodeIndex;
@@ -134,7 +131,7 @@ fn mark_sets(s: &[u8], at: usize, marks: &mut [bool; NODE_CEILING]) -> usize
     ensures { λ r. ⌜ (r ≡ aggregateEnd (now (s .entry)) at) × (now (marks .exit) ≡ markSets (aggregateAt (now (s .entry)) at .sets) (now (marks .entry))) ⌝ }
 {
     let count = network_aggregate::set_count(s, at);
-    let mut here = at + SETS_OFFSET;
+    let mut here = network_aggregate::sets_at(at);
     let mut i: usize = 0;
     while i < count {
         mark_set(s, here, marks);
@@ -222,7 +219,7 @@ fn check_constants(s: &[u8], c: Counts) -> Refusal
     let mut exclusive = [false; NODE_CEILING];
     mark_exclusive(
         s,
-        NODE_LENGTH * c.nodes + EDGE_LENGTH * c.edges,
+        network_edge::edges_end(c.nodes, c.edges),
         c.aggregates,
         &mut exclusive,
     );

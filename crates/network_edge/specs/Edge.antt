@@ -5,10 +5,11 @@ use mathlib.Core.List.{List}
 use mathlib.Core.Bool.{Bool, false, cond, _&&_, _||_}
 use lib.Dec.{eqb}
 use Rattle.pywr.specs.Bytes.{byte, le16}
-use Rattle.pywr.specs.Network.{input, output, Edge}
+use Rattle.pywr.specs.Network.{input, output, Edge, source, target}
 use Rattle.fields.specs.Field.{nodeField, fieldThen}
 use Rattle.fields.specs.declared.Checked.{Checked}
 use Rattle.network_node.specs.Node.{kindOffset, nodePlace}
+use Rattle.network_edge.specs.declared.End.{End}
 
 -- its length, and where its ends stand in it
 abbrev pub edgeLength : ℕ
@@ -26,6 +27,10 @@ edgePlace nodes k = nodePlace nodes + edgeLength * k
 
 abbrev pub edgeAt : List ℕ → ℕ → Edge
 edgeAt file at = record { from = le16 file (at + fromOffset); to = le16 file (at + toOffset) }
+
+abbrev pub endOf : End → Edge → ℕ
+endOf End.From = source
+endOf End.To = target
 
 -- one of the `count` edges from `at` has these ends
 unfoldable pub pairAmong : List ℕ → ℕ → ℕ → ℕ → ℕ → Bool

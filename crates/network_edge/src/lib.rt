@@ -1,22 +1,34 @@
 // An edge of the network file: the check of its `ED` record, and its ends by index.
 ghost use mathlib.Core.Path.{_≡_};
-ghost use Prim.Native.Nat.{_+_, _*_, _<_, _≤_};
+ghost use Prim.Native.Nat.{_+_, _*_, _<_, _≤_, _^_};
 ghost use lib.ListN.{length};
 ghost use Rattle.fields.specs.Field.{NextWithin};
-ghost use Rattle.network_edge.specs.Edge.{pairAmong, badEdgeAt, checkEdge, edgeAt, edgeLength, edgePlace};
+ghost use Rattle.network_edge.specs.Edge.{pairAmong, badEdgeAt, checkEdge, edgeAt, edgeLength, edgePlace, endOf};
 use fields::Checked;
 use fields::Field;
-use network_node::KIND_OFFSET;
-use network_node::NODE_LENGTH;
 use pywr::EdgeIndex;
 use pywr::NodeIndex;
 
 // An `ED` record: its length, and where its ends stand in it.
-pub const EDGE_LENGTH: usize = 6;
+const EDGE_LENGTH: usize = 6;
 
-pub const FROM_OFFSET: usize = 2;
+const FROM_OFFSET: usize = 2;
 
-pub const TO_OFFSET: usize = 4;
+const TO_OFFSET: usize = 4;
+
+// The end that an edge comes from, or the one that it goes to.
+pub enum End {
+    From,
+    To,
+}
+
+// Where the records of `nodes` nodes and of the first `edges` edges end.
+pub fn edges_end(nodes: usize, edges: usize) -> usize
+    requires { ⌜ edgePlace nodes edges < 2 ^ 64 ⌝ }
+    ensures { λ r. ⌜ r ≡ edgePlace nodes edges ⌝ }
+{
+    network_node::nodes_end(nodes) + EDGE_LENGTH * edges
+}
 
 // Whether one of the `count` edges from `start` has these ends. An edge's two ends are compared as one number.
 fn pair_among(s: &[u8], count: usize, start: usize, from: NodeIndex, to: NodeIndex) -> bool
@@ -43,18 +55,16 @@ fn bad_edge(s: &[u8], nodes: usize, edges: usize, from: NodeIndex, to: NodeIndex
     requires { ⌜ (edgePlace nodes edges ≤ length (now s)) × (from .0 < nodes) × (to .0 < nodes) × (nodes ≤ 65536) ⌝ }
     ensures { λ r. ⌜ r ≡ badEdgeAt (now (s .entry)) nodes edges (from .0) (to .0) ⌝ }
 {
-    let f = widths::wide16(from.0);
-    let t = widths::wide16(to.0);
-    if s[NODE_LENGTH * t + KIND_OFFSET] == 0 {
+    if network_node::kind(s, to) == 0 {
         return true;
     }
-    if s[NODE_LENGTH * f + KIND_OFFSET] == 1 {
+    if network_node::kind(s, from) == 1 {
         return true;
     }
-    if f == t {
+    if from.0 == to.0 {
         return true;
     }
-    pair_among(s, edges, NODE_LENGTH * nodes, from, to)
+    pair_among(s, edges, network_node::nodes_end(nodes), from, to)
 }
 
 // The edge whose record stands at `at`, behind `nodes` nodes and `edges` edges.
@@ -88,7 +98,7 @@ pub fn from_node_index(s: &[u8], nodes: usize, j: EdgeIndex) -> NodeIndex
     ensures { λ r. ⌜ r .0 ≡ edgeAt (now (s .entry)) (edgePlace nodes (j .0)) .from ⌝ }
 {
     let k = widths::wide16(j.0);
-    NodeIndex(fields::u16_at(s, NODE_LENGTH * nodes + EDGE_LENGTH * k + FROM_OFFSET))
+    NodeIndex(fields::u16_at(s, edges_end(nodes, k) + FROM_OFFSET))
 }
 
 // The node that it goes to.
@@ -97,5 +107,16 @@ pub fn to_node_index(s: &[u8], nodes: usize, j: EdgeIndex) -> NodeIndex
     ensures { λ r. ⌜ r .0 ≡ edgeAt (now (s .entry)) (edgePlace nodes (j .0)) .to ⌝ }
 {
     let k = widths::wide16(j.0);
-    NodeIndex(fields::u16_at(s, NODE_LENGTH * nodes + EDGE_LENGTH * k + TO_OFFSET))
+    NodeIndex(fields::u16_at(s, edges_end(nodes, k) + TO_OFFSET))
+}
+
+// The node at an end of it.
+pub fn end_node(s: &[u8], nodes: usize, j: EdgeIndex, end: End) -> NodeIndex
+    requires { ⌜ edgePlace nodes (j .0) + edgeLength ≤ length (now s) ⌝ }
+    ensures { λ r. ⌜ r .0 ≡ endOf end (edgeAt (now (s .entry)) (edgePlace nodes (j .0))) ⌝ }
+{
+    match end {
+        End::From => from_node_index(s, nodes, j),
+        End::To => to_node_index(s, nodes, j),
+    }
 }

@@ -1,7 +1,7 @@
 // A node of the network file: the check of its `ND` record, and its fields by index.
 ghost use mathlib.Core.Path.{_≡_};
 ghost use mathlib.Core.Bool.{true};
-ghost use Prim.Native.Nat.{_+_, _≤_};
+ghost use Prim.Native.Nat.{_+_, _<_, _≤_, _^_};
 ghost use lib.ListN.{length};
 ghost use Rattle.pywr.specs.Bytes.{le64};
 ghost use Rattle.pywr.specs.Numbers.{isFlow};
@@ -13,9 +13,9 @@ use fields::Field;
 use pywr::NodeIndex;
 
 // An `ND` record: its length, and where its fields stand in it.
-pub const NODE_LENGTH: usize = 20;
+const NODE_LENGTH: usize = 20;
 
-pub const KIND_OFFSET: usize = 2;
+const KIND_OFFSET: usize = 2;
 
 const CONSTANT_OFFSET: usize = 3;
 
@@ -82,6 +82,14 @@ pub fn check_node(s: &[u8], at: usize) -> Checked
             }
         }
     }
+}
+
+// Where the records of the first `nodes` nodes end.
+pub fn nodes_end(nodes: usize) -> usize
+    requires { ⌜ nodePlace nodes < 2 ^ 64 ⌝ }
+    ensures { λ r. ⌜ r ≡ nodePlace nodes ⌝ }
+{
+    NODE_LENGTH * nodes
 }
 
 // The kind of node i: 0 input, 1 output, 2 link, 3 storage.

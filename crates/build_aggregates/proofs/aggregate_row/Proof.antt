@@ -21,13 +21,13 @@ abbrev μ-loop : tie.MeasureT-loop
 -- from a place to an earlier one
 abbrev to-start : tie.At-loop Inv-loop μ-loop → tie.Start Inv-loop μ-loop
 to-start c =
-    let after-shared-slice-known = c .before .before .before in
-    after-shared-slice-known .before
+    let after-slice-known = c .before .before .before in
+    after-slice-known .before .before
 
 abbrev to-set-count : tie.After-add-nodes-arg2 Inv-loop μ-loop → tie.After-set-count Inv-loop μ-loop
 to-set-count c =
     let at-loop = c .before .before .before in
-    at-loop .before
+    at-loop .before .before
 
 abbrev to-in-loop : tie.After-slice-known2 Inv-loop μ-loop → tie.In-loop Inv-loop μ-loop
 to-in-loop c =
@@ -43,14 +43,16 @@ set-count-requires : tie.Need-set-count-requires Inv-loop μ-loop
 set-count-requires c κs =
     fields-within _ _ _ (c .before .before .pre .1)
 
-add-here : tie.Need-add-here Inv-loop μ-loop
-add-here c =
+sets-at-requires : tie.Need-sets-at-requires Inv-loop μ-loop
+sets-at-requires c κs =
     omega (arith, fields-within _ _ _ (c .before .before .before .pre .1))
 
 loop-holds : tie.Need-loop-holds Inv-loop μ-loop
 unfolding recordsEnd
 loop-holds c =
-    (sets-none _ (c .before .before .before .args .c) _ _ _, refl, refl)
+    let after-slice-known = c .before .before in
+    let start = after-slice-known .before .before in
+    (rw (c .sets-at .ensures) (sets-none _ (start .args .c) _ _ _), c .sets-at .ensures, refl)
 
 add-nodes-requires : tie.Need-add-nodes-requires Inv-loop μ-loop
 add-nodes-requires c κs =
@@ -71,7 +73,7 @@ loop-again c =
     let after-add-nodes = c .before .before .before in
     let in-loop = after-add-nodes .before .before .before in
     let at-loop = in-loop .before in
-    let after-set-count = at-loop .before in
+    let after-set-count = at-loop .before .before in
     let start = after-set-count .before .before .before in
     let t = start in
     let l = at-loop .loop in
@@ -88,7 +90,7 @@ same-length c =
 
 returns : tie.Need-returns Inv-loop μ-loop
 returns c =
-    sets-all _ (to-start (c .before) .args .c) _ _ _ _ _ _ (c .before .loop .inv .0) (omega (arith, c .before .before .set-count .ensures .0, c .loop-test .left))
+    sets-all _ (to-start (c .before) .args .c) _ _ _ _ _ _ (c .before .loop .inv .0) (omega (arith, c .before .before .before .set-count .ensures .0, c .loop-test .left))
 
 pub aggregate-row-spec : {M : Type 1} → statement M
 aggregate-row-spec =
@@ -97,7 +99,7 @@ aggregate-row-spec =
     Inv-loop
     μ-loop
     set-count-requires
-    add-here
+    sets-at-requires
     loop-holds
     add-nodes-requires
     set-end-requires

@@ -34,7 +34,7 @@ abbrev μ-loop : tie.MeasureT-loop
 -- from a place to an earlier one
 abbrev to-start : tie.At-loop Inv-loop μ-loop → tie.Start Inv-loop μ-loop
 to-start c =
-    let after-slice-known2 = c .before .before .before in
+    let after-slice-known2 = c .before .before in
     after-slice-known2 .before .before .before
 
 abbrev to-loop : tie.After-add-aggregate-row-arg3 Inv-loop μ-loop → tie.At-loop Inv-loop μ-loop
@@ -67,10 +67,15 @@ to-put-aggregate-arg c =
     let after-narrow16 = c .before .before .before in
     after-narrow16 .before
 
+edges-end-requires : tie.Need-edges-end-requires Inv-loop μ-loop
+edges-end-requires c κs =
+    let sections = c .before .before .before .pre .0 .sections in
+    omega (arith, sections .few-nodes, sections .few-edges)
+
 loop-holds : tie.Need-loop-holds Inv-loop μ-loop
 unfolding recordsEnd
 loop-holds c =
-    ((λ rows held. asked-none _ _ _ _ _ rows _ _ _ refl held), refl, omega arith, refl, refl)
+    ((λ rows held. asked-none _ _ _ _ _ rows _ _ _ refl held), c .edges-end .ensures, omega arith, refl, refl)
 
 add-aggregate-row-requires : tie.Need-add-aggregate-row-requires Inv-loop μ-loop
 add-aggregate-row-requires c κs =
@@ -207,9 +212,7 @@ create-aggregated-node-constraints-spec =
     (tie.spec
     Inv-loop
     μ-loop
-    (λ c. search needs)
-    (λ c. search needs)
-    (λ c. search needs)
+    edges-end-requires
     loop-holds
     add-aggregate-row-requires
     (λ c. search needs)

@@ -18,8 +18,8 @@ abbrev μ-loop : tie.MeasureT-loop
 -- from a place to an earlier one
 abbrev to-start : tie.In-loop Inv-loop μ-loop → tie.Start Inv-loop μ-loop
 to-start c =
-    let after-shared-slice-known = c .before .before .before in
-    after-shared-slice-known .before
+    let after-set-count = c .before .before .before in
+    after-set-count .before .before
 
 abbrev to-in-loop : tie.Else2 Inv-loop μ-loop → tie.In-loop Inv-loop μ-loop
 to-in-loop c =
@@ -36,13 +36,14 @@ set-count-requires : tie.Need-set-count-requires Inv-loop μ-loop
 set-count-requires c κs =
     fields-within _ _ _ (c .before .pre .0)
 
-add-here : tie.Need-add-here Inv-loop μ-loop
-add-here c =
+sets-at-requires : tie.Need-sets-at-requires Inv-loop μ-loop
+sets-at-requires c κs =
     let h = fields-within _ _ _ (c .before .before .pre .0) in search needs
 
 loop-holds : tie.Need-loop-holds Inv-loop μ-loop
 loop-holds c =
-    adding-first _ _ _ _ _ (c .set-count .ensures .0) (c .before .before .pre .1)
+    let start = c .before .before .before in
+    rw (c .sets-at .ensures) (adding-first _ _ _ _ _ (c .before .set-count .ensures .0) (start .pre .1))
 
 set-number-requires : tie.Need-set-number-requires Inv-loop μ-loop
 set-number-requires c κs =
@@ -96,7 +97,7 @@ add-sets-spec =
     Inv-loop
     μ-loop
     set-count-requires
-    add-here
+    sets-at-requires
     loop-holds
     set-number-requires
     set-end-requires

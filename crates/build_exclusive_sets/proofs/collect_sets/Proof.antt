@@ -2,6 +2,7 @@
 use Prim.Native.Nat.{ℕ, _-_}
 use mathlib.Core.Path.{sym, subst, _∙_}
 use native.Mathlib.Omega.{arith}
+use Rattle.network_edge.specs.Edge.{edgePlace}
 use Rattle.network_laws.specs.Passed.{AggregatePassed}
 use Rattle.build_exclusive_sets.proofs.Accepted.{fields-within, few-bytes, aggregate-passed-256}
 use Rattle.build_exclusive_sets.proofs.CollectSets.{Collecting, collecting-first, collecting-plain, collecting-more, collecting-over, collecting-done, of-network}
@@ -18,8 +19,8 @@ abbrev μ-loop : tie.MeasureT-loop
 -- from a place to an earlier one
 abbrev to-start : tie.At-loop Inv-loop μ-loop → tie.Start Inv-loop μ-loop
 to-start c =
-    let after-shared-slice-known = c .before .before .before in
-    after-shared-slice-known .before
+    let after-edges-end = c .before in
+    after-edges-end .before .before
 
 abbrev to-loop : tie.After-add-sets-arg Inv-loop μ-loop → tie.At-loop Inv-loop μ-loop
 to-loop c =
@@ -32,15 +33,26 @@ to-in-loop c =
     let after-is-exclusive = after-add-sets .before .before .before in
     after-is-exclusive .before
 
+-- the invariant, the aggregates standing behind the edges
+collecting : (c : tie.At-loop Inv-loop μ-loop)
+    → let p = to-start c .args in
+    Collecting (p .s .now) (edgePlace (p .c .nodes) (p .c .edges)) (p .c .aggregates) (c .loop .set-at) (c .loop .count) (c .loop .at) (c .loop .i)
+collecting c =
+    rw (c .before .edges-end .ensures) at (c .loop .inv)
+
 -- the aggregate that stands next
 fits : (c : tie.In-loop Inv-loop μ-loop) → AggregatePassed (to-start (c .before) .args .s .now) 256 (c .before .loop .at)
 fits c =
-    subst (λ (at : ℕ). AggregatePassed (to-start (c .before) .args .s .now) 256 at) (sym (c .before .loop .inv .stands))
+    subst (λ (at : ℕ). AggregatePassed (to-start (c .before) .args .s .now) 256 at) (sym (collecting (c .before) .stands))
     (aggregate-passed-256 _ _ _ _ _ _ (to-start (c .before) .pre .0) (c .before .loop .i) (c .loop-test .taken))
+
+edges-end-requires : tie.Need-edges-end-requires Inv-loop μ-loop
+edges-end-requires c κs =
+    omega (arith, c .before .pre .0 .few-nodes, c .before .pre .0 .few-edges)
 
 loop-holds : tie.Need-loop-holds Inv-loop μ-loop
 loop-holds c =
-    collecting-first _ _ _ _ (c .before .before .before .pre .1)
+    collecting-first _ _ _ _ (c .before .before .pre .1)
 
 is-exclusive-requires : tie.Need-is-exclusive-requires Inv-loop μ-loop
 is-exclusive-requires c κs =
@@ -60,7 +72,7 @@ returns c =
     let start = to-start at-loop in
     let p = start .args in
     of-network (p .s .now) (p .c .nodes) (p .c .edges) (p .c .aggregates) _ _ _
-    (collecting-over _ _ _ _ _ _ _ (at-loop .loop .inv) (in-loop .loop-test .taken) (sym (after-is-exclusive .is-exclusive .ensures) ∙ then1 .if1 .taken) _ _
+    (collecting-over _ _ _ _ _ _ _ (collecting at-loop) (in-loop .loop-test .taken) (sym (after-is-exclusive .is-exclusive .ensures) ∙ then1 .if1 .taken) _ _
     (after-add-sets .add-sets .ensures) (c .enum-told .given .1))
 
 aggregate-end-requires : tie.Need-aggregate-end-requires Inv-loop μ-loop
@@ -92,7 +104,7 @@ loop-again-2 c =
 returns-2 : tie.Need-returns-2 Inv-loop μ-loop
 returns-2 c =
     let p = to-start (c .before) .args in
-    of-network (p .s .now) (p .c .nodes) (p .c .edges) (p .c .aggregates) _ _ _ (collecting-done _ _ _ _ _ _ _ (c .before .loop .inv) (c .loop-test .left))
+    of-network (p .s .now) (p .c .nodes) (p .c .edges) (p .c .aggregates) _ _ _ (collecting-done _ _ _ _ _ _ _ (collecting (c .before)) (c .loop-test .left))
 
 pub collect-sets-spec : {M : Type 1} → statement M
 collect-sets-spec =
@@ -100,9 +112,7 @@ collect-sets-spec =
     (tie.spec
     Inv-loop
     μ-loop
-    (λ c. search needs)
-    (λ c. search needs)
-    (λ c. search needs)
+    edges-end-requires
     loop-holds
     is-exclusive-requires
     add-sets-requires

@@ -4,6 +4,7 @@ use Prim.Native.Nat.{_-_}
 use native.Mathlib.Omega.{arith}
 use lib.ListN.{length}
 use Rattle.pywr.specs.Rows.{columnMap}
+use Rattle.network_edge.specs.Edge.{edgePlace}
 use Rattle.network_laws.specs.NetworkAt.{networkAt}
 use Rattle.build_node_row.specs.Tables.{networkOf}
 use Rattle.build_append.proofs.AddingRows.{adding-holding}
@@ -25,7 +26,7 @@ abbrev μ-loop : tie.MeasureT-loop
 -- from a place to an earlier one
 abbrev to-start : tie.At-loop Inv-loop μ-loop → tie.Start Inv-loop μ-loop
 to-start c =
-    let after-slice-known2 = c .before .before .before in
+    let after-slice-known2 = c .before .before in
     after-slice-known2 .before .before .before
 
 abbrev to-in-loop : tie.After-add-exclusivity-row Inv-loop μ-loop → tie.In-loop Inv-loop μ-loop
@@ -48,6 +49,20 @@ to-loop c =
 map-is : (c : tie.Start Inv-loop μ-loop) → MapOf (c .args .s .now) (c .args .set-at .now) (c .args .sets) (c .args .edge-columns) (columnMap (networkOf (c .args .s .now) (c .args .c)))
 map-is c = map-of _ _ _ _ _ _ _ _ (c .pre .2) (c .pre .3)
 
+-- the invariant, the aggregates standing behind the edges
+adding : (c : tie.At-loop Inv-loop μ-loop)
+    → let p = to-start c .args in
+    let l = c .loop in
+    AddingAggregates (p .s .now) (MapOf (p .s .now) (p .set-at .now) (p .sets) (p .edge-columns)) (edgePlace (p .c .nodes) (p .c .edges)) (p .c .aggregates)
+    (p .words .now) (p .numbers .now) (p .f) (l .words) (l .numbers) (l .filled) (l .at) (l .i)
+adding c =
+    rw (c .before .edges-end .ensures) at (c .loop .inv .0)
+
+edges-end-requires : tie.Need-edges-end-requires Inv-loop μ-loop
+edges-end-requires c κs =
+    let sections = c .before .before .before .pre .0 in
+    omega (arith, sections .few-nodes, sections .few-edges)
+
 loop-holds : tie.Need-loop-holds Inv-loop μ-loop
 loop-holds c =
     (aggregates-first _ _ _ _ _ _ _, refl, refl)
@@ -61,9 +76,8 @@ add-exclusivity-row-requires c κs =
     let l = at-loop .loop .inv in (
       p .1,
       p .4,
-      aggregate-starts _ _ _ _ _ _ (p .0) _ (in-loop .loop-test .taken) _ (l .0 .stands),
-      known-sets _ _ _ _ _ _ (p .0) _ (in-loop .loop-test .taken)
-          _ (l .0 .stands) _ _ (p .1) (p .2),
+      aggregate-starts _ _ _ _ _ _ (p .0) _ (in-loop .loop-test .taken) _ (adding at-loop .stands),
+      known-sets _ _ _ _ _ _ (p .0) _ (in-loop .loop-test .taken) _ (adding at-loop .stands) _ _ (p .1) (p .2),
       record { words-room = omega (arith, l .1, p .5 .words-room); numbers-room = omega (arith, l .2, p .5 .numbers-room) },
       adding-holding _ _ _ _ _ _ (l .0 .adding _ (map-is (start)) (p .6 .rows) (p .6 .held)),
     )
@@ -83,7 +97,7 @@ returns c =
     let in-loop = to-in-loop after-add-exclusivity-row in
     let at-loop = in-loop .before in
     let start = to-start at-loop in
-    aggregate-over _ _ _ _ _ _ _ _ _ _ _ _ (at-loop .loop .inv .0) (in-loop .loop-test .taken) _ _ _ (after-add-exclusivity-row .add-exclusivity-row .ensures)
+    aggregate-over _ _ _ _ _ _ _ _ _ _ _ _ (adding at-loop) (in-loop .loop-test .taken) _ _ _ (after-add-exclusivity-row .add-exclusivity-row .ensures)
     (c .enum-told .given .1) _ (map-is (start))
 
 aggregate-end-requires : tie.Need-aggregate-end-requires Inv-loop μ-loop
@@ -91,7 +105,7 @@ aggregate-end-requires c κs =
     let in-loop = to-in-loop (to-add-exclusivity-row (c .before .before .before)) in
     let at-loop = in-loop .before in
     let start = to-start at-loop in
-    aggregate-inside _ _ _ _ _ _ (start .pre .0) _ (in-loop .loop-test .taken) _ (at-loop .loop .inv .0 .stands)
+    aggregate-inside _ _ _ _ _ _ (start .pre .0) _ (in-loop .loop-test .taken) _ (adding at-loop .stands)
 
 loop-again : tie.Need-loop-again Inv-loop μ-loop
 loop-again c =
@@ -118,7 +132,8 @@ same-length-4 c =
 returns-2 : tie.Need-returns-2 Inv-loop μ-loop
 unfolding networkAt
 returns-2 c =
-    aggregates-done _ _ _ _ _ _ _ _ _ _ _ _ (c .before .loop .inv .0) (c .loop-test .left) _ (map-is (to-start (c .before)))
+    let at-loop = c .before in
+    aggregates-done _ _ _ _ _ _ _ _ _ _ _ _ (adding at-loop) (c .loop-test .left) _ (map-is (to-start at-loop))
 
 pub create-mutual-exclusivity-constraints-spec : {M : Type 1} → statement M
 create-mutual-exclusivity-constraints-spec =
@@ -126,9 +141,7 @@ create-mutual-exclusivity-constraints-spec =
     (tie.spec
     Inv-loop
     μ-loop
-    (λ c. search needs)
-    (λ c. search needs)
-    (λ c. search needs)
+    edges-end-requires
     loop-holds
     add-exclusivity-row-requires
     (λ c. search needs)

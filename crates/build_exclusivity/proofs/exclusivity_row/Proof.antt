@@ -20,8 +20,8 @@ abbrev μ-loop : tie.MeasureT-loop
 -- from a place to an earlier one
 abbrev to-start : tie.At-loop Inv-loop μ-loop → tie.Start Inv-loop μ-loop
 to-start c =
-    let after-shared-slice-known = c .before .before .before in
-    after-shared-slice-known .before
+    let after-slice-known = c .before .before .before in
+    after-slice-known .before .before
 
 abbrev to-in-loop : tie.After-slice-known2 Inv-loop μ-loop → tie.In-loop Inv-loop μ-loop
 to-in-loop c =
@@ -33,9 +33,13 @@ set-count-requires : tie.Need-set-count-requires Inv-loop μ-loop
 set-count-requires c κs =
     c .before .before .pre .2
 
+sets-at-requires : tie.Need-sets-at-requires Inv-loop μ-loop
+sets-at-requires c κs =
+    let h = c .before .before .before .pre .2 in search needs
+
 loop-holds : tie.Need-loop-holds Inv-loop μ-loop
 loop-holds c =
-    (gathering-first _ _ _ _ _ _ (c .set-count .ensures .0) _ _, refl)
+    (rw (c .sets-at .ensures) (gathering-first _ _ _ _ _ _ (c .before .set-count .ensures .0) _ _), refl)
 
 set-number-requires : tie.Need-set-number-requires Inv-loop μ-loop
 set-number-requires c κs =
@@ -106,7 +110,7 @@ exclusivity-row-spec =
     Inv-loop
     μ-loop
     set-count-requires
-    (λ c. search needs)
+    sets-at-requires
     loop-holds
     set-number-requires
     add-narrow16

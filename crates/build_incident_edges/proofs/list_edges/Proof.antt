@@ -1,9 +1,10 @@
 -- `build_incident_edges::list_edges` meets its contract. The loop's invariant: the tables list the edges from e on. The measure is e.
 -- Assumes nothing.
-use Prim.Native.Nat.{_*_, _+_, _-_, _<_}
-use mathlib.Core.Path.{_≡_, _∙_, sym}
+use Prim.Native.Nat.{ℕ, _-_, _<_}
+use mathlib.Core.Path.{_≡_, _∙_, ap}
 use native.Mathlib.Omega.{arith}
-use Rattle.build_incident_edges.proofs.Turn.{ListedFrom, end-most, none-listed, edge-listed}
+use Rattle.network_edge.specs.Edge.{edgeAt, edgePlace, endOf}
+use Rattle.build_incident_edges.proofs.Turn.{ListedFrom, none-listed, edge-listed}
 use borrow.Author.Needs.{needs}
 use Rattle.build_incident_edges.proofs.list_edges.Statement.{statement}
 use Rattle.build_incident_edges.proofs.list_edges.Tie as tie
@@ -20,40 +21,43 @@ to-start c =
     let after-shared-slice-known = c .before .before .before in
     after-shared-slice-known .before
 
+abbrev to-loop : tie.After-wide16 Inv-loop μ-loop → tie.At-loop Inv-loop μ-loop
+to-loop c =
+    let after-narrow16 = c .before .before in
+    after-narrow16 .before .before
+
+-- the node at this end of edge k
+abbrev end-node : tie.At-loop Inv-loop μ-loop → ℕ → ℕ
+end-node c k =
+    let p = to-start c .args in
+    endOf (p .end) (edgeAt (p .s .now) (edgePlace (p .nodes) k))
+
+node-is : (c : tie.After-wide16 Inv-loop μ-loop) → c .wide16 .result ≡ end-node (to-loop c) (to-loop c .loop .e - 1)
+node-is c = c .wide16 .ensures .0 ∙ c .before .end-node .ensures ∙ ap (end-node (to-loop c)) (c .before .before .narrow16 .ensures)
+
+node-under : (c : tie.After-wide16 Inv-loop μ-loop) → c .wide16 .result < 256
+node-under c =
+    let at-loop = to-loop c in
+    let start = to-start at-loop in
+    omega (arith, node-is c, start .pre .0, start .pre .3 (at-loop .loop .e - 1) (omega arith))
+
 loop-holds : tie.Need-loop-holds Inv-loop μ-loop
 loop-holds c =
     none-listed _ _ _ _
 
-add-u16-at-2 : tie.Need-add-u16-at-2 Inv-loop μ-loop
-add-u16-at-2 c =
-    let h = end-most _ (to-start (c .before) .pre .3) in search needs
-
-u16-at-requires : tie.Need-u16-at-requires Inv-loop μ-loop
-u16-at-requires c κs =
-    let h = end-most _ (to-start (c .before) .pre .3) in search needs
-
 element-copy-out-next : tie.Need-element-copy-out-next Inv-loop μ-loop
 element-copy-out-next c =
-    let start = to-start (c .before .before .before) in
-    omega (arith, c .wide16 .ensures .0, c .before .u16-at .ensures, start .pre .0, start .pre .4 (c .before .before .before .loop .e - 1) (omega arith))
+    omega (arith, node-under c)
 
 element-write-first : tie.Need-element-write-first Inv-loop μ-loop
 element-write-first c =
-    let after-wide16 = c .before .before in
-    let after-u16-at = after-wide16 .before in
-    let at-loop = after-u16-at .before .before in
-    let start = to-start at-loop in
-    omega (arith, after-wide16 .wide16 .ensures .0, after-u16-at .u16-at .ensures, start .pre .0, start .pre .4 (at-loop .loop .e - 1) (omega arith))
+    omega (arith, node-under (c .before .before))
 
 loop-again : tie.Need-loop-again Inv-loop μ-loop
 loop-again c =
     let after-wide16 = c .before .before in
-    let after-u16-at = after-wide16 .before in
-    let at-loop = after-u16-at .before .before in
-    let start = to-start at-loop in
-    let at = after-wide16 .wide16 .ensures .0 ∙ after-u16-at .u16-at .ensures in
-    let under : after-wide16 .wide16 .result < 256 = omega (arith, start .pre .0, start .pre .4 (at-loop .loop .e - 1) (omega arith)) in
-    edge-listed _ _ _ _ _ _ _ _ _ _ (start .pre .3) (omega arith) (c .narrow16 .ensures) at under (start .pre .1) (at-loop .loop .inv)
+    let at-loop = to-loop after-wide16 in
+    edge-listed _ _ _ _ _ _ _ _ _ _ (omega arith) (c .narrow162 .ensures) (node-is after-wide16) (node-under after-wide16) (to-start at-loop .pre .1) (at-loop .loop .inv)
 
 returns : tie.Need-returns Inv-loop μ-loop
 returns c =
@@ -68,11 +72,8 @@ list-edges-spec =
     μ-loop
     loop-holds
     (λ c. search needs)
-    (λ c. search needs)
-    (λ c. search needs)
-    (λ c. search needs)
-    add-u16-at-2
-    u16-at-requires
+    (λ c κs. search needs)
+    (λ c κs. search needs)
     (λ c κs. search needs)
     (λ c. search needs)
     element-copy-out-next

@@ -51,9 +51,10 @@ returns : tie.Need-returns
 returns c =
     let after-add-columns = c .before .before in
     let then1 = to-then1 after-add-columns in
-    let after-wide16 = then1 .before .before in
+    let after-kind = then1 .before in
+    let after-wide16 = after-kind .before in
     let start = after-wide16 .before .before .before in
-    output-added _ _ _ _ _ _ _ (start .pre .0) _ (after-wide16 .wide16 .result) (after-wide16 .wide16 .ensures .0) (start .pre .1) _ _ _ _ _ _ _
+    output-added _ _ _ _ _ _ _ (start .pre .0) _ (after-wide16 .wide16 .result) (after-wide16 .wide16 .ensures .0) (start .pre .1) _ (after-kind .kind .ensures) _ _ _ _ _ _ _
     (then1 .if1 .taken) (after-add-columns .add-columns .ensures)
 
 add-columns-requires-2 : tie.Need-add-columns-requires-2
@@ -78,9 +79,10 @@ returns-2 c =
     let after-add-columns3 = c .before .before in
     let after-add-columns2 = to-add-columns2 (after-add-columns3 .before) in
     let then2 = to-then2 after-add-columns2 in
-    let after-wide16 = then2 .before .before .before in
+    let after-kind = then2 .before .before in
+    let after-wide16 = after-kind .before in
     let start = after-wide16 .before .before .before in
-    storage-added _ _ _ _ _ _ _ (start .pre .0) _ (after-wide16 .wide16 .result) (after-wide16 .wide16 .ensures .0) (start .pre .1) _ _ _ _ _ _ _ _ _ _
+    storage-added _ _ _ _ _ _ _ (start .pre .0) _ (after-wide16 .wide16 .result) (after-wide16 .wide16 .ensures .0) (start .pre .1) _ (after-kind .kind .ensures) _ _ _ _ _ _ _ _ _ _
     (then2 .if2 .taken) (after-add-columns2 .add-columns2 .ensures) (after-add-columns3 .add-columns3 .ensures)
 
 add-columns-requires-4 : tie.Need-add-columns-requires-4
@@ -94,9 +96,10 @@ returns-3 c =
     let after-add-columns4 = c .before .before in
     let else2 = to-else2 after-add-columns4 in
     let else1 = else2 .before in
-    let after-wide16 = else1 .before .before in
+    let after-kind = else1 .before in
+    let after-wide16 = after-kind .before in
     let start = after-wide16 .before .before .before in
-    outgoing-added _ _ _ _ _ _ _ (start .pre .0) _ (after-wide16 .wide16 .result) (after-wide16 .wide16 .ensures .0) (start .pre .1) _ _ _ _ _ _ _
+    outgoing-added _ _ _ _ _ _ _ (start .pre .0) _ (after-wide16 .wide16 .result) (after-wide16 .wide16 .ensures .0) (start .pre .1) _ (after-kind .kind .ensures) _ _ _ _ _ _ _
     (else1 .if1 .left) (else2 .if2 .left) (after-add-columns4 .add-columns4 .ensures)
 
 pub add-node-spec : {M : Type 1} → statement M
@@ -104,9 +107,7 @@ add-node-spec =
     tie.close
     (tie.spec
     (λ c κs. search needs)
-    (λ c. search needs)
-    (λ c. search needs)
-    (λ c. search needs)
+    (λ c κs. search needs)
     (λ c. search needs)
     (λ c. search needs)
     add-columns-requires

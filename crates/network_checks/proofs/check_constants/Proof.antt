@@ -12,45 +12,37 @@ use borrow.Author.Needs.{needs}
 use Rattle.network_checks.proofs.check_constants.Statement.{statement}
 use Rattle.network_checks.proofs.check_constants.Tie as tie
 
-mul-mark-exclusive : tie.Need-mul-mark-exclusive
-mul-mark-exclusive c =
-    omega (arith, c .before .before .pre .few-nodes)
-
-mul-mark-exclusive-2 : tie.Need-mul-mark-exclusive-2
-mul-mark-exclusive-2 c =
-    omega (arith, c .before .before .before .pre .few-edges)
-
-add-mark-exclusive : tie.Need-add-mark-exclusive
-add-mark-exclusive c =
-    omega (arith, c .before .before .before .pre .few-nodes, c .before .before .before .pre .few-edges)
-
 -- from a place to an earlier one
 abbrev to-start : tie.After-exclusive → tie.Start
 to-start c =
-    let after-shared-slice-known = c .before .before .before in
-    after-shared-slice-known .before
+    let after-edges-end = c .before in
+    after-edges-end .before .before
+
+edges-end-requires : tie.Need-edges-end-requires
+edges-end-requires c κs =
+    omega (arith, c .before .pre .few-nodes, c .before .pre .few-edges)
 
 mark-exclusive-requires : tie.Need-mark-exclusive-requires
 mark-exclusive-requires c κs =
     let start = to-start c in
-    (fixed-within _ _ _ _ _ _ (start .pre), λ k lt. aggregate-more _ _ _ _ (start .pre .few-nodes) (aggregate-accepted _ _ _ _ _ _ (start .pre) k lt))
+    rw (c .before .edges-end .ensures) (fixed-within _ _ _ _ _ _ (start .pre), λ k lt. aggregate-more _ _ _ _ (start .pre .few-nodes) (aggregate-accepted _ _ _ _ _ _ (start .pre) k lt))
 
 first-bad-constant-requires : tie.Need-first-bad-constant-requires
 unfolding networkAt
 first-bad-constant-requires c κs =
-    let start = to-start (c .before .before) in (
+    let after-exclusive = c .before .before in
+    let start = to-start after-exclusive in
+    let marked = rw (after-exclusive .before .edges-end .ensures) at (c .before .mark-exclusive .ensures) in (
       start .pre .few-nodes,
       node-accepted _ _ _ _ _ _ (start .pre),
-      λ i lt. ap (λ (marks : List Bool). getD marks i false) (c .before .mark-exclusive .ensures) ∙ exclusive-marked _ 256 i (omega (arith, lt, start .pre .few-nodes)),
+      λ i lt. ap (λ (marks : List Bool). getD marks i false) marked ∙ exclusive-marked _ 256 i (omega (arith, lt, start .pre .few-nodes)),
     )
 
 pub check-constants-spec : {M : Type 1} → statement M
 check-constants-spec =
     tie.close
     (tie.spec
-    mul-mark-exclusive
-    mul-mark-exclusive-2
-    add-mark-exclusive
+    edges-end-requires
     mark-exclusive-requires
     first-bad-constant-requires
     (λ c. search needs))

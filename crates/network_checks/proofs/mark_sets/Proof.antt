@@ -22,37 +22,42 @@ Inv-loop s at marks₀ count here₀ i₀ marks here i =
 abbrev μ-loop : tie.MeasureT-loop
 μ-loop s at marks₀ count here₀ i₀ marks here i = count - i
 
+-- from a place to an earlier one
+abbrev to-start : tie.At-loop Inv-loop μ-loop → tie.Start Inv-loop μ-loop
+to-start c =
+    let after-set-count = c .before .before in
+    after-set-count .before .before
+
 set-count-requires : tie.Need-set-count-requires Inv-loop μ-loop
 set-count-requires c κs =
     fields-within _ _ _ (c .before .pre)
 
-add-here : tie.Need-add-here Inv-loop μ-loop
-add-here c =
+sets-at-requires : tie.Need-sets-at-requires Inv-loop μ-loop
+sets-at-requires c κs =
     omega (arith, fields-within (c .before .before .args .s .now) 256 (c .before .before .args .at) (c .before .before .pre))
 
 loop-holds : tie.Need-loop-holds Inv-loop μ-loop
 unfolding recordsEnd
 loop-holds c =
-    (search needs, search needs, rw (sub-zero, c .set-count .ensures .0))
+    (search needs, c .sets-at .ensures, rw (sub-zero, c .sets-at .ensures, c .before .set-count .ensures .0))
 
 mark-set-requires : tie.Need-mark-set-requires Inv-loop μ-loop
 mark-set-requires c κs =
-    let after-set-count = c .before .before .before in
-    let start = after-set-count .before .before in
+    let start = to-start (c .before .before) in
     subst (SetPassed (start .args .s .now) 256) (sym (c .before .before .loop .inv .1)) (start .pre .sets _ (omega arith))
 
 set-end-requires : tie.Need-set-end-requires Inv-loop μ-loop
 set-end-requires c κs =
     let at-loop = c .before .before .before in
-    let start = at-loop .before .before .before in
-    let h = subst (SetPassed (start .args .s .now) 256) (sym (c .before .before .before .loop .inv .1)) (start .pre .sets _ (omega arith)) in
+    let start = to-start at-loop in
+    let h = subst (SetPassed (start .args .s .now) 256) (sym (at-loop .loop .inv .1)) (start .pre .sets _ (omega arith)) in
     omega (arith, h .within)
 
 loop-again : tie.Need-loop-again Inv-loop μ-loop
 loop-again c =
     let in-loop = c .before .before .before in
     let at-loop = in-loop .before in
-    let start = at-loop .before .before .before in (
+    let start = to-start at-loop in (
       search needs,
       c .set-end .ensures ∙ ap (setEnd (start .args .s .now)) (at-loop .loop .inv .1) ∙ sym (end-more (setEnd (start .args .s .now)) _ _),
       at-loop .loop .inv .2 ∙ mark-one-set (start .args .s .now) _ _ _ (at-loop .loop .marks) (c .before .before .before .loop-test .taken) ∙ rw (c .set-end .ensures, c .before .mark-set .ensures),
@@ -61,10 +66,10 @@ loop-again c =
 returns : tie.Need-returns Inv-loop μ-loop
 unfolding markSets
 returns c =
-    let after-shared-slice-known = c .before .before .before in
-    let start = after-shared-slice-known .before in (
+    let after-set-count = c .before .before .before in
+    let start = to-start (c .before) in (
       c .before .loop .inv .1 ∙ ap (λ (k : ℕ). recordsEnd (setEnd (start .args .s .now)) k (start .args .at + 12))
-          (let q : c .before .loop .i ≡ c .before .before .set-count .result = omega arith in q ∙ c .before .before .set-count .ensures .0),
+          (let q : c .before .loop .i ≡ after-set-count .set-count .result = omega arith in q ∙ after-set-count .set-count .ensures .0),
       sym (c .before .loop .inv .2 ∙ rw (records-over (setEnd (start .args .s .now)) _ _ _ (c .loop-test .left) (setAt (start .args .s .now)))),
     )
 
@@ -75,7 +80,7 @@ mark-sets-spec =
     Inv-loop
     μ-loop
     set-count-requires
-    add-here
+    sets-at-requires
     loop-holds
     mark-set-requires
     set-end-requires
