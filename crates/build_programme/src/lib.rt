@@ -17,8 +17,7 @@ use layout::MEMBERSHIP_CEILING;
 use layout::NODE_CEILING;
 use layout::SET_CEILING;
 use network::Loaded;
-use network_edge::FROM_OFFSET;
-use network_edge::TO_OFFSET;
+use network_edge::End;
 use network_record::Counts;
 use pywr::Sentinel;
 
@@ -91,12 +90,12 @@ fn assemble_columns(
     let mut first_out = [0u16; NODE_CEILING];
     let mut next_out = [0u16; EDGE_CEILING];
     let mut edge_to_col = [0u16; EDGE_CEILING];
-    build_incident_edges::list_edges(s, c.nodes, c.edges, TO_OFFSET, &mut first_in, &mut next_in);
+    build_incident_edges::list_edges(s, c.nodes, c.edges, End::To, &mut first_in, &mut next_in);
     build_incident_edges::list_edges(
         s,
         c.nodes,
         c.edges,
-        FROM_OFFSET,
+        End::From,
         &mut first_out,
         &mut next_out,
     );

@@ -1,6 +1,4 @@
 -- `build_programme::assemble_columns` meets its contract. Assumes nothing.
-use mathlib.Core.Path.{_≡_, refl}
-use mathlib.Core.Logic.{inl, inr}
 use native.Mathlib.Omega.{arith}
 use Rattle.build_incident_edges.proofs.PassedEdges.{from-under, to-under}
 use Rattle.build_programme.proofs.Columns.{mapped-so}
@@ -28,12 +26,12 @@ to-map-edges c =
 list-edges-requires : tie.Need-list-edges-requires
 list-edges-requires c κs =
     let s = to-start c .pre .1 in
-    (s .few-nodes, s .few-edges, omega (arith, s .fixed, s .inside), inr refl, λ e h. to-under _ _ _ (s .edges-pass) e h)
+    (s .few-nodes, s .few-edges, omega (arith, s .fixed, s .inside), λ e h. to-under _ _ _ (s .edges-pass) e h)
 
 list-edges-requires-2 : tie.Need-list-edges-requires-2
 list-edges-requires-2 c κs =
     let s = to-start (c .before .before .before) .pre .1 in
-    (s .few-nodes, s .few-edges, omega (arith, s .fixed, s .inside), inl refl, λ e h. from-under _ _ _ (s .edges-pass) e h)
+    (s .few-nodes, s .few-edges, omega (arith, s .fixed, s .inside), λ e h. from-under _ _ _ (s .edges-pass) e h)
 
 map-edges-requires : tie.Need-map-edges-requires
 map-edges-requires c κs =
