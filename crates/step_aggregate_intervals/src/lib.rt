@@ -20,9 +20,11 @@ pub fn find_aggregate_intervals(file: &[u8], shape: &[u16], work: &mut [f64])
     let aggregates = wide16(shape[AGGREGATE_COUNT_AT]);
     let mut i: usize = 0;
     while i < aggregates {
+        let lower = step_fields::aggregate_lower(file, nodes, i);
+        let upper = step_fields::aggregate_upper(file, nodes, i);
         let k = AGGREGATES_HELD_AT + i;
-        work[k] = step_fields::aggregate_lower(file, nodes, i);
-        work[UPPERS_AT + k] = step_fields::aggregate_upper(file, nodes, i);
+        work[k] = lower;
+        work[UPPERS_AT + k] = upper;
         i += 1;
     }
 }

@@ -30,9 +30,9 @@ unfolding aggregateNumbered aggregateStepAt
 loop-again c =
     let in-loop = c .before .before in
     let at-loop = in-loop .before in
-    let after-wide = at-loop .before .before .before in
+    let after-wide16 = at-loop .before .before .before in
     writing-more _ (record { lower = c .before .aggregate-lower .result; upper = c .aggregate-upper .result }) refl (search needs) (search needs) (in-loop .loop-test .taken)
-    (rw (c .before .aggregate-lower .ensures, c .aggregate-upper .ensures, after-wide .wide16 .ensures .0)) (at-loop .loop .inv)
+    (rw (c .before .aggregate-lower .ensures, c .aggregate-upper .ensures, after-wide16 .wide16 .ensures .0)) (at-loop .loop .inv)
 
 same-length : tie.Need-same-length Inv-loop μ-loop
 same-length c =
@@ -53,11 +53,11 @@ find-aggregate-intervals-spec =
     (λ c. search needs)
     (λ c κs. search needs)
     loop-holds
-    (λ c. search needs)
+    (λ c κs. search needs)
     (λ c κs. search needs)
     (λ c. search needs)
     (λ c. search needs)
-    (λ c κs. search needs)
+    (λ c. search needs)
     (λ c. search needs)
     (λ c. search needs)
     slice-write-work-2
