@@ -51,7 +51,7 @@ def tightened(held, by):  # larger lower, smaller upper
 
 def read_step(nodes, aggregates, storages, data):
     # (kind, constant) of each node, the other counts and a file: its date, days, and the fields of its records, or Refused(number, place).
-    # 15 is said of no file: minus a number that is at least 0, over days, is not over one that is at least 0, over days
+    # 15 is retired: minus a number that is at least 0, over days, is not over one that is at least 0, over days
     at = place = 0
 
     def mark(letters):

@@ -17,8 +17,8 @@
  * A run may be longer. What lies beyond the counts is left as it was. A refused call leaves the store as it was, byte for byte.
  *
  * An answer is a number, 0 where the call is accepted, and a place. pywr_refusal_text has the words of each number, pywr_place_text what
- * its place is. 1 to 11 are for the modeller (pywr_build), 12 to 15 for the data feed (pywr_step), 16 to 18 for the calling program: 16 from
- * any call, 17 from pywr_step and pywr_row, 18 from pywr_row.
+ * its place is. 1 to 11 are for the modeller (pywr_build), 12 to 14 for the data feed (pywr_step), 16 to 18 for the calling program: 16 from
+ * any call, 17 from pywr_step and pywr_row, 18 from pywr_row. 15: retired, never answered.
  */
 #ifndef PYWR_H
 #define PYWR_H
@@ -78,7 +78,7 @@ PywrAnswer pywr_build(
     uint32_t *row_starts, size_t row_starts_length, uint16_t *shape, size_t shape_length,
     uint16_t *words, size_t words_length, double *numbers, size_t numbers_length);
 
-/* Writes a step file's costs, bounds and coefficients into a built store, or refuses with 12 to 17. */
+/* Writes a step file's costs, bounds and coefficients into a built store, or refuses with 12 to 14, 16 or 17. */
 PywrAnswer pywr_step(
     const uint8_t *file, size_t file_length,
     const double *col_lower, size_t col_lower_length, const double *col_upper, size_t col_upper_length,
@@ -117,7 +117,7 @@ static inline const char *pywr_refusal_text(uint64_t number)
     case 12: return "step file short, wrongly marked, or with bytes left over";
     case 13: return "value outside its range, or NaN";
     case 14: return "varying node's lower over upper";
-    case 15: return "virtual storage's lower over upper";
+    case 15: return "retired, never answered";
     case 16: return "a buffer of store, work or output under the length its ceilings need";
     case 17: return "store misshapen";
     case 18: return "row not under the count";
@@ -131,7 +131,6 @@ static inline const char *pywr_place_text(uint64_t number)
     switch (number) {
     case 1: case 2: case 3: case 4: case 5: case 6: case 12: case 13: return "byte";
     case 8: case 9: case 10: case 14: return "node";
-    case 15: return "virtual storage";
     case 18: return "row";
     default: return "";
     }

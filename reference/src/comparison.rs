@@ -1,7 +1,7 @@
 //! Runs the port beside the reference on one case.
 use crate::generate::Case;
 use crate::port::{Answer, Port};
-use crate::{Reference, Refusal, Sentinel};
+use crate::{RETIRED, Reference, Refusal, Sentinel};
 
 /// How often each answer came: at 0 accepted, at n refused with number n.
 #[derive(Debug, Clone, Copy, Default)]
@@ -41,6 +41,22 @@ pub struct Tally {
     pub steps_compared: u64,
 }
 
+impl Tally {
+    /// Counts the Rust's answer to a step. The retired number is an error, with a port or without.
+    pub fn count_step(&mut self, answer: Result<(), Refusal>) -> Result<(), String> {
+        self.steps.count(answer);
+        match answer {
+            Err(refusal) if refusal.number == RETIRED => Err(format!("the Rust answers {refusal}, which is retired")),
+            _ => Ok(()),
+        }
+    }
+
+    /// How often the Rust reached the retired number.
+    pub fn retired(&self) -> u64 {
+        self.steps.of(RETIRED as usize)
+    }
+}
+
 /// Builds the case and takes its steps, with the port if there is one. An error says what differs.
 pub fn compare(case: &Case, port: &mut Option<Box<dyn Port>>, tally: &mut Tally) -> Result<(), String> {
     let Some(port) = port.as_deref_mut() else {
@@ -68,7 +84,7 @@ pub fn compare(case: &Case, port: &mut Option<Box<dyn Port>>, tally: &mut Tally)
 fn compare_steps(case: &Case, reference: &mut Reference, port: &mut dyn Port, tally: &mut Tally) -> Result<(), String> {
     for (k, step) in case.steps.iter().enumerate() {
         let answer = reference.step(step);
-        tally.steps.count(answer);
+        tally.count_step(answer).map_err(|e| format!("step {k}: {e}"))?;
         if port.has_steps() {
             tally.steps_compared += 1;
             let same = same_answer(answer, port.step(step)).and_then(|()| same_programme(reference, port));
@@ -82,8 +98,8 @@ fn run_alone(case: &Case, sentinel: Sentinel, tally: &mut Tally) -> Result<(), S
     let build = Reference::build(&case.network, sentinel);
     tally.builds.count(build.as_ref().map(|_| ()).map_err(|r| *r));
     if let Ok(mut reference) = build {
-        for step in &case.steps {
-            tally.steps.count(reference.step(step));
+        for (k, step) in case.steps.iter().enumerate() {
+            tally.count_step(reference.step(step)).map_err(|e| format!("step {k}: {e}"))?;
         }
     }
     Ok(())

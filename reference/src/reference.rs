@@ -2,7 +2,7 @@
 use crate::ceilings;
 use crate::programme::Programme;
 use crate::solver::{InOrder, Solver, Unaltered};
-use crate::{NetworkFile, Refusal, Sentinel, step_file};
+use crate::{NetworkFile, RETIRED, Refusal, Sentinel, step_file};
 use pywr_core::network::Network;
 use pywr_core::solvers::SolverSolveError;
 
@@ -40,7 +40,7 @@ impl Reference {
         built
     }
 
-    /// Refusals 12 and 13 by the file, 14 and 15 by the Rust. A refused step leaves the programme as it was.
+    /// Refusals 12 and 13 by the file, 14 by the Rust. A refused step leaves the programme as it was.
     pub fn step(&mut self, file: &[u8]) -> Result<(), Refusal> {
         let (timestep, state) = step_file::read(&self.file, file)?;
         let trial = self.trial.get_or_insert_with(|| InOrder::create(&self.network, self.high).unwrap());
@@ -70,11 +70,11 @@ impl Reference {
     }
 }
 
-/// Names are numbers.
-fn refusal(error: SolverSolveError) -> Refusal {
+/// The Rust's refusal of a step, `RETIRED` with the others. Names are numbers.
+pub fn refusal(error: SolverSolveError) -> Refusal {
     match error {
         SolverSolveError::NodeBoundsInfeasible { name, .. } => Refusal::new(14, name.parse().unwrap()),
-        SolverSolveError::VirtualStorageBoundsInfeasible { name, .. } => Refusal::new(15, name.parse().unwrap()),
+        SolverSolveError::VirtualStorageBoundsInfeasible { name, .. } => Refusal::new(RETIRED, name.parse().unwrap()),
         other => panic!("the Rust refuses a step for another reason: {other}"),
     }
 }

@@ -1,7 +1,13 @@
-//! Refusals 12 to 14 of a step file, their order, and the programme after them.
+//! Refusals 12 to 14 of a step file, their order, and the programme after them; and the Rust's own 15, which no step file reaches.
 mod records;
 
-use pywr_reference::{Reference, Refusal, Sentinel};
+use pywr_core::civil::DateTime;
+use pywr_core::state::{NodeNumbers, State, VirtualStorageNumbers};
+use pywr_core::timestep::Timestep;
+use pywr_reference::comparison::Tally;
+use pywr_reference::reference::refusal;
+use pywr_reference::solver::{InOrder, Solver};
+use pywr_reference::{NetworkFile, RETIRED, Reference, Refusal, Sentinel};
 use records::*;
 
 fn built(records: &[Vec<u8>]) -> Reference {
@@ -130,4 +136,39 @@ fn a_refused_step_leaves_the_programme() {
     }
     reference.step(&[day(), nb(0.0, 0.0, 5.0, 0.0), nb(0.0, 0.0, 9.0, 0.0)].concat()).unwrap();
     assert_ne!(reference.programme().to_string(), before);
+}
+
+/// Under and over the range, in a crossed range, at the limits of a volume and of the days, active or not, with either sentinel.
+#[test]
+fn no_step_file_reaches_the_retired_number() {
+    let network = [pair(), vs(None, &[(0, 1.0)]), vs(Some([6, 2, 5, 31]), &[(0, 1.0)])].concat();
+    let volumes = [-1e12, -1.0, -f64::MIN_POSITIVE, -0.0, 0.0, f64::MIN_POSITIVE, 1.0, 1e12];
+    for sentinel in [Sentinel::Infinity, Sentinel::LargestFinite] {
+        let mut reference = Reference::build(&network, sentinel).unwrap();
+        for n in 0..512 {
+            let [min, max, volume] = [volumes[n / 64], volumes[n / 8 % 8], volumes[n % 8]];
+            for days in [1.0 / 1024.0, 1.0, 366.0] {
+                let step = [st(6, 1, days), free(), free(), vb(min, max, volume), vb(min, max, volume)].concat();
+                assert_eq!(reference.step(&step), Ok(()), "min {min}, max {max}, volume {volume}, days {days}");
+            }
+        }
+    }
+}
+
+/// Days under 0, which 13 refuses of a file, reach it: the Rust's check is there, and the comparison fails where it is reached.
+#[test]
+fn the_rusts_own_check_is_counted_and_fails() {
+    let network = NetworkFile::read(&[pair(), vs(None, &[(0, 1.0)]), vs(None, &[(0, 1.0)])].concat()).unwrap().network();
+    let node = || NodeNumbers { cost: 0.0, min: 0.0, max: f64::INFINITY, volume: 0.0 };
+    let storage = |max, volume| VirtualStorageNumbers { min: 0.0, max, volume };
+    let virtual_storages = vec![storage(0.0, 0.0), storage(1.0, 0.5)];
+    let state = State { nodes: vec![node(), node()], virtual_storages, ..State::default() };
+    let mut solver = InOrder::create(&network, f64::INFINITY).unwrap();
+    let mut step = |days| solver.step(&network, &Timestep::new(DateTime::new(6, 1), days), &state).map_err(refusal);
+    let mut tally = Tally::default();
+    assert_eq!(tally.count_step(step(1.0)), Ok(()));
+    let reached = step(-1.0);
+    assert_eq!(reached, Err(Refusal::new(RETIRED, 1)));
+    assert!(tally.count_step(reached).is_err());
+    assert_eq!((tally.retired(), tally.steps.total()), (1, 2));
 }

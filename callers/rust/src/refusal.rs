@@ -15,7 +15,6 @@ pub enum Place {
     /// The offset of a record, or of the first byte left over.
     Byte,
     Node,
-    VirtualStorage,
     Row,
 }
 
@@ -36,7 +35,7 @@ const REFUSALS: [(&str, Option<Place>); 19] = [
     ("step file short, wrongly marked, or with bytes left over", Some(Place::Byte)),
     ("value outside its range, or NaN", Some(Place::Byte)),
     ("varying node's lower over upper", Some(Place::Node)),
-    ("virtual storage's lower over upper", Some(Place::VirtualStorage)),
+    ("retired, never answered", None),
     ("a buffer of store, work or output under the length its ceilings need", None),
     ("store misshapen", None),
     ("row not under the count", Some(Place::Row)),
@@ -63,7 +62,6 @@ impl Place {
         match self {
             Self::Byte => "byte",
             Self::Node => "node",
-            Self::VirtualStorage => "virtual storage",
             Self::Row => "row",
         }
     }

@@ -31,13 +31,13 @@ fn each_number_is_shown_with_its_words_and_place() {
         "12 at 5: step file short, wrongly marked, or with bytes left over, byte 5",
         "13 at 5: value outside its range, or NaN, byte 5",
         "14 at 5: varying node's lower over upper, node 5",
-        "15 at 5: virtual storage's lower over upper, virtual storage 5",
+        "15 at 0: retired, never answered",
         "16 at 0: a buffer of store, work or output under the length its ceilings need",
         "17 at 0: store misshapen",
         "18 at 5: row not under the count, row 5",
     ];
     for (text, number) in shown.iter().zip(0..) {
-        let place = if [0, 7, 11, 16, 17].contains(&number) { 0 } else { 5 };
+        let place = if [0, 7, 11, 15, 16, 17].contains(&number) { 0 } else { 5 };
         assert_eq!(Refusal { number, place }.to_string(), *text);
     }
     for number in [19, u64::MAX] {

@@ -132,7 +132,7 @@ bind-is : {A B : Type 0} (r : Result A) (k : A → Result B) (x : A) (y : Result
 unfolding _>>=_
 bind-is r k x y e f = ap (λ (q : Result _). q >>= k) e ∙ f
 
--- what a file that was read is answered: 14, 15 or the file's numbers
+-- what a file that was read is answered: 14 or the file's numbers
 unfoldable pub afterReading : (StepFile → Intervals) → Result StepFile → Result StepFile
 afterReading of r = r >>= λ f. ordered (of f) >>= λ _. value f
 
@@ -208,7 +208,7 @@ module _ (networkFile : List ℕ) (w : Sentinel) (old : Store) (words : List ℕ
   sentinel-is calls = steps-keep calls (buildStore w networkFile old words numbers) .sentinel ∙ ap (λ (s : Store). programmeIn s .sentinel) (built .store)
       ∙ held w net sound old (built .room) (built .under) .sentinel
 
-  -- "Order .. Step: 16, 17, file left to right, 14, 15": here 16 and 17 never come, so the answer is the file's alone, refusals and places too, as the network reads it
+  -- "Order .. Step: 16, 17, file left to right, 14": here 16 and 17 never come, so the answer is the file's alone, refusals and places too, as the network reads it
   pub file-answers : (calls : List Call) (file : List ℕ) (work : List Float) → workNeeded ≤ length work
       → stepAnswer (after calls) file work ≡ afterReading (intervals w (periodsOf net)) (readBy net file)
   unfolding stepIntervals

@@ -10,12 +10,14 @@ use lib.Ieee.Scale.{finite}
 use lib.Ieee.Positive.{positive}
 use Rattle.doubles.proofs.Order.{neg-num, between-finite}
 use Rattle.doubles.proofs.Rounding.{round-num}
-use Rattle.doubles.proofs.Monotone.{sub-num, div-num, raised-num, positive-between}
+use Rattle.doubles.proofs.Monotone.{sub-num, div-num, raised-num, raised-in-order, positive-between}
 use Rattle.pywr.specs.declared.Sentinel.{Sentinel}
+use Rattle.pywr.specs.declared.Sentinel.the-variants.{Infinity, Largest}
 use Rattle.pywr.specs.declared.NodeBounds.the-variants.{Flow, Volume}
-use Rattle.pywr.specs.Numbers.{double, zero64, trillion, leastDays, mostDays, greater, isFlow, isSmall, isDays, ofPattern}
-use Rattle.pywr.specs.Interval.{intervalOf, storageBounds, virtualBounds}
+use Rattle.pywr.specs.Numbers.{double, zero64, trillion, leastDays, mostDays, high, low, greater, isFlow, isSmall, isDays, ofPattern}
+use Rattle.pywr.specs.Interval.{sentinels, intervalOf, storageBounds, virtualBounds}
 use Rattle.pywr.specs.Period.{virtualInterval}
+use Rattle.pywr.specs.Uncrossed.{Uncrossed}
 use Rattle.pywr.proofs.ExactLaws.{number-of}
 use Rattle.pywr.proofs.BoundLaws.{IsBound, IsInterval}
 use Rattle.pywr.proofs.VaryingLaws.{sentinels-interval}
@@ -77,22 +79,38 @@ volume-interval days a m d p q = record { lower = div-num binary64 (neg a) days 
 less-bound : (x y : Float) → FiniteFit x → FiniteFit y → IsBound (sub binary64 x y)
 less-bound x y p q = sub-num binary64 x y (p .fit) (q .fit) (p .finite) (q .finite)
 
-pub virtual-storage-interval : (days least most now : Float) → Divisor days → FiniteFit least → FiniteFit most → FiniteFit now → IsInterval (intervalOf days (storageBounds least most now))
+pub storage-interval : (days least most now : Float) → Divisor days → FiniteFit least → FiniteFit most → FiniteFit now → IsInterval (intervalOf days (storageBounds least most now))
 unfolding storageBounds
-virtual-storage-interval days least most now d l m n = volume-interval days (sub binary64 now least) (sub binary64 most now) d (less-bound now least n l) (less-bound most now m n)
+storage-interval days least most now d l m n = volume-interval days (sub binary64 now least) (sub binary64 most now) d (less-bound now least n l) (less-bound most now m n)
 
 raised-bound : (x : Float) → IsBound x → IsBound (greater x zero64)
 unfolding greater zero64
 raised-bound x b = raised-num binary64 x b
 
+negated-bound : (x : Float) → IsBound x → IsBound (neg x)
+negated-bound x b = neg-num binary64 x b
+
+-- of doubles, in whatever order they are subtracted, negated and raised
 pub virtual-interval : (w : Sentinel) (days least most now : Float) (active : Bool) → Divisor days → FiniteFit least → FiniteFit most → FiniteFit now
     → IsInterval (virtualInterval w days active (virtualBounds least most now))
 unfolding virtualInterval virtualBounds
-virtual-interval w days least most now true d l m n =
-    volume-interval days (greater (sub binary64 now least) zero64) (greater (sub binary64 most now) zero64) d
-    (raised-bound (sub binary64 now least) (less-bound now least n l)) (raised-bound (sub binary64 most now) (less-bound most now m n))
+virtual-interval w days least most now true d l m n = volume-interval days _ _ d (search (raised-bound, negated-bound, less-bound)) (search (raised-bound, negated-bound, less-bound))
 virtual-interval w days least most now false d l m n = sentinels-interval w
 
 pub flow-interval : (days least most : Float) → IsBound least → IsBound most → IsInterval (intervalOf days (Flow least most))
 unfolding intervalOf
 flow-interval days least most bl bm = record { lower = bl; upper = bm }
+
+-- ---- a virtual storage's interval is never crossed: both volumes are raised to 0.0, and the days are above it
+
+sentinels-uncrossed : (w : Sentinel) → Uncrossed (sentinels w)
+unfolding sentinels high low le neg ofBits
+sentinels-uncrossed Infinity = tt
+sentinels-uncrossed Largest = tt
+
+pub virtual-uncrossed : (w : Sentinel) (days least most now : Float) (active : Bool) → Divisor days → FiniteFit least → FiniteFit most → FiniteFit now
+    → Uncrossed (virtualInterval w days active (virtualBounds least most now))
+unfolding virtualInterval virtualBounds intervalOf greater zero64
+virtual-uncrossed w days least most now true d l m n =
+    raised-in-order binary64 (sub binary64 now least) (sub binary64 most now) days (less-bound now least n l) (less-bound most now m n) (d .0) (d .1)
+virtual-uncrossed w days least most now false d l m n = sentinels-uncrossed w

@@ -136,20 +136,30 @@ unfolding need
 need-value true n p x y e = cc
 need-value false n p x y e = let z : _≡_ {A = ℕ} 0 1 = cc in absurd (omega arith)
 
--- an accepted file was read over the store's shape
-pub answer-read : (s : Store) (file : List ℕ) (work : List Float) (f : StepFile) → stepAnswer s file work ≡ value f
+-- a file that was read was read over the store's shape
+pub read-over-shape : (s : Store) (file : List ℕ) (work : List Float) (f : StepFile) → stepRead s file work ≡ value f
     → readStep (shapeOf s .nodes) (length (shapeOf s .aggregates)) (length (shapeOf s .virtualStorages)) file ≡ value f
-unfolding stepAnswer stepRead
-answer-read s file work f e =
-    let a = bind-value _ _ f e in
-    let b = bind-value _ _ f (a .2) in
-    let same : a .0 ≡ f = (let q = b .2 in cc) in
-    let c = bind-value _ _ (a .0) (a .1) in
-    let d = bind-value _ _ (a .0) (c .2) in
+unfolding stepRead
+read-over-shape s file work f e =
+    let c = bind-value _ _ f e in
+    let d = bind-value _ _ f (c .2) in
     let room : s ≡ c .0 = need-value _ 16 0 s (c .0) (c .1) in
     let shaped : shapeOf (c .0) ≡ d .0 = need-value _ 17 0 (shapeOf (c .0)) (d .0) (d .1) in
     let sh : shapeOf s ≡ d .0 = ap shapeOf room ∙ shaped in
-    ap (λ (p : Shape). readStep (p .nodes) (length (p .aggregates)) (length (p .virtualStorages)) file) sh ∙ d .2 ∙ ap value same
+    ap (λ (p : Shape). readStep (p .nodes) (length (p .aggregates)) (length (p .virtualStorages)) file) sh ∙ d .2
+
+-- an accepted file was read, as the one that it is answered with
+pub accepted-read : (s : Store) (file : List ℕ) (work : List Float) (f : StepFile) → stepAnswer s file work ≡ value f → stepRead s file work ≡ value f
+unfolding stepAnswer
+accepted-read s file work f e =
+    let a = bind-value _ _ f e in
+    let b = bind-value _ _ f (a .2) in
+    let same : a .0 ≡ f = (let q = b .2 in cc) in
+    a .1 ∙ ap value same
+
+pub answer-read : (s : Store) (file : List ℕ) (work : List Float) (f : StepFile) → stepAnswer s file work ≡ value f
+    → readStep (shapeOf s .nodes) (length (shapeOf s .aggregates)) (length (shapeOf s .virtualStorages)) file ≡ value f
+answer-read s file work f e = read-over-shape s file work f (accepted-read s file work f e)
 
 -- ---- the whole list
 

@@ -1,4 +1,5 @@
--- A step file that was read: every interval that the step applies is one of doubles, and there are as many as aggregates and virtual storages. Assumes nothing.
+-- A step file that was read: every interval that the step applies is one of doubles, there are as many as aggregates and virtual storages, and no virtual
+-- storage's is crossed. Assumes nothing.
 use mathlib.Core.Path.{_≡_, refl, sym, ap, _∙_, subst}
 use Prim.Native.Nat.{ℕ, zero, suc, _+_}
 use native.Mathlib.Nat.{add-zero}
@@ -23,8 +24,9 @@ use Rattle.pywr.specs.Period.{isActive, virtualInterval}
 use Rattle.pywr.specs.StepFile.{NodeStep, StepFile, readDate, isStorage, boundFits, volumeFits, boundsRead}
 use Rattle.pywr.specs.StepFile.{readNodeStep, readNodeSteps, readAggregateStep, readAggregateSteps, readVirtualStorageStep, readVirtualStorageSteps, readStep}
 use Rattle.pywr.specs.StepIntervals.{intervals, nodeInterval, nodeIntervals, virtualStorageIntervals, Intervals}
+use Rattle.pywr.specs.Uncrossed.{Uncrossed}
 use Rattle.pywr.proofs.BoundLaws.{IsInterval}
-use Rattle.pywr.proofs.NumberLaws.{flow-bound, small-is, Divisor, days-is, virtual-storage-interval, virtual-interval, flow-interval}
+use Rattle.pywr.proofs.NumberLaws.{flow-bound, small-is, Divisor, days-is, storage-interval, virtual-interval, virtual-uncrossed, flow-interval}
 use Rattle.pywr.proofs.VaryingLaws.{sentinels-interval}
 use Rattle.pywr.proofs.RunLaws.{bind-then, bind-value, need-value}
 use Rattle.pywr.proofs.ListLaws.{AllMem, all-none, all-cons, all-snoc}
@@ -49,7 +51,7 @@ bounds-ok : (c st : Bool) (min max now : ℕ) → T (c || cond st (isSmall min) 
     (cond {A = Option NodeBounds} st (some (storageBounds (ofPattern min) (ofPattern max) (ofPattern now))) (some (Flow (ofPattern min) (ofPattern max)))))
 unfolding nodeInterval
 bounds-ok true st min max now hmin hmax hnow s days d = sentinels-interval s
-bounds-ok false true min max now hmin hmax hnow s days d = virtual-storage-interval days (ofPattern min) (ofPattern max) (ofPattern now) d (small-is min hmin) (small-is max hmax) (small-is now hnow)
+bounds-ok false true min max now hmin hmax hnow s days d = storage-interval days (ofPattern min) (ofPattern max) (ofPattern now) d (small-is min hmin) (small-is max hmax) (small-is now hnow)
 bounds-ok false false min max now hmin hmax hnow s days d = flow-interval days (ofPattern min) (ofPattern max) (flow-bound min hmin) (flow-bound max hmax)
 
 abbrev pub StepOk : NodeStep → Type 0
@@ -95,19 +97,22 @@ read-aggregates file (suc count) soFar at r e h =
 
 -- ---- virtual storages
 
+-- a virtual storage's bounds give an interval that is not crossed under any step's days
 abbrev pub VolumeOk : NodeBounds → Type 0
-VolumeOk b = (s : Sentinel) (days : Float) (active : Bool) → Divisor days → IsInterval (virtualInterval s days active b)
+VolumeOk b = (s : Sentinel) (days : Float) (active : Bool) → Divisor days → IsInterval (virtualInterval s days active b) × Uncrossed (virtualInterval s days active b)
 
 read-store : (file : List ℕ) (place : ℕ) (r : NodeBounds) → readVirtualStorageStep file place ≡ value r → VolumeOk r
 unfolding readVirtualStorageStep
 read-store file place r e =
     bind-then _ _ r e (λ a a-is e. bind-then _ _ r e (λ b b-is e. bind-then _ _ r e (λ c c-is e. bind-then _ _ r e (λ d d-is e.
     subst VolumeOk (same-value _ r e)
-    (λ s days active k.
-    virtual-interval s days (ofPattern b) (ofPattern c) (ofPattern d) active k
-    (small-is b (checked-value 13 a isSmall _ b b-is))
-    (small-is c (checked-value 13 a isSmall _ c c-is))
-    (small-is d (checked-value 13 a isSmall _ d d-is)))))))
+    (let least = small-is b (checked-value 13 a isSmall _ b b-is) in
+    let most = small-is c (checked-value 13 a isSmall _ c c-is) in
+    let now = small-is d (checked-value 13 a isSmall _ d d-is) in
+    λ s days active k. (
+      virtual-interval s days (ofPattern b) (ofPattern c) (ofPattern d) active k least most now,
+      virtual-uncrossed s days (ofPattern b) (ofPattern c) (ofPattern d) active k least most now,
+    ))))))
 
 read-virtual-storages : (file : List ℕ) (count : ℕ) (soFar : List NodeBounds) (at : ℕ) (r : Read (List NodeBounds)) → readVirtualStorageSteps file count soFar at ≡ value r → AllMem VolumeOk soFar
     → AllMem VolumeOk (r .item) × (length (r .item) ≡ length soFar + count)
@@ -163,19 +168,24 @@ node-sound s days d (n ∷ ns) h =
     all-cons IsInterval _ (nodeIntervals s days ns) (h n (List·Memᴰ·head refl) s days d) (node-sound s days d ns (λ x m. h x (List·Memᴰ·tail m)))
 
 store-sound : (s : Sentinel) (f : StepFile) → Divisor (f .days) → (ps : List Period) (bs : List NodeBounds) → length ps ≡ length bs → AllMem VolumeOk bs
-    → AllMem IsInterval (virtualStorageIntervals s f ps bs) × (length (virtualStorageIntervals s f ps bs) ≡ length ps)
+    → AllMem IsInterval (virtualStorageIntervals s f ps bs) × AllMem Uncrossed (virtualStorageIntervals s f ps bs) × (length (virtualStorageIntervals s f ps bs) ≡ length ps)
 unfolding virtualStorageIntervals
-store-sound s f d [] bs l h = (all-none IsInterval, refl)
+store-sound s f d [] bs l h = (all-none IsInterval, all-none Uncrossed, refl)
 store-sound s f d (p ∷ ps) [] l h = let z : suc (length ps) ≡ 0 = l in absurd (omega arith)
 store-sound s f d (p ∷ ps) (b ∷ bs) l h =
     let ih = store-sound s f d ps bs (let z : suc (length ps) ≡ suc (length bs) = l in omega arith) (λ x m. h x (List·Memᴰ·tail m)) in
-    (all-cons IsInterval _ (virtualStorageIntervals s f ps bs) (h b (List·Memᴰ·head refl) s (f .days) (isActive p (f .month) (f .day)) d) (ih .0), ap suc (ih .1))
+    let here = h b (List·Memᴰ·head refl) s (f .days) (isActive p (f .month) (f .day)) d in (
+      all-cons IsInterval _ (virtualStorageIntervals s f ps bs) (here .0) (ih .0),
+      all-cons Uncrossed _ (virtualStorageIntervals s f ps bs) (here .1) (ih .1),
+      ap suc (ih .2),
+    )
 
 pub record IntervalsOk (aggregates virtualStorages : ℕ) (i : Intervals) : Type 0 where
   pub nodes : AllMem IsInterval (i .nodes)
   pub aggregates-are : AllMem IsInterval (i .aggregates)
   pub aggregateCount : length (i .aggregates) ≡ aggregates
   pub virtual-storages-are : AllMem IsInterval (i .virtualStorages)
+  pub virtual-storages-uncrossed : AllMem Uncrossed (i .virtualStorages)
   pub virtualStorageCount : length (i .virtualStorages) ≡ virtualStorages
 
 pub intervals-sound : (s : Sentinel) (ps : List Period) (aggregates : ℕ) (f : StepFile) → StepSound aggregates (length ps) f → IntervalsOk aggregates (length ps) (intervals s ps f)
@@ -187,5 +197,6 @@ intervals-sound s ps aggregates f ok =
       aggregates-are = ok .groups;
       aggregateCount = ok .aggregateCount;
       virtual-storages-are = v .0;
-      virtualStorageCount = v .1;
+      virtual-storages-uncrossed = v .1;
+      virtualStorageCount = v .2;
     }

@@ -87,7 +87,7 @@ stepRead store file work = do
 unfoldable pub stepIntervals : Store → StepFile → Intervals
 stepIntervals store f = intervals (programmeIn store .sentinel) (periods (shapeOf store)) f
 
--- "Step: 16, 17, file left to right, 14, 15."
+-- "Step: 16, 17, file left to right, 14"
 unfoldable pub stepAnswer : Store → List ℕ → List Float → Result StepFile
 stepAnswer store file work = do
   f ← stepRead store file work

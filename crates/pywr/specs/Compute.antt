@@ -39,7 +39,7 @@ use Rattle.pywr.specs.Allows.{nodeMeets, aggregateMeets, virtualStorageM
 use Rattle.pywr.specs.Admits.{admits, carried, equalInColumn, onColumn, rowSum, rowMet, columnMet}
 use Rattle.pywr.specs.Correspondence.{storeAfter, reports, lastAccepted, periodsOf, readBy, allowsRead, allowsUnder}
 use Rattle.pywr.specs.Correspondence.{networkAllows, programmeAdmits, exclusiveConstant, isWhole, factorsWhole, anyAccepted}
-use Rattle.pywr.specs.FileBytes.{w16, w32, w64, varying, constant, edge, setBytes, exclusive, date, nodeStep, aggregateStep}
+use Rattle.pywr.specs.FileBytes.{w16, w32, w64, varying, constant, edge, setBytes, exclusive, virtualStorage, date, nodeStep, aggregateStep, virtualStorageStep}
 
 -- the doubles
 unfoldable pub rounding : ℕ
@@ -93,7 +93,7 @@ planning = 0
 
 -- the bytes of files
 unfoldable pub writing : ℕ
-unfolding flatMap w16 w32 w64 varying constant edge setBytes exclusive date nodeStep aggregateStep
+unfolding flatMap w16 w32 w64 varying constant edge setBytes exclusive virtualStorage date nodeStep aggregateStep virtualStorageStep
 writing = 0
 
 unfoldable pub computing : ℕ

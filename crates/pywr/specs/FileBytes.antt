@@ -32,7 +32,11 @@ setBytes set = length set ∷ flatMap w16 set
 unfoldable pub exclusive : ℕ → ℕ → List (List ℕ) → List ℕ
 exclusive least most sets = 65 ∷ 71 ∷ 1 ∷ length sets ∷ w32 least ++ w32 most ++ flatMap setBytes sets
 
--- the records of a step file: `ST`, `NB`, `GB`
+-- a virtual storage of one node; a period is five bytes, 0 throughout for always
+unfoldable pub virtualStorage : List ℕ → ℕ → Float → List ℕ
+virtualStorage period node factor = 86 ∷ 83 ∷ period ++ 1 ∷ w16 node ++ w64 factor
+
+-- the records of a step file: `ST`, `NB`, `GB`, `VB`
 unfoldable pub date : ℕ → ℕ → Float → List ℕ
 date month day days = 83 ∷ 84 ∷ month ∷ day ∷ w64 days
 
@@ -41,3 +45,6 @@ nodeStep cost min max volume = 78 ∷ 66 ∷ w64 cost ++ w64 min ++ w64 max ++ w
 
 unfoldable pub aggregateStep : Float → Float → List ℕ
 aggregateStep lower upper = 71 ∷ 66 ∷ w64 lower ++ w64 upper
+
+unfoldable pub virtualStorageStep : Float → Float → Float → List ℕ
+virtualStorageStep min max volume = 86 ∷ 66 ∷ w64 min ++ w64 max ++ w64 volume

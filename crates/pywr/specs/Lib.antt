@@ -22,6 +22,7 @@ pub mod Store
 pub mod Misshapen
 pub mod Written
 pub mod Calls
+pub mod Uncrossed
 pub mod Plans
 pub mod Allows
 pub mod Admits

@@ -1,4 +1,4 @@
--- The intervals that a step file gives, and 14 and 15. Assumes nothing.
+-- The intervals that a step file gives, and 14. Assumes nothing.
 use Prim.Native.Nat.{ℕ, suc}
 use mathlib.Core.List.{List, [], _∷_}
 use mathlib.Core.Bool.{Bool, true, false}
@@ -7,7 +7,7 @@ use lib.Ieee.{Float, lt}
 use Rattle.pywr.specs.declared.Sentinel.{Sentinel}
 use Rattle.pywr.specs.declared.Interval.{Interval}
 use Rattle.pywr.specs.declared.NodeBounds.{NodeBounds}
-use Rattle.pywr.specs.Result.{value, Result, refused, _>>=_}
+use Rattle.pywr.specs.Result.{value, Result, refused}
 use Rattle.pywr.specs.Network.{Period}
 use Rattle.pywr.specs.Interval.{sentinels, intervalOf}
 use Rattle.pywr.specs.Period.{isActive, virtualInterval}
@@ -57,8 +57,7 @@ unfoldable pub unless : {A : Type 0} → ℕ → Option ℕ → A → Result A
 unless number none x = value x
 unless number (some place) x = refused number place
 
--- 14 "varying node's lower over upper (node)"; 15 "the same for a virtual storage (its index)". "Aggregate intervals aren't compared lower to upper."
+-- 14 "varying node's lower over upper (node)". "Aggregate intervals aren't compared lower to upper."
+-- Nor are virtual storages': "drop the check and leave the number unused" (15; see Uncrossed)
 unfoldable pub ordered : Intervals → Result Intervals
-ordered intervals = do
-  nodesOrdered ← unless 14 (firstCrossed 0 (intervals .nodes)) intervals
-  unless 15 (firstCrossed 0 (nodesOrdered .virtualStorages)) nodesOrdered
+ordered intervals = unless 14 (firstCrossed 0 (intervals .nodes)) intervals

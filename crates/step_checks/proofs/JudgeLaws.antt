@@ -1,4 +1,4 @@
--- Judging a step file: 17, then 12 and 13, then 14 and 15; and what an accepted file has. Assumes nothing.
+-- Judging a step file: 17, then 12 and 13, then 14; and what an accepted file has. Assumes nothing.
 use mathlib.Core.Path.{_≡_, refl, sym, _∙_, ap}
 use Prim.Native.Nat.{ℕ, _≤_}
 use native.Mathlib.Omega.{arith}
@@ -104,7 +104,7 @@ module _ (s : Store) (file : List ℕ) (work : List Float) where
           let v = entries-length (virtualStorageEntry s) 6 virtualStoragesAt (virtualStorageCount s) in
           omega (arith, l, n, a, v)
 
-      -- 14, 15, or accepted
+      -- 14, or accepted
       pub judged-intervals : (r : Answer) → r ≡ answerOf (ordered (stepIntervals s (decodedBy s file)))
           → (r ≡ Accepted → IntervalsHeld (nodeCount s) (aggregateCount s) (virtualStorageCount s) work (stepIntervals s (decodedBy s file)))
           → Judged s file r work

@@ -12,7 +12,6 @@ use Rattle.pywr.specs.declared.Answer.the-variants.{Accepted, Refused}
 use Rattle.pywr.specs.declared.Interval.{Interval}
 use Rattle.pywr.specs.declared.Sentinel.{Sentinel}
 use Rattle.pywr.specs.Answers.{answerOf}
-use Rattle.pywr.specs.Result.{Result, _>>=_}
 use Rattle.pywr.specs.StepIntervals.{Intervals, firstCrossed, unless, ordered}
 use Rattle.pywr.specs.Store.{Store, word, nodeCount, aggregateCount, virtualStorageCount, sentinelOf, entries}
 use Rattle.step_file.specs.Decoded.{f64At}
@@ -25,21 +24,10 @@ use Rattle.step_intervals.specs.Found.{intervalsIn, Found}
 use Rattle.store_shape.proofs.EntryLaws.{entries-same}
 use Rattle.step_intervals.proofs.IntervalLaws.{nodes-are, aggregates-are, virtual-storages-are}
 
-refuses : (o : Option ℕ) (i : Intervals) (next : Intervals → Result Intervals) (r : Answer) (number place : ℕ) → r ≡ crossedAnswer 14 o → r ≡ Refused number place
-    → Refused number place ≡ answerOf (unless 14 o i >>= next)
-unfolding crossedAnswer unless _>>=_ answerOf
-refuses none i next r number place e f = absurd (let z : _≡_ {A = ℕ} 0 1 = cc in omega arith)
-refuses (some p) i next r number place e f = sym f ∙ e
-
-passes : (o : Option ℕ) (r : Answer) → r ≡ crossedAnswer 14 o → r ≡ Accepted → o ≡ none
-unfolding crossedAnswer
-passes none r e f = refl
-passes (some p) r e f = absurd (let z : _≡_ {A = ℕ} 0 1 = cc in omega arith)
-
-answers : (o : Option ℕ) (i : Intervals) → crossedAnswer 15 o ≡ answerOf (unless 15 o i)
+answers : (o : Option ℕ) (i : Intervals) → crossedAnswer 14 o ≡ answerOf (unless 14 o i)
 unfolding crossedAnswer unless answerOf
 answers none i = refl
-answers (some p) i = refl
+answers (some place) i = refl
 
 -- held from a base as f numbers them
 holds : (work : List Float) (f : ℕ → Interval) (base count : ℕ) → ((k : ℕ) → k < count → heldAt work (base + k) ≡ f k) → heldFrom work base count ≡ entries f 1 0 count
@@ -53,29 +41,31 @@ module _ (s : Store) (shape file : List ℕ) (e : s .shape ≡ shape) (days : Fl
   nodes-looked : Looked 14 (nodeNumbered (sentinelOf (word s 0)) (f64At file 4) (s .shape) file) 0 (nodeCount s) w₀ r₁ w₁
   nodes-looked = rw (of-days, kept, ← e) at one
 
-  nodes-answer : r₁ ≡ crossedAnswer 14 (firstCrossed 0 (intervalsIn s file .nodes))
-  nodes-answer = rw (nodes-are s file) (nodes-looked .answer)
+  -- the nodes alone are asked
+  nodes-answer : r₁ ≡ answerOf (ordered (intervalsIn s file))
+  unfolding ordered
+  nodes-answer =
+      rw (nodes-are s file) (nodes-looked .answer) ∙ answers (firstCrossed 0 (intervalsIn s file .nodes)) (intervalsIn s file)
 
   pub nodes-refuse : (number place : ℕ) → r₁ ≡ Refused number place → Found s file (Refused number place) w₁
-  unfolding ordered
   nodes-refuse number place is =
       record {
-        answer = refuses (firstCrossed 0 (intervalsIn s file .nodes)) (intervalsIn s file) (λ a. unless 15 (firstCrossed 0 (a .virtualStorages)) a) r₁ number place nodes-answer is;
+        answer = sym is ∙ nodes-answer;
         held = λ a. absurd (let z : _≡_ {A = ℕ} 0 1 = cc in omega arith);
       }
 
   module _ (few-nodes : getD shape 1 0 ≤ 256) (few-aggregates : getD shape 9 0 ≤ 64) (accepted : r₁ ≡ Accepted)
-      (w₂ w₃ : List Float) (r₂ : Answer) (two : Written (aggregateNumbered shape file) 256 (getD shape 9 0) w₁ w₂)
-      (three : Looked 15 (virtualStorageNumbered sentinel days shape file) virtualStoragesHeldAt (getD shape 10 0) w₂ r₂ w₃) where
-    virtual-storages-looked : Looked 15 (virtualStorageNumbered (sentinelOf (word s 0)) (f64At file 4) (s .shape) file) virtualStoragesHeldAt (virtualStorageCount s) w₂ r₂ w₃
-    virtual-storages-looked = rw (of-days, kept, ← e) at three
+      (w₂ w₃ : List Float) (two : Written (aggregateNumbered shape file) 256 (getD shape 9 0) w₁ w₂)
+      (three : Written (virtualStorageNumbered sentinel days shape file) virtualStoragesHeldAt (getD shape 10 0) w₂ w₃) where
+    virtual-storages-written : Written (virtualStorageNumbered (sentinelOf (word s 0)) (f64At file 4) (s .shape) file) virtualStoragesHeldAt (virtualStorageCount s) w₂ w₃
+    virtual-storages-written = rw (of-days, kept, ← e) at three
 
     aggregates-written : Written (aggregateNumbered (s .shape) file) 256 (aggregateCount s) w₁ w₂
     aggregates-written = rw (← e) at two
 
-    all-held : r₂ ≡ Accepted → IntervalsHeld (nodeCount s) (aggregateCount s) (virtualStorageCount s) w₃ (intervalsIn s file)
-    all-held a =
-        let v = virtual-storages-looked .written a in
+    all-held : IntervalsHeld (nodeCount s) (aggregateCount s) (virtualStorageCount s) w₃ (intervalsIn s file)
+    all-held =
+        let v = virtual-storages-written in
         let n = nodes-looked .written accepted in
         record {
           nodes-are = holds w₃ (nodeNumbered (sentinelOf (word s 0)) (f64At file 4) (s .shape) file) 0 (nodeCount s)
@@ -88,12 +78,5 @@ module _ (s : Store) (shape file : List ℕ) (e : s .shape ≡ shape) (days : Fl
               (virtualStorageCount s) (v .held) ∙ sym (virtual-storages-are s file);
         }
 
-    pub all-found : Found s file r₂ w₃
-    unfolding ordered unless _>>=_
-    all-found =
-        let none-crossed = passes (firstCrossed 0 (intervalsIn s file .nodes)) r₁ nodes-answer accepted in
-        let last : r₂ ≡ crossedAnswer 15 (firstCrossed 0 (intervalsIn s file .virtualStorages)) = rw (virtual-storages-are s file) (virtual-storages-looked .answer) in
-        record {
-          answer = last ∙ answers (firstCrossed 0 (intervalsIn s file .virtualStorages)) (intervalsIn s file) ∙ sym (rw none-crossed);
-          held = all-held;
-        }
+    pub all-found : Found s file Accepted w₃
+    all-found = record { answer = sym accepted ∙ nodes-answer; held = λ a. all-held }

@@ -1,4 +1,4 @@
-// The intervals of a step, written into the lent work run, and refusals 14 and 15.
+// The intervals of a step, written into the lent work run, and refusal 14.
 use pywr::Answer;
 ghost use mathlib.Core.Path.{_≡_};
 ghost use Prim.Native.Nat.{_≤_};
@@ -28,7 +28,8 @@ pub fn find_intervals(file: &[u8], shape: &[u16], work: &mut [f64]) -> Answer
                 days,
                 sentinel,
                 work,
-            )
+            );
+            Answer::Accepted
         }
     }
 }

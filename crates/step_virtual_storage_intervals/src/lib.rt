@@ -1,4 +1,4 @@
-// The virtual storages' intervals of a step, written into the lent work run, and refusal 15.
+// The virtual storages' intervals of a step, written into the lent work run. They are not compared: none is crossed (pywr's UncrossedLaws).
 use layout::AGGREGATE_COUNT_AT;
 use layout::NODE_COUNT_AT;
 use layout::UPPERS_AT;
@@ -6,30 +6,27 @@ use layout::VIRTUAL_STORAGE_COUNT_AT;
 use layout::VIRTUAL_STORAGE_WIDTH;
 use layout::VIRTUAL_STORAGES_AT;
 use layout::VIRTUAL_STORAGES_HELD_AT;
-use pywr::Answer;
 use pywr::Sentinel;
 use widths::wide16;
-ghost use mathlib.Core.Path.{_≡_};
 ghost use Prim.Native.Nat.{_≤_};
 ghost use lib.ListN.{length};
 ghost use Rattle.layout.specs.Layout.{nodeCeiling, aggregateCeiling, virtualStorageCeiling, shapeLength, nodesIn, aggregatesIn, virtualStoragesIn, virtualStoragesHeldAt, stepWorkLength};
 ghost use Rattle.step_file.specs.Decoded.{fileLength};
-ghost use Rattle.step_work.specs.Written.{Looked};
+ghost use Rattle.step_work.specs.Written.{Written};
 ghost use Rattle.step_virtual_storage_intervals.specs.VirtualStorageIntervals.{virtualStorageNumbered};
 
-// The virtual storages' intervals, up to the first whose lower bound is over its upper: 15.
 pub fn find_virtual_storage_intervals(
     file: &[u8],
     shape: &[u16],
     days: f64,
     sentinel: Sentinel,
     work: &mut [f64],
-) -> Answer
+)
     requires { ⌜ (shapeLength ≤ length (now shape)) × (stepWorkLength ≤ length (now work)) × (nodesIn (now shape) ≤ nodeCeiling)
         × (aggregatesIn (now shape) ≤ aggregateCeiling) × (virtualStoragesIn (now shape) ≤ virtualStorageCeiling)
         × (fileLength (nodesIn (now shape)) (aggregatesIn (now shape)) (virtualStoragesIn (now shape)) ≤ length (now file)) ⌝ }
-    ensures { λ r. ⌜ Looked 15 (virtualStorageNumbered sentinel days (now (shape .entry)) (now (file .entry))) virtualStoragesHeldAt
-        (virtualStoragesIn (now (shape .entry))) (now (work .entry)) r (now (work .exit)) ⌝ }
+    ensures { λ _. ⌜ Written (virtualStorageNumbered sentinel days (now (shape .entry)) (now (file .entry))) virtualStoragesHeldAt
+        (virtualStoragesIn (now (shape .entry))) (now (work .entry)) (now (work .exit)) ⌝ }
 {
     let nodes = wide16(shape[NODE_COUNT_AT]);
     let aggregates = wide16(shape[AGGREGATE_COUNT_AT]);
@@ -44,13 +41,9 @@ pub fn find_virtual_storage_intervals(
             days,
             sentinel,
         );
-        if step_bounds::is_crossed(x) {
-            return Answer::Refused(15, i);
-        }
         let k = VIRTUAL_STORAGES_HELD_AT + i;
         work[k] = x.lower;
         work[UPPERS_AT + k] = x.upper;
         i += 1;
     }
-    Answer::Accepted
 }

@@ -208,8 +208,14 @@ def periods():
     ):
         step(file(day))
         periods_listed(active)
-    title("# volume less min and max less volume are raised to 0: under the range, over it, and in a crossed range, so that 15 cannot be reached")
-    for three, low, high in (((0.0, 10.0, -3.0), -0.0, 6.5), ((0.0, 10.0, 12.0), -6.0, 0.0), ((10.0, 0.0, 4.0), -0.0, 0.0)):
+    title("# volume less min and max less volume are raised to 0: under the range, over it, in a crossed range, at the limits: lower is never over upper, 15 is retired")
+    for three, low, high in (
+        ((0.0, 10.0, -3.0), -0.0, 6.5),
+        ((0.0, 10.0, 12.0), -6.0, 0.0),
+        ((10.0, 0.0, 4.0), -0.0, 0.0),
+        ((1e12, -1e12, 0.0), -0.0, 0.0),
+        ((-1e12, 1e12, 1e12), -1e12, 0.0),
+    ):
         step(file((12, 31), 2.0, three))
         periods_listed("1110", low, high)
     title("# an inactive storage with the finite sentinel")

@@ -1,1 +1,2 @@
 pub mod WorkedExample
+pub mod UncrossedExample

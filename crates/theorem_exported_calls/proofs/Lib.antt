@@ -1,2 +1,3 @@
 pub mod AnswerNumbers
 pub mod ExportedRun
+pub mod Retired

@@ -1,1 +1,2 @@
 pub mod ExportedRun
+pub mod Retired

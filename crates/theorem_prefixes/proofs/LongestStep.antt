@@ -344,18 +344,14 @@ wide-read file tail e =
           (then-value _ _ _ (shapeOf wide) (need-true (wellShaped wide) 17 0 (shapeOf wide) wide-shaped) (r .1)),
     )
 
--- ---- 14 and 15 are not 12
+-- ---- 14 is not 12
 
 not-twelve : (i : Intervals) (f : StepFile) (p : ℕ) → (ordered i >>= λ _. value f) ≡ refused 12 p → ⊥
 unfolding ordered unless _>>=_
 not-twelve i f p e = nodes (firstCrossed 0 (i .nodes)) e
   where
-    virtualStorages : (o : Option ℕ) → (unless 15 o i >>= λ _. value f) ≡ refused 12 p → ⊥
-    virtualStorages none q = let z : _≡_ {A = ℕ} 0 1 = cc in omega arith
-    virtualStorages (some k) q = let z : _≡_ {A = ℕ} 15 12 = cc in omega arith
-
-    nodes : (o : Option ℕ) → ((unless 14 o i >>= λ a. unless 15 (firstCrossed 0 (a .virtualStorages)) a) >>= λ _. value f) ≡ refused 12 p → ⊥
-    nodes none q = virtualStorages (firstCrossed 0 (i .virtualStorages)) q
+    nodes : (o : Option ℕ) → (unless 14 o i >>= λ _. value f) ≡ refused 12 p → ⊥
+    nodes none q = let z : _≡_ {A = ℕ} 0 1 = cc in omega arith
     nodes (some k) q = let z : _≡_ {A = ℕ} 14 12 = cc in omega arith
 
 left-over : (file : List ℕ) → file ≡ longest (0 ∷ []) → stepAnswer wide file (doubles stepWorkLength) ≡ refused 12 longestStep

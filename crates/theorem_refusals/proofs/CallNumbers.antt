@@ -56,8 +56,8 @@ readWith file room =
 abbrev orderedIn : Store → StepFile → Result StepFile
 orderedIn store f = ordered (stepIntervals store f) >>= λ _. value f
 
-within : (least most n : ℕ) → 12 ≤ least → most ≤ 15 → T (fromTo least most n) → T (ofJudged n)
-within least most n h k t = either (fromTo 12 15 n) (eqb n 17) (wider least most 12 15 n h k t)
+within : (least most n : ℕ) → 12 ≤ least → most ≤ 14 → T (fromTo least most n) → T (ofJudged n)
+within least most n h k t = either (fromTo 12 14 n) (eqb n 17) (wider least most 12 14 n h k t)
 
 read-among : (file : List ℕ) (room : Store) → Among ofJudged (readWith file room)
 read-among file room =
@@ -66,7 +66,7 @@ read-among file room =
 
 ordered-among : (store : Store) (f : StepFile) → Among ofJudged (orderedIn store f)
 ordered-among store f =
-    bind-among _ _ (more-among _ (λ n t. within 14 15 n (omega arith) (omega arith) t) (interval-numbers (stepIntervals store f))) (λ i. passed)
+    bind-among _ _ (more-among _ (λ n t. within 14 14 n (omega arith) (omega arith) t) (interval-numbers (stepIntervals store f))) (λ i. passed)
 
 module _ (store : Store) (file : List ℕ) (work : List Float) where
   step-among : Among ofStep (stepAnswer store file work)

@@ -2,3 +2,4 @@ pub mod Among
 pub mod NetworkNumbers
 pub mod StepNumbers
 pub mod CallNumbers
+pub mod Retired

@@ -1,4 +1,4 @@
--- The step file is refused with 12 and 13 alone, and its intervals with 14 and 15. Assumes nothing.
+-- The step file is refused with 12 and 13 alone, and its intervals with 14. Assumes nothing.
 use Prim.Native.Nat.{ℕ, zero, suc, _+_}
 use mathlib.Core.Bool.{Bool}
 use mathlib.Core.List.{List, [], _∷_, _++_}
@@ -78,4 +78,4 @@ crossed-among number (some place) x t = told t
 
 pub interval-numbers : (i : Intervals) → Among ofIntervals (ordered i)
 unfolding ordered
-interval-numbers i = bind-among _ _ (crossed-among 14 _ i tt) (λ a. crossed-among 15 _ a tt)
+interval-numbers i = crossed-among 14 _ i tt

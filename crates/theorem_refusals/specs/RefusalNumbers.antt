@@ -18,16 +18,16 @@ ofProgramme = fromTo 1 11
 abbrev pub ofBuild : ℕ → Bool
 ofBuild n = ofProgramme n || eqb n 16
 
--- "Step: 16, 17, file left to right, 14, 15.": the file's are 12 and 13
+-- "Step: 16, 17, file left to right, 14": the file's are 12 and 13
 abbrev pub ofStepFile : ℕ → Bool
 ofStepFile = fromTo 12 13
 
 abbrev pub ofIntervals : ℕ → Bool
-ofIntervals = fromTo 14 15
+ofIntervals = fromTo 14 14
 
 -- of a step with room, and of a step
 abbrev pub ofJudged : ℕ → Bool
-ofJudged n = fromTo 12 15 n || eqb n 17
+ofJudged n = fromTo 12 14 n || eqb n 17
 
 abbrev pub ofStep : ℕ → Bool
 ofStep n = ofJudged n || eqb n 16

@@ -59,11 +59,12 @@ fn main() {
     if let Some(report) = port.and_then(|port| port.report()) {
         println!("{report}");
     }
+    println!("the Rust's own 15, retired: {}", tally.retired());
     println!("differences {failures}");
     if !compared {
         println!("not everything that was run was compared, or nothing was run");
     }
-    std::process::exit((failures > 0 || !compared) as i32);
+    std::process::exit((failures > 0 || tally.retired() > 0 || !compared) as i32);
 }
 
 /// With a port, a run that compares nothing has found nothing out.

@@ -1,17 +1,17 @@
--- `find_virtual_storage_intervals` meets its contract. The loop's invariant: i intervals are written, none of them crossed. Assumes nothing.
+-- `find_virtual_storage_intervals` meets its contract. The loop's invariant: i intervals are written. Assumes nothing.
 use mathlib.Core.Path.{refl, _∙_}
 use Prim.Native.Nat.{_+_, _-_}
 use native.Mathlib.Omega.{arith}
 use lib.ListN.{length-set}
 use Rattle.layout.specs.Layout.{virtualStoragesHeldAt}
 use Rattle.step_virtual_storage_intervals.specs.VirtualStorageIntervals.{virtualStorageNumbered}
-use Rattle.step_work.proofs.WrittenLaws.{Passed, passed-none, passed-more, passed-stops, passed-all}
+use Rattle.step_work.proofs.WrittenLaws.{Writing, writing-none, writing-more, writing-all}
 use borrow.Author.Needs.{needs}
 use Rattle.step_virtual_storage_intervals.proofs.find_virtual_storage_intervals.Statement.{statement}
 use Rattle.step_virtual_storage_intervals.proofs.find_virtual_storage_intervals.Tie as tie
 
 abbrev Inv-loop : tie.InvT-loop
-Inv-loop file shape days sentinel work₀ nodes aggregates virtualStorages i₀ work i = Passed (virtualStorageNumbered sentinel days shape file) virtualStoragesHeldAt virtualStorages work₀ work i
+Inv-loop file shape days sentinel work₀ nodes aggregates virtualStorages i₀ work i = Writing (virtualStorageNumbered sentinel days shape file) virtualStoragesHeldAt virtualStorages work₀ work i
 
 abbrev μ-loop : tie.MeasureT-loop
 μ-loop file shape days sentinel work₀ nodes aggregates virtualStorages i₀ work i = virtualStorages - i
@@ -23,46 +23,20 @@ to-start c =
     let after-slice-known = after-shared-slice-known4 .before .before .before in
     after-slice-known .before .before .before
 
-abbrev to-loop : tie.Then1 Inv-loop μ-loop → tie.At-loop Inv-loop μ-loop
-to-loop c =
-    let after-virtual-storage-at = c .before .before .before in
-    after-virtual-storage-at .before .before
-
 loop-holds : tie.Need-loop-holds Inv-loop μ-loop
 loop-holds c =
-    passed-none _ _ _ _
-
-same-length : tie.Need-same-length Inv-loop μ-loop
-same-length c =
-    to-loop c .loop .inv .writing .long
-
-returns : tie.Need-returns Inv-loop μ-loop
-unfolding virtualStorageNumbered
-returns c =
-    let after-virtual-storage-interval = c .before .before in
-    let after-virtual-storage-at = after-virtual-storage-interval .before in
-    let in-loop = after-virtual-storage-at .before in
-    let at-loop = in-loop .before in
-    let after-wide163 = at-loop .before in
-    let after-wide162 = after-wide163 .before .before in
-    let after-wide16 = after-wide162 .before .before in
-    rw (← (after-wide163 .wide163 .ensures .0))
-    (passed-stops _ _ (in-loop .loop-test .taken)
-    (after-virtual-storage-interval .virtual-storage-interval .ensures
-    ∙ rw (after-virtual-storage-at .virtual-storage-at .ensures, after-wide16 .wide16 .ensures .0, after-wide162 .wide162 .ensures .0)) (c .before .is-crossed .ensures) (at-loop .loop .inv) 15 (c .if1 .taken))
+    writing-none _ _ _ _
 
 slice-write-work-2 : tie.Need-slice-write-work-2 Inv-loop μ-loop
 slice-write-work-2 c =
-    let after-virtual-storage-interval = c .before .before in
-    let in-loop = after-virtual-storage-interval .before .before in
+    let in-loop = c .before .before in
     let at-loop = in-loop .before in
     let after-wide163 = at-loop .before in
     let start = to-start after-wide163 in
     omega (
       arith,
-      length-set (at-loop .loop .work) (virtualStoragesHeldAt + at-loop .loop .i)
-          (after-virtual-storage-interval .virtual-storage-interval .result .lower),
-      at-loop .loop .inv .writing .long,
+      length-set (at-loop .loop .work) (virtualStoragesHeldAt + at-loop .loop .i) (c .virtual-storage-interval .result .lower),
+      at-loop .loop .inv .long,
       in-loop .loop-test .taken,
       after-wide163 .wide163 .ensures .0,
       start .pre .1,
@@ -72,26 +46,22 @@ slice-write-work-2 c =
 loop-again : tie.Need-loop-again Inv-loop μ-loop
 unfolding virtualStorageNumbered
 loop-again c =
-    let after-virtual-storage-interval = c .before .before in
-    let after-virtual-storage-at = after-virtual-storage-interval .before in
-    let in-loop = after-virtual-storage-at .before in
+    let in-loop = c .before .before in
     let at-loop = in-loop .before in
     let after-wide163 = at-loop .before in
     let after-wide162 = after-wide163 .before .before in
     let after-wide16 = after-wide162 .before .before in
     let start = to-start after-wide163 in
-    passed-more _ _ (in-loop .loop-test .taken)
-    (after-virtual-storage-interval .virtual-storage-interval .ensures
-    ∙ rw (after-virtual-storage-at .virtual-storage-at .ensures, after-wide16 .wide16 .ensures .0, after-wide162 .wide162 .ensures .0)) (c .before .is-crossed .ensures) (at-loop .loop .inv) _ refl
-    (omega (arith, after-wide163 .wide163 .ensures .0, start .pre .4)) (start .pre .1) (c .if1 .left)
+    writing-more _ (c .virtual-storage-interval .result) refl (omega (arith, after-wide163 .wide163 .ensures .0, start .pre .4)) (start .pre .1) (in-loop .loop-test .taken)
+    (c .virtual-storage-interval .ensures ∙ rw (c .before .virtual-storage-at .ensures, after-wide16 .wide16 .ensures .0, after-wide162 .wide162 .ensures .0)) (at-loop .loop .inv)
 
-same-length-2 : tie.Need-same-length-2 Inv-loop μ-loop
-same-length-2 c =
-    c .before .loop .inv .writing .long
+same-length : tie.Need-same-length Inv-loop μ-loop
+same-length c =
+    c .before .loop .inv .long
 
-returns-2 : tie.Need-returns-2 Inv-loop μ-loop
-returns-2 c =
-    rw (← (c .before .before .wide163 .ensures .0)) (passed-all 15 (c .loop-test .left) (c .before .loop .inv))
+returns : tie.Need-returns Inv-loop μ-loop
+returns c =
+    rw (← (c .before .before .wide163 .ensures .0)) (writing-all (c .loop-test .left) (c .before .loop .inv))
 
 pub find-virtual-storage-intervals-spec : {M : Type 1} → statement M
 find-virtual-storage-intervals-spec =
@@ -110,9 +80,6 @@ find-virtual-storage-intervals-spec =
     (λ c. search needs)
     (λ c κs. search needs)
     (λ c κs. search needs)
-    (λ c κs. search needs)
-    same-length
-    returns
     (λ c. search needs)
     (λ c. search needs)
     (λ c. search needs)
@@ -122,5 +89,5 @@ find-virtual-storage-intervals-spec =
     (λ c. search needs)
     (λ c. search needs)
     loop-again
-    same-length-2
-    returns-2)
+    same-length
+    returns)

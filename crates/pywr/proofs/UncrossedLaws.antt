@@ -1,0 +1,96 @@
+-- No virtual storage's lower is over its upper, of any store that passes 16 and 17 and any file that passes 12 and 13; so a step's answer is what it was
+-- with the check for 15. Assumes nothing.
+use mathlib.Core.Path.{_≡_, refl, sym, ap, _∙_, subst}
+use Prim.Native.Nat.{ℕ, suc}
+use mathlib.Core.Bool.{Bool, true, false, not}
+use mathlib.Core.List.{List, [], _∷_, List·Memᴰ·head, List·Memᴰ·tail}
+use mathlib.Core.Option.{Option, none, some}
+use lib.ListN.{length, length-map}
+use lib.Dec.{T}
+use lib.Ieee.{Float, binary64}
+use Rattle.doubles.proofs.Order.{le-not-lt}
+use Rattle.pywr.specs.declared.Interval.{Interval}
+use Rattle.pywr.specs.Result.{value, Result, refused, _>>=_}
+use Rattle.pywr.specs.Programme.{Shape}
+use Rattle.pywr.specs.StepFile.{StepFile}
+use Rattle.pywr.specs.StepIntervals.{Intervals, isCrossed, firstCrossed, unless, ordered}
+use Rattle.pywr.specs.Step.{periodOf, periods, stepped}
+use Rattle.pywr.specs.Store.{Store, shapeOf, programmeIn}
+use Rattle.pywr.specs.Calls.{stepRead, stepIntervals, stepAnswer}
+use Rattle.pywr.specs.Uncrossed.{Uncrossed, VirtualStoragesUncrossed, ReadUncrossed, orderedWithFifteen, stepAnswerWithFifteen, FifteenUnreached}
+use Rattle.pywr.proofs.BoundLaws.{IsInterval}
+use Rattle.pywr.proofs.RunLaws.{read-over-shape, accepted-read}
+use Rattle.pywr.proofs.ListLaws.{AllMem, found-mem}
+use Rattle.pywr.proofs.StepReadLaws.{StepSound, step-sound, IntervalsOk, intervals-sound}
+
+module _ (store : Store) (file : List ℕ) (work : List Float) (f : StepFile) (read : stepRead store file work ≡ value f) where
+  abbrev shape : Shape
+  shape = shapeOf store
+
+  periods-length : length (periods shape) ≡ length (shape .virtualStorages)
+  unfolding periods
+  periods-length = length-map (shape .virtualStorages) periodOf
+
+  -- 12 and 13 passed, over the store's own shape and sentinel
+  intervals-read : IntervalsOk (length (shape .aggregates)) (length (periods shape)) (stepIntervals store f)
+  unfolding stepIntervals
+  intervals-read =
+      intervals-sound (programmeIn store .sentinel) (periods shape) (length (shape .aggregates)) f
+      (subst (λ (v : ℕ). StepSound (length (shape .aggregates)) v f) (sym periods-length)
+      (step-sound (shape .nodes) (length (shape .aggregates)) (length (shape .virtualStorages)) file f (read-over-shape store file work f read)))
+
+  applies : VirtualStoragesUncrossed store f
+  unfolding stepIntervals stepped
+  applies =
+      record {
+        applied = refl;
+        each = intervals-read .virtualStorageCount ∙ periods-length;
+        uncrossed = λ number i at. intervals-read .virtual-storages-uncrossed i (found-mem _ number i at);
+      }
+
+pub read-uncrossed : ReadUncrossed
+read-uncrossed = applies
+
+-- as the request says it: the step passed 16, 17, 12, 13 and 14
+pub accepted-uncrossed : (store : Store) (file : List ℕ) (work : List Float) (f : StepFile) → stepAnswer store file work ≡ value f → VirtualStoragesUncrossed store f
+accepted-uncrossed store file work f e = applies store file work f (accepted-read store file work f e)
+
+-- ---- the check that was dropped finds nothing
+
+not-crossed : (i : Interval) → IsInterval i → Uncrossed i → isCrossed i ≡ false
+unfolding isCrossed
+not-crossed i n u = is-false (isCrossed i) (le-not-lt binary64 (i .upper) (i .lower) (n .upper) (n .lower) u)
+  where
+    is-false : (b : Bool) → T (not b) → b ≡ false
+    is-false true t = absurd t
+    is-false false t = refl
+
+none-crossed : (number : ℕ) (is : List Interval) → AllMem IsInterval is → AllMem Uncrossed is → firstCrossed number is ≡ none
+unfolding firstCrossed
+none-crossed number [] n u = refl
+none-crossed number (i ∷ is) n u =
+    let here = not-crossed i (n i (List·Memᴰ·head refl)) (u i (List·Memᴰ·head refl)) in
+    let there = none-crossed (suc number) is (λ x m. n x (List·Memᴰ·tail m)) (λ x m. u x (List·Memᴰ·tail m)) in
+    ap (λ (b : Bool). elim b [ true ↦ some number | false ↦ firstCrossed (suc number) is ]) here ∙ there
+
+-- where no virtual storage's is crossed, 15 is not said behind 14
+same-order : (i : Intervals) → firstCrossed 0 (i .virtualStorages) ≡ none → orderedWithFifteen i ≡ ordered i
+unfolding orderedWithFifteen ordered unless _>>=_
+same-order i e = go (firstCrossed 0 (i .nodes))
+  where
+    go : (o : Option ℕ) → (unless 14 o i >>= λ a. unless 15 (firstCrossed 0 (a .virtualStorages)) a) ≡ unless 14 o i
+    go none = ap (λ (q : Option ℕ). unless 15 q i) e
+    go (some place) = refl
+
+-- "drop the check": every answer is that of document 01's order with 15
+pub fifteen-unreached : FifteenUnreached
+unfolding stepAnswerWithFifteen stepAnswer _>>=_
+fifteen-unreached store file work = go (stepRead store file work) refl
+  where
+    go : (r : Result StepFile) → stepRead store file work ≡ r
+        → (r >>= λ f. orderedWithFifteen (stepIntervals store f) >>= λ _. value f) ≡ (r >>= λ f. ordered (stepIntervals store f) >>= λ _. value f)
+    go (refused number place) read = refl
+    go (value f) read =
+        let ok = intervals-read store file work f read in
+        let none-is = none-crossed 0 (stepIntervals store f .virtualStorages) (ok .virtual-storages-are) (ok .virtual-storages-uncrossed) in
+        ap (λ (o : Result Intervals). o >>= λ _. value f) (same-order (stepIntervals store f) none-is)
