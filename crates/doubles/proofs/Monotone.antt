@@ -3,7 +3,7 @@
 use mathlib.Core.Path.{_≡_, sym, ap, _∙_, subst}
 use Prim.Native.Nat.{ℕ, _+_, _^_, _≤_, _<_}
 use native.Mathlib.Nat.{mul-le-mul-right, zero-mul}
-use mathlib.Core.Bool.{Bool, true, false, not}
+use mathlib.Core.Bool.{Bool, true, false}
 use lib.IntN.{ℤ, pos, natAbs}
 use lib.Dec.{T, lt→ltb}
 use lib.Signed.{leZ}
@@ -18,7 +18,7 @@ use Rattle.doubles.specs.Rounding.{snap, addSign, addMag}
 use Rattle.doubles.specs.Bounds.{raised}
 use Rattle.doubles.proofs.Integers.{ints, leZ-add, neg-plus, neg-less}
 use Rattle.doubles.proofs.Units.{neg-finite, finite-number}
-use Rattle.doubles.proofs.Order.{neg-num, cond-num, le→Z, Z→le, le-refl-num, le-trans-num, not-lt-le, le-not-lt, le-neg, not-over-finite}
+use Rattle.doubles.proofs.Order.{neg-num, cond-num, le→Z, Z→le, le-refl-num, le-trans-num, not-lt-le, le-neg, not-over-finite}
 use Rattle.doubles.proofs.Rounding.{round-num, round-rank, snap-mono, snap-zero, add-is, add-signed}
 use Rattle.doubles.proofs.Products.{div-positive, mag-zero, positive-mag, inf-over}
 
@@ -151,8 +151,3 @@ raised-in-order f a b y p q d t =
     (subst T (sym (le-neg f zero+ (raised a) (zero-num f) na)) (raised-above f a p)) minus-zero-le in
     le-trans-num f (div f (neg (raised a)) y) zero+ (div f (raised b) y) (div-num f (neg (raised a)) y nn d t) (zero-num f) (div-num f (raised b) y nb d t)
     (div-below f (neg (raised a)) y nn d t below) (div-above f (raised b) y nb d t (raised-above f b q))
-
-pub raised-never-cross : (f : Format) (a b y : Float) → Num f a → Num f b → T (fits f y) → T (positive y) → T (not (lt (div f (raised b) y) (div f (neg (raised a)) y)))
-raised-never-cross f a b y p q d t =
-    le-not-lt f (div f (raised b) y) (div f (neg (raised a)) y) (div-num f (raised b) y (raised-num f b q) d t) (div-num f (neg (raised a)) y (neg-num f (raised a) (raised-num f a p)) d t)
-    (raised-in-order f a b y p q d t)

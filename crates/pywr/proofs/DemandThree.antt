@@ -34,7 +34,7 @@ use Rattle.pywr.proofs.Represents.{Represents, Roomy, programme-back}
 use Rattle.pywr.proofs.RunLaws.{stepped-lowers, stepped-uppers, after, after-held, bind-value, need-value, Reached, run}
 use Rattle.pywr.proofs.ListLaws.{all-at}
 use Rattle.pywr.proofs.ReadLaws.{same-value, need-test, Sound, read-sound}
-use Rattle.pywr.proofs.StepReadLaws.{StepSound, step-sound, IntervalsOk, intervals-sound}
+use Rattle.pywr.proofs.StepReadLaws.{step-sound, shape-periods-length, IntervalsOk, intervals-sound}
 use Rattle.pywr.proofs.FitLaws.{OnlyConstant, aggregates-length, forVirtualStorages, lengthV}
 use Rattle.pywr.proofs.StepMeets.{step-meets}
 use Rattle.pywr.proofs.WellShaped.{held}
@@ -146,9 +146,8 @@ unfolding periodsOf
 periods-length net = length-map (net .virtualStorages) (λ (v : VirtualStorage). v .period)
 
 virtual-storages-length : (s : Sentinel) (net : Network) (plan : Plan) → length (programmeOf s net .shape .virtualStorages) ≡ length (net .virtualStorages)
-unfolding periods periodsOf
 virtual-storages-length s net plan =
-    sym (length-map (programmeOf s net .shape .virtualStorages) periodOf) ∙ ap length (periods-are s net plan) ∙ length-map (net .virtualStorages) (λ (v : VirtualStorage). v .period)
+    sym (shape-periods-length (programmeOf s net .shape)) ∙ ap length (periods-are s net plan) ∙ periods-length net
 
 pub read-alike : (s : Sentinel) (net : Network) (plan : Plan) (file : List ℕ)
     → readStep (programmeOf s net .shape .nodes) (length (programmeOf s net .shape .aggregates)) (length (programmeOf s net .shape .virtualStorages)) file ≡ readBy net file
@@ -174,11 +173,9 @@ module _ (s : Sentinel) (net : Network) (sound : Sound net) (only : OnlyConstant
   file-meets file f read =
       let p : Programme = stepped (b .shape) f (b .programme) in
       let i : Intervals = intervals s (periodsOf net) f in
-      let long : length (periodsOf net) ≡ length (net .virtualStorages) = periods-length net in
       let ok : IntervalsOk (length (net .aggregates)) (length (net .virtualStorages)) i =
-      subst (λ (k : ℕ). IntervalsOk (length (net .aggregates)) k i) long
-      (intervals-sound s (periodsOf net) (length (net .aggregates)) f
-      (subst (λ (k : ℕ). StepSound (length (net .aggregates)) k f) (sym long) (step-sound _ (length (net .aggregates)) (length (net .virtualStorages)) file f read))) in
+      intervals-sound s (periodsOf net) (length (net .aggregates)) (length (net .virtualStorages)) f (periods-length net)
+      (step-sound _ (length (net .aggregates)) (length (net .virtualStorages)) file f read) in
       same-test (admits (columnMap net) p plan) (allows s net i plan)
       (step-meets s net sound only whole plan i ok p refl (stepped-lowers (b .shape) f (b .programme)) (stepped-uppers (b .shape) f (b .programme))
       (ap (λ (q : List Period). stepRows s (b .shape) (intervals s q f) (b .programme .varying)) (periods-are s net plan)) refl)

@@ -7,7 +7,7 @@ use native.Mathlib.Omega.{arith}
 use mathlib.Core.Bool.{Bool, true, false, cond, not, _||_}
 use mathlib.Core.List.{List, [], _∷_, _++_, List·Memᴰ·head, List·Memᴰ·tail}
 use mathlib.Core.Option.{Option, none, some}
-use lib.ListN.{length, getD, length-append}
+use lib.ListN.{length, getD, length-append, length-map}
 use lib.Dec.{T}
 use lib.Ieee.{Float}
 use Rattle.pywr.specs.declared.Sentinel.{Sentinel}
@@ -18,12 +18,13 @@ use Rattle.pywr.specs.Result.{value}
 use Rattle.pywr.specs.Numbers.{isFlow, isSmall, isDays, ofPattern}
 use Rattle.pywr.specs.Network.{Period}
 use Rattle.pywr.specs.NetworkFile.{Read}
-use Rattle.pywr.specs.Programme.{NodeShape}
+use Rattle.pywr.specs.Programme.{NodeShape, Shape}
 use Rattle.pywr.specs.Interval.{sentinels, storageBounds}
 use Rattle.pywr.specs.Period.{isActive, virtualInterval}
 use Rattle.pywr.specs.StepFile.{NodeStep, StepFile, readDate, isStorage, boundFits, volumeFits, boundsRead}
 use Rattle.pywr.specs.StepFile.{readNodeStep, readNodeSteps, readAggregateStep, readAggregateSteps, readVirtualStorageStep, readVirtualStorageSteps, readStep}
 use Rattle.pywr.specs.StepIntervals.{intervals, nodeInterval, nodeIntervals, virtualStorageIntervals, Intervals}
+use Rattle.pywr.specs.Step.{periodOf, periods}
 use Rattle.pywr.specs.Uncrossed.{Uncrossed}
 use Rattle.pywr.proofs.BoundLaws.{IsInterval}
 use Rattle.pywr.proofs.NumberLaws.{flow-bound, small-is, Divisor, days-is, storage-interval, virtual-interval, virtual-uncrossed, flow-interval}
@@ -188,15 +189,21 @@ pub record IntervalsOk (aggregates virtualStorages : ℕ) (i : Intervals) : Type
   pub virtual-storages-uncrossed : AllMem Uncrossed (i .virtualStorages)
   pub virtualStorageCount : length (i .virtualStorages) ≡ virtualStorages
 
-pub intervals-sound : (s : Sentinel) (ps : List Period) (aggregates : ℕ) (f : StepFile) → StepSound aggregates (length ps) f → IntervalsOk aggregates (length ps) (intervals s ps f)
+-- a shape has one period for each virtual storage
+pub shape-periods-length : (shape : Shape) → length (periods shape) ≡ length (shape .virtualStorages)
+unfolding periods
+shape-periods-length shape = length-map (shape .virtualStorages) periodOf
+
+pub intervals-sound : (s : Sentinel) (ps : List Period) (aggregates virtualStorages : ℕ) (f : StepFile) → length ps ≡ virtualStorages → StepSound aggregates virtualStorages f
+    → IntervalsOk aggregates virtualStorages (intervals s ps f)
 unfolding intervals
-intervals-sound s ps aggregates f ok =
-    let v = store-sound s f (ok .days) ps (f .virtualStorages) (sym (ok .storeCount)) (ok .stores) in
+intervals-sound s ps aggregates virtualStorages f long ok =
+    let v = store-sound s f (ok .days) ps (f .virtualStorages) (long ∙ sym (ok .storeCount)) (ok .stores) in
     record {
       nodes = node-sound s (f .days) (ok .days) (f .nodes) (ok .nodes);
       aggregates-are = ok .groups;
       aggregateCount = ok .aggregateCount;
       virtual-storages-are = v .0;
       virtual-storages-uncrossed = v .1;
-      virtualStorageCount = v .2;
+      virtualStorageCount = v .2 ∙ long;
     }

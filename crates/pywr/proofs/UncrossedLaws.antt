@@ -1,50 +1,45 @@
 -- No virtual storage's lower is over its upper, of any store that passes 16 and 17 and any file that passes 12 and 13; so a step's answer is what it was
 -- with the check for 15. Assumes nothing.
-use mathlib.Core.Path.{_≡_, refl, sym, ap, _∙_, subst}
+use mathlib.Core.Path.{_≡_, refl, ap, _∙_}
 use Prim.Native.Nat.{ℕ, suc}
-use mathlib.Core.Bool.{Bool, true, false, not}
+use mathlib.Core.Bool.{Bool, true, false}
 use mathlib.Core.List.{List, [], _∷_, List·Memᴰ·head, List·Memᴰ·tail}
 use mathlib.Core.Option.{Option, none, some}
-use lib.ListN.{length, length-map}
-use lib.Dec.{T}
+use lib.ListN.{length}
 use lib.Ieee.{Float, binary64}
+use Rattle.laws.proofs.Tests.{to-false}
 use Rattle.doubles.proofs.Order.{le-not-lt}
 use Rattle.pywr.specs.declared.Interval.{Interval}
 use Rattle.pywr.specs.Result.{value, Result, refused, _>>=_}
 use Rattle.pywr.specs.Programme.{Shape}
 use Rattle.pywr.specs.StepFile.{StepFile}
 use Rattle.pywr.specs.StepIntervals.{Intervals, isCrossed, firstCrossed, unless, ordered}
-use Rattle.pywr.specs.Step.{periodOf, periods, stepped}
+use Rattle.pywr.specs.Step.{periods, stepped}
 use Rattle.pywr.specs.Store.{Store, shapeOf, programmeIn}
 use Rattle.pywr.specs.Calls.{stepRead, stepIntervals, stepAnswer}
 use Rattle.pywr.specs.Uncrossed.{Uncrossed, VirtualStoragesUncrossed, ReadUncrossed, orderedWithFifteen, stepAnswerWithFifteen, FifteenUnreached}
 use Rattle.pywr.proofs.BoundLaws.{IsInterval}
 use Rattle.pywr.proofs.RunLaws.{read-over-shape, accepted-read}
 use Rattle.pywr.proofs.ListLaws.{AllMem, found-mem}
-use Rattle.pywr.proofs.StepReadLaws.{StepSound, step-sound, IntervalsOk, intervals-sound}
+use Rattle.pywr.proofs.StepReadLaws.{step-sound, shape-periods-length, IntervalsOk, intervals-sound}
 
 module _ (store : Store) (file : List ℕ) (work : List Float) (f : StepFile) (read : stepRead store file work ≡ value f) where
   abbrev shape : Shape
   shape = shapeOf store
 
-  periods-length : length (periods shape) ≡ length (shape .virtualStorages)
-  unfolding periods
-  periods-length = length-map (shape .virtualStorages) periodOf
-
   -- 12 and 13 passed, over the store's own shape and sentinel
-  intervals-read : IntervalsOk (length (shape .aggregates)) (length (periods shape)) (stepIntervals store f)
+  intervals-read : IntervalsOk (length (shape .aggregates)) (length (shape .virtualStorages)) (stepIntervals store f)
   unfolding stepIntervals
   intervals-read =
-      intervals-sound (programmeIn store .sentinel) (periods shape) (length (shape .aggregates)) f
-      (subst (λ (v : ℕ). StepSound (length (shape .aggregates)) v f) (sym periods-length)
-      (step-sound (shape .nodes) (length (shape .aggregates)) (length (shape .virtualStorages)) file f (read-over-shape store file work f read)))
+      intervals-sound (programmeIn store .sentinel) (periods shape) (length (shape .aggregates)) (length (shape .virtualStorages)) f (shape-periods-length shape)
+      (step-sound (shape .nodes) (length (shape .aggregates)) (length (shape .virtualStorages)) file f (read-over-shape store file work f read))
 
   applies : VirtualStoragesUncrossed store f
   unfolding stepIntervals stepped
   applies =
       record {
         applied = refl;
-        each = intervals-read .virtualStorageCount ∙ periods-length;
+        each = intervals-read .virtualStorageCount;
         uncrossed = λ number i at. intervals-read .virtual-storages-uncrossed i (found-mem _ number i at);
       }
 
@@ -59,11 +54,7 @@ accepted-uncrossed store file work f e = applies store file work f (accepted-rea
 
 not-crossed : (i : Interval) → IsInterval i → Uncrossed i → isCrossed i ≡ false
 unfolding isCrossed
-not-crossed i n u = is-false (isCrossed i) (le-not-lt binary64 (i .upper) (i .lower) (n .upper) (n .lower) u)
-  where
-    is-false : (b : Bool) → T (not b) → b ≡ false
-    is-false true t = absurd t
-    is-false false t = refl
+not-crossed i n u = to-false (isCrossed i) (le-not-lt binary64 (i .upper) (i .lower) (n .upper) (n .lower) u)
 
 none-crossed : (number : ℕ) (is : List Interval) → AllMem IsInterval is → AllMem Uncrossed is → firstCrossed number is ≡ none
 unfolding firstCrossed

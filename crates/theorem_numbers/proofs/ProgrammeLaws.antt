@@ -5,7 +5,7 @@ use Prim.Native.Nat.{ℕ, suc, _≤_}
 use mathlib.Core.Bool.{Bool, true, false, not, _&&_, Bool·beq}
 use mathlib.Core.List.{List, [], _∷_}
 use mathlib.Core.Option.{Option, none as no-file, some}
-use lib.ListN.{length, length-map}
+use lib.ListN.{length}
 use lib.Dec.{T, eqb, eqb→eq}
 use lib.Ieee.{Float, nan, inf, fin, binary64, isNan, eq}
 use lib.Ieee.Fits.{and-i, and-l, and-r}
@@ -20,7 +20,7 @@ use Rattle.pywr.specs.VariableRows.{sameRow}
 use Rattle.pywr.specs.Programme.{Column, Row, Programme, Shape, Built}
 use Rattle.pywr.specs.Build.{assemble, programmeOf, build}
 use Rattle.pywr.specs.StepFile.{StepFile}
-use Rattle.pywr.specs.Step.{periodOf, periods}
+use Rattle.pywr.specs.Step.{periods}
 use Rattle.pywr.specs.Plans.{allFrom}
 use Rattle.pywr.specs.Store.{Store, programmeIn}
 use Rattle.pywr.specs.Calls.{buildAnswer, buildStore, storeOfStep, isAccepted}
@@ -31,7 +31,7 @@ use Rattle.pywr.proofs.ListLaws.{AllMem}
 use Rattle.pywr.proofs.Represents.{Represents, programme-back}
 use Rattle.pywr.proofs.RunLaws.{bind-value, after, after-held, Reached, run}
 use Rattle.pywr.proofs.ReadLaws.{Sound, read-sound}
-use Rattle.pywr.proofs.StepReadLaws.{StepSound, step-sound, intervals-sound}
+use Rattle.pywr.proofs.StepReadLaws.{step-sound, shape-periods-length, intervals-sound}
 use Rattle.pywr.proofs.DemandThree.{accepted-value, build-accepted, build-represents}
 use Rattle.theorem_numbers.specs.ProgrammeNumbers.{isNumber, columnWithoutNaN, elementWithoutNaN, rowWithoutNaN, withoutNaN, isMinusZero}
 use Rattle.theorem_numbers.specs.ProgrammeNumbers.{rowWithoutMinusZero, withoutMinusZero, NoNaN, NoMinusZero, askedRows, EqualBits}
@@ -116,10 +116,6 @@ weaker p ok = record {
 -- ---- any list of steps
 
 module _ (s : Store) (b : Built) (held : Represents s b) (few : length (b .shape .mappedEdges) ≤ 512) (ok : ProgrammeOk IsBound (b .programme)) where
-  periods-length : length (periods (b .shape)) ≡ length (b .shape .virtualStorages)
-  unfolding periods
-  periods-length = length-map (b .shape .virtualStorages) periodOf
-
   reached-ok : (o : Option (List ℕ)) (t : Store) → Reached s b held o t → ProgrammeOk IsBound (programmeIn t)
   unfolding Reached
   reached-ok no-file t h = subst (ProgrammeOk IsBound) (sym (ap programmeIn h ∙ programme-back s b held)) ok
@@ -127,10 +123,10 @@ module _ (s : Store) (b : Built) (held : Represents s b) (few : length (b .shape
       let f : StepFile = h .0 in
       let shape : Shape = b .shape in
       let a : ℕ = length (shape .aggregates) in
-      let sound : StepSound a (length (periods shape)) f = subst (λ (v : ℕ). StepSound a v f) (sym periods-length) (step-sound (shape .nodes) a (length (shape .virtualStorages)) file f (h .1)) in
+      let v : ℕ = length (shape .virtualStorages) in
       subst (ProgrammeOk IsBound) (sym (ap programmeIn (h .2) ∙ programme-back (storeOfStep s (value f)) (after s b held f) (after-held s b held f)))
-      (stepped-ok shape f (b .programme) a (length (periods shape)) few (costs-small (shape .nodes) a (length (shape .virtualStorages)) file f (h .1))
-      (intervals-sound (b .programme .sentinel) (periods shape) a f sound) ok)
+      (stepped-ok shape f (b .programme) a v few (costs-small (shape .nodes) a v file f (h .1))
+      (intervals-sound (b .programme .sentinel) (periods shape) a v f (shape-periods-length shape) (step-sound (shape .nodes) a v file f (h .1))) ok)
 
 -- ---- the laws
 
