@@ -1,8 +1,8 @@
 #!/usr/bin/env python3
 # Writes the example network files beside this script (flows in Ml/d).
-#   make.py           writes worked.network, supply.network and intake.network
-#   make.py --dump    prints their records in hexadecimal, each with what it is
-#   make.py --check   reads the written files by document 01's rules and says what they hold
+#   make.py           writes worked.network, supply.network, intake.network, and refused/ with slips in the last
+#   make.py --dump    prints the records of the first three in hexadecimal, each with what it is
+#   make.py --check   reads the written files by the rules and says what they hold, or how they are refused
 import itertools
 import math
 import pathlib
@@ -81,6 +81,20 @@ INTAKE = [
     ("virtual storage 0, annual licence from 04-01 to 03-31 on the intake", virtual_storage([(0, 1.0)], (4, 1, 3, 31))),
     ("virtual storage 1, summer licence from 06-01 to 09-30 on the intake", virtual_storage([(0, 1.0)], (6, 1, 9, 30))),
 ]
+# intake.network with one edge keyed wrongly: its number, its record, and the number of the refusal
+SLIPS = {
+    "into_input": (5, edge(2, 1), 5),  # catchment inflow to reservoir, turned round
+    "out_of_output": (11, edge(10, 9), 5),  # service reservoir to town demand, turned round
+    "to_itself": (2, edge(3, 3), 19),  # pump 1 to the raw water main
+    "repeated_pair": (1, edge(0, 3), 20),  # intake to pump 2
+}
+
+
+def keyed_wrongly(number, wrong):  # the file with this record for edge `number`, and where the record's `from` field stands
+    records = [record for _, record in INTAKE]
+    at = [what.startswith("edge %d," % number) for what, _ in INTAKE].index(True)
+    before = b"".join(records[:at])
+    return before + wrong + b"".join(records[at + 1 :]), len(before) + 2
 
 
 class Refused(Exception):
@@ -92,7 +106,7 @@ def ask(ok, number, place):
         raise Refused(number, place)
 
 
-def read(data):  # what a network file holds, or Refused(number, place) for 1 to 10; 11 is the build's
+def read(data):  # what a network file holds, or Refused(number, place) for 1 to 10, 19 and 20; 11 is the build's
     nodes, edges, aggregates, storages = found = [], [], [], []
     at = place = stage = 0  # the next byte, the record's first byte, the rank of the record before
 
@@ -118,9 +132,11 @@ def read(data):  # what a network file holds, or Refused(number, place) for 1 to
             form, fits = ("<d", lambda x: x == x) if constant else ("<Q", lambda x: x == 0)
             nodes.append((kind, field(form, fits), field(form, fits)))
         elif MARKS[rank] == b"ED":
+            from_field = at
             start, end = index(), index()
-            ask(nodes[end][0] != INPUT and nodes[start][0] != OUTPUT, 5, place)
-            ask(start != end and (start, end) not in edges, 5, place)
+            ask(nodes[end][0] != INPUT and nodes[start][0] != OUTPUT, 5, from_field)
+            ask(start != end, 19, from_field)
+            ask((start, end) not in edges, 20, from_field)
             edges.append((start, end))
         elif MARKS[rank] == b"AG":
             exclusive = field("B", lambda x: x <= 1)
@@ -174,3 +190,13 @@ if __name__ == "__main__":
             check(name, records, (here / name).read_bytes())
         else:
             (here / name).write_bytes(b"".join(record for _, record in records))
+    for name, (number, wrong, refusal) in SLIPS.items():
+        data, from_field = keyed_wrongly(number, wrong)
+        path = here / "refused" / (name + ".network")
+        if "--check" in sys.argv:
+            assert path.read_bytes() == data, name + " is not what this script writes"
+            assert answer(data) == (refusal, from_field), answer(data)
+            print("refused/%s: %d bytes; refused with %d at %d" % (path.name, len(data), refusal, from_field))
+        elif "--dump" not in sys.argv:
+            path.parent.mkdir(exist_ok=True)
+            path.write_bytes(data)

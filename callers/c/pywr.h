@@ -17,8 +17,8 @@
  * A run may be longer. What lies beyond the counts is left as it was. A refused call leaves the store as it was, byte for byte.
  *
  * An answer is a number, 0 where the call is accepted, and a place. pywr_refusal_text has the words of each number, pywr_place_text what
- * its place is. 1 to 11 are for the modeller (pywr_build), 12 to 14 for the data feed (pywr_step), 16 to 18 for the calling program: 16 from
- * any call, 17 from pywr_step and pywr_row, 18 from pywr_row. 15: retired, never answered.
+ * its place is. 1 to 11, 19 and 20 are for the modeller (pywr_build), 12 to 14 for the data feed (pywr_step), 16 to 18 for the calling program:
+ * 16 from any call, 17 from pywr_step and pywr_row, 18 from pywr_row. 15: retired, never answered.
  */
 #ifndef PYWR_H
 #define PYWR_H
@@ -67,7 +67,7 @@ typedef struct {
     uint64_t number, place, start, length;
 } PywrRow;
 
-/* Writes a network file's programme into the store, or refuses with 1 to 11 or 16. An upper bound that binds nothing is infinity, or
+/* Writes a network file's programme into the store, or refuses with 1 to 11, 16, 19 or 20. An upper bound that binds nothing is infinity, or
  * the largest finite double where `infinite` is false; a lower one is its negation. */
 PywrAnswer pywr_build(
     const uint8_t *file, size_t file_length, bool infinite,
@@ -107,7 +107,7 @@ static inline const char *pywr_refusal_text(uint64_t number)
     case 2: return "unknown or out-of-order mark";
     case 3: return "value outside its range, NaN, or min_active over max_active";
     case 4: return "node index not under the node count";
-    case 5: return "edge into an input, out of an output, to itself, or repeating a pair";
+    case 5: return "edge into an input or out of an output";
     case 6: return "a record beyond its maximum";
     case 7: return "no edges";
     case 8: return "link without incoming or outgoing edge";
@@ -121,15 +121,18 @@ static inline const char *pywr_refusal_text(uint64_t number)
     case 16: return "a buffer of store, work or output under the length its ceilings need";
     case 17: return "store misshapen";
     case 18: return "row not under the count";
+    case 19: return "edge from a node to itself";
+    case 20: return "edge repeating the pair of an earlier edge";
     default: return "unknown refusal";
     }
 }
 
-/* What a refusal's place is, or "" where it is always 0. A byte is the offset of a record or, for 12, of the first byte left over. */
+/* What a refusal's place is, or "" where it is always 0. A byte is the offset of a record; for 12 also of the first byte left over; for 5, 19 and 20
+ * of an edge's `from` field: the two bytes there are the node that it comes from, the next two the node that it goes to. */
 static inline const char *pywr_place_text(uint64_t number)
 {
     switch (number) {
-    case 1: case 2: case 3: case 4: case 5: case 6: case 12: case 13: return "byte";
+    case 1: case 2: case 3: case 4: case 5: case 6: case 12: case 13: case 19: case 20: return "byte";
     case 8: case 9: case 10: case 14: return "node";
     case 18: return "row";
     default: return "";

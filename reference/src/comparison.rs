@@ -1,11 +1,11 @@
 //! Runs the port beside the reference on one case.
 use crate::generate::Case;
 use crate::port::{Answer, Port};
-use crate::{RETIRED, Reference, Refusal, Sentinel};
+use crate::{LARGEST, RETIRED, Reference, Refusal, Sentinel};
 
 /// How often each answer came: at 0 accepted, at n refused with number n.
 #[derive(Debug, Clone, Copy, Default)]
-pub struct Answers([u64; 16]);
+pub struct Answers([u64; LARGEST + 1]);
 
 impl Answers {
     pub fn count(&mut self, answer: Result<(), Refusal>) {
@@ -27,7 +27,7 @@ impl Answers {
 
     /// `accepted` and the refusals reached, each number with its count.
     pub fn text(&self) -> String {
-        let refused = (1..16).filter(|&n| self.0[n] > 0).map(|n| format!(", {n}: {}", self.0[n]));
+        let refused = (1..self.0.len()).filter(|&n| self.0[n] > 0).map(|n| format!(", {n}: {}", self.0[n]));
         format!("accepted {}{}", self.0[0], refused.collect::<String>())
     }
 }

@@ -31,5 +31,5 @@ pub mod timed;
 pub use network_file::NetworkFile;
 pub use programme::Programme;
 pub use reference::Reference;
-pub use refusal::{RETIRED, Refusal};
+pub use refusal::{LARGEST, OF_A_NETWORK, RETIRED, Refusal};
 pub use sentinel::Sentinel;

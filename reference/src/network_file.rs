@@ -1,4 +1,4 @@
-//! Document 01's network file: refusals 1 to 6.
+//! Document 01's network file, edges as document 02's L1 has them: refusals 1 to 6, 19 and 20.
 use crate::Refusal;
 use crate::fields::{Fields, is_within};
 use pywr_core::network::{AggregateParts, Network, NodeParts, VirtualStorageParts};
@@ -67,12 +67,17 @@ impl NetworkFile {
 
     fn read_edge(&mut self, fields: &mut Fields) -> Result<(), Refusal> {
         fields.require(self.edges.len() < MOST[1], 6)?;
+        let from_field = fields.next();
         let from = self.read_node_index(fields)?;
         let to = self.read_node_index(fields)?;
         let into_input = self.nodes[to].kind == NodeType::Input;
         let out_of_output = self.nodes[from].kind == NodeType::Output;
         let repeats = self.edges.contains(&(from, to));
-        fields.require(!into_input && !out_of_output && from != to && !repeats, 5)?;
+        for (slip, number) in [(into_input || out_of_output, 5), (from == to, 19), (repeats, 20)] {
+            if slip {
+                return Err(Refusal::new(number, from_field));
+            }
+        }
         self.edges.push((from, to));
         Ok(())
     }

@@ -28,11 +28,11 @@ impl Reference {
         Ok(built)
     }
 
-    /// The build of a network that passes refusals 1 to 10, whatever its size.
+    /// The build of a network that passes every refusal but 11, whatever its size.
     pub fn build_read(file: NetworkFile, sentinel: Sentinel) -> Self {
         let network = file.network();
         let high = sentinel.high();
-        let kept = InOrder::create(&network, high).expect("the Rust builds what passes refusals 1 to 10");
+        let kept = InOrder::create(&network, high).expect("the Rust builds what passes every refusal but 11");
         let unaltered = (file.distinct_sets() <= 1).then(|| Unaltered::create(&network, high).unwrap());
         let programme = kept.programme();
         let built = Self { file, network, high, trial: None, kept, unaltered, programme };

@@ -1,13 +1,13 @@
 //! The sample of a seed's networks in `crates/test_cases`: commands, and the reference's answers to them.
 //!
-//! Cases are taken in the seed's order until COUNT are taken. A third are accepted networks, and each refusal 1 to 11 has an equal share of the
+//! Cases are taken in the seed's order until COUNT are taken. A third are accepted networks, and each refusal of a network has an equal share of the
 //! rest: a case is left out if the share of its build's answer is full, if a file of its is too long for a command, or if its commands and
 //! answers have over `LONGEST_CASE` bytes.
 use crate::commands::{self, Command, FULL_LENGTH, LONGEST};
 use crate::comparison::Tally;
 use crate::generate::{self, Case};
 use crate::replay::{Replay, Written};
-use crate::{NetworkFile, Refusal, step_file};
+use crate::{NetworkFile, OF_A_NETWORK, Refusal, step_file};
 
 pub const SEED: u64 = 20261115;
 pub const COUNT: usize = 120;
@@ -36,7 +36,7 @@ impl Sample {
                 break;
             }
             if let Some(case) = Self::of_case(&generate::case(seed, index), index)
-                && (0..=11).all(|n| sample.tally.builds.of(n) + case.tally.builds.of(n) <= share(count, n))
+                && OF_A_NETWORK.into_iter().all(|n| sample.tally.builds.of(n) + case.tally.builds.of(n) <= share(count, n))
             {
                 sample.add(case);
             }
@@ -97,7 +97,7 @@ impl Sample {
 
 /// How many networks may have an answer, 0 for accepted.
 fn share(count: usize, number: usize) -> u64 {
-    (if number == 0 { count / 3 } else { (2 * count).div_ceil(33) }) as u64
+    (if number == 0 { count / 3 } else { (2 * count).div_ceil(3 * (OF_A_NETWORK.len() - 1)) }) as u64
 }
 
 /// Whether the port's zeros have the signs of the Rust's. They differ where a virtual storage has −0.0: in the maximum of −0.0 and 0.0 either is

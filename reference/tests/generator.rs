@@ -1,7 +1,7 @@
 //! The generator: the same cases from the same seed, files that are read back, every refusal and both sides of each ceiling reached.
 use pywr_reference::comparison::{Tally, compare};
 use pywr_reference::generate::encode::network_records;
-use pywr_reference::{NetworkFile, Reference, case_file, generate};
+use pywr_reference::{NetworkFile, OF_A_NETWORK, Reference, case_file, generate};
 
 #[test]
 fn a_seed_gives_its_cases() {
@@ -38,7 +38,7 @@ fn refusals_and_ceilings_are_reached() {
         }
     }
     assert_eq!(most, [128, 1024, 4096]);
-    for number in 0..=11 {
+    for number in OF_A_NETWORK {
         assert!(tally.builds.of(number) >= 10, "{}", tally.builds.text());
     }
     for number in [0, 12, 13, 14] {

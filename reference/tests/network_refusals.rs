@@ -1,4 +1,4 @@
-//! Refusals 1 to 11 of a network file, and their order.
+//! Refusals 1 to 11, 19 and 20 of a network file, and their order.
 mod records;
 
 use pywr_reference::{Reference, Refusal, Sentinel};
@@ -102,11 +102,39 @@ fn edges() {
     refused(&[b"ED\0\0".to_vec()], 4, 0);
     refused(&[nd(INPUT), ed(1, 0)], 4, 20);
     refused(&[nd(INPUT), ed(0, 1)], 4, 20);
-    refused(&[nd(LINK), nd(INPUT), ed(0, 1)], 5, 40);
-    refused(&[nd(LINK), nd(OUTPUT), ed(1, 0)], 5, 40);
-    refused(&[nd(LINK), ed(0, 0)], 5, 20);
-    refused(&[pair(), ed(0, 1)], 5, 46);
+    // Into an input, out of an output; to itself; a repeated pair: each at the `from` field.
+    refused(&[nd(LINK), nd(INPUT), ed(0, 1)], 5, 42);
+    refused(&[nd(LINK), nd(OUTPUT), ed(1, 0)], 5, 42);
+    refused(&[nd(LINK), ed(0, 0)], 19, 22);
+    refused(&[nd(STORAGE), ed(0, 0)], 19, 22);
+    refused(&[pair(), ed(0, 1)], 20, 48);
+    // The pair is compared with every edge before it, the first and the last.
+    let line = [nd(INPUT), nd(LINK), nd(LINK), nd(OUTPUT), ed(0, 1), ed(1, 2), ed(2, 3)].concat();
+    for (from, to) in [(0, 1), (1, 2), (2, 3)] {
+        refused(&[line.clone(), ed(from, to)], 20, 100);
+    }
+    // A pair has a direction.
     accepted(&[nd(INPUT), nd(LINK), nd(LINK), ed(0, 1), ed(1, 2), ed(2, 1)]);
+}
+
+#[test]
+fn the_order_of_an_edges_refusals() {
+    // Out of order (2) and one too many (6) by its mark alone, a cut record (1) and a node that is not there (4): before the rest, at the record.
+    refused(&[nd(LINK), cut(ed(0, 0), 5)], 1, 20);
+    refused(&[nd(OUTPUT), nd(INPUT), cut(ed(0, 1), 4)], 1, 40);
+    refused(&[pair(), vs(None, &[(0, 1.0)]), ed(0, 1)], 2, 64);
+    refused(&[nd(OUTPUT), ed(0, 1)], 4, 20);
+    refused(&[nd(LINK), ed(1, 1)], 4, 20);
+    let edges: Vec<Vec<u8>> = (0..512).map(|i| ed(i / 32, 16 + i % 32)).collect();
+    refused(&[nd(INPUT).repeat(16), nd(OUTPUT).repeat(32), edges.concat(), ed(0, 0)], 6, 48 * 20 + 512 * 6);
+    // 5 before 19: an input's or an output's edge to itself.
+    refused(&[nd(INPUT), ed(0, 0)], 5, 22);
+    refused(&[nd(OUTPUT), ed(0, 0)], 5, 22);
+    // All three of a record before anything of the next: 19 here, though the next is 5.
+    refused(&[nd(LINK), nd(INPUT), ed(0, 0), ed(0, 1)], 19, 42);
+    refused(&[pair(), ed(0, 1), ed(1, 0)], 20, 48);
+    refused(&[pair(), ed(1, 0), ed(0, 1)], 5, 48);
+    refused(&[nd(LINK), ed(0, 0), b"XX".to_vec()], 19, 22);
 }
 
 #[test]

@@ -12,20 +12,20 @@ pub struct Refusal {
 /// What a place is.
 #[derive(Debug, Clone, Copy, PartialEq, Eq)]
 pub enum Place {
-    /// The offset of a record, or of the first byte left over.
+    /// The offset of a record; for 12 also of the first byte left over; for 5, 19 and 20 of an edge's `from` field, which its `to` field follows.
     Byte,
     Node,
     Row,
 }
 
 /// The words and the kind of place of each number; without one, the place is 0. The C header has the same.
-const REFUSALS: [(&str, Option<Place>); 19] = [
+const REFUSALS: [(&str, Option<Place>); 21] = [
     ("accepted", None),
     ("file ends inside a mark or field", Some(Place::Byte)),
     ("unknown or out-of-order mark", Some(Place::Byte)),
     ("value outside its range, NaN, or min_active over max_active", Some(Place::Byte)),
     ("node index not under the node count", Some(Place::Byte)),
-    ("edge into an input, out of an output, to itself, or repeating a pair", Some(Place::Byte)),
+    ("edge into an input or out of an output", Some(Place::Byte)),
     ("a record beyond its maximum", Some(Place::Byte)),
     ("no edges", None),
     ("link without incoming or outgoing edge", Some(Place::Node)),
@@ -39,6 +39,8 @@ const REFUSALS: [(&str, Option<Place>); 19] = [
     ("a buffer of store, work or output under the length its ceilings need", None),
     ("store misshapen", None),
     ("row not under the count", Some(Place::Row)),
+    ("edge from a node to itself", Some(Place::Byte)),
+    ("edge repeating the pair of an earlier edge", Some(Place::Byte)),
 ];
 
 impl Refusal {

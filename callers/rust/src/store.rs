@@ -38,7 +38,7 @@ impl Store {
         }
     }
 
-    /// Writes the programme of a network file, or refuses with 1 to 11 or 16. The work runs are all zero after it, but untouched after 16.
+    /// Writes the programme of a network file, or refuses with 1 to 11, 16, 19 or 20. The work runs are all zero after it, but untouched after 16.
     pub fn build(&mut self, file: &[u8], sentinel: Sentinel, words: &mut [u16], numbers: &mut [f64]) -> Result<(), Refusal> {
         calls::build(file, sentinel, self, words, numbers)
     }

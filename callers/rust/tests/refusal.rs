@@ -1,5 +1,5 @@
-//! The words of the refusals, which the C header has too.
-use pywr::{Place, Refusal};
+//! The words of the refusals, which the C header has too, and the place of a refused edge.
+use pywr::{BUILD_NUMBERS, BUILD_WORDS, Place, Refusal, Sentinel, Store};
 
 /// What the C program `refusals` prints; callers/c/Makefile holds it to this.
 const TABLE: &str = include_str!("../../c/refusals.out");
@@ -10,7 +10,7 @@ fn the_header_has_the_same_words() {
         let refusal = Refusal { number, place: 0 };
         format!("{number}|{}|{}\n", refusal.text(), refusal.place_kind().map_or("", Place::text))
     };
-    assert_eq!((0..=19).map(line).collect::<String>(), TABLE);
+    assert_eq!((0..=21).map(line).collect::<String>(), TABLE);
 }
 
 #[test]
@@ -21,7 +21,7 @@ fn each_number_is_shown_with_its_words_and_place() {
         "2 at 5: unknown or out-of-order mark, byte 5",
         "3 at 5: value outside its range, NaN, or min_active over max_active, byte 5",
         "4 at 5: node index not under the node count, byte 5",
-        "5 at 5: edge into an input, out of an output, to itself, or repeating a pair, byte 5",
+        "5 at 5: edge into an input or out of an output, byte 5",
         "6 at 5: a record beyond its maximum, byte 5",
         "7 at 0: no edges",
         "8 at 5: link without incoming or outgoing edge, node 5",
@@ -35,12 +35,33 @@ fn each_number_is_shown_with_its_words_and_place() {
         "16 at 0: a buffer of store, work or output under the length its ceilings need",
         "17 at 0: store misshapen",
         "18 at 5: row not under the count, row 5",
+        "19 at 5: edge from a node to itself, byte 5",
+        "20 at 5: edge repeating the pair of an earlier edge, byte 5",
     ];
     for (text, number) in shown.iter().zip(0..) {
         let place = if [0, 7, 11, 15, 16, 17].contains(&number) { 0 } else { 5 };
         assert_eq!(Refusal { number, place }.to_string(), *text);
     }
-    for number in [19, u64::MAX] {
+    for number in [21, u64::MAX] {
         assert_eq!(Refusal { number, place: 3 }.to_string(), format!("{number} at 3: unknown refusal"));
+    }
+}
+
+/// The place of 5, 19 and 20 is the `from` field of the edge, and its `to` field follows: an error message can name the nodes.
+#[test]
+fn a_refused_edge_is_found_by_its_place() {
+    for (slip, number, place, ends) in [
+        ("into_input", 5, 292, [2, 1]),
+        ("out_of_output", 5, 328, [10, 9]),
+        ("to_itself", 19, 274, [3, 3]),
+        ("repeated_pair", 20, 268, [0, 3]),
+    ] {
+        let name = format!("{}/../../examples/refused/{slip}.network", env!("CARGO_MANIFEST_DIR"));
+        let network = std::fs::read(name).unwrap();
+        let (mut words, mut numbers) = (vec![7; BUILD_WORDS], vec![7.0; BUILD_NUMBERS]);
+        let answer = Store::new().build(&network, Sentinel::Infinity, &mut words, &mut numbers);
+        assert_eq!(answer, Err(Refusal { number, place }), "{slip}");
+        let at = place as usize;
+        assert_eq!([at, at + 2].map(|at| u16::from_le_bytes([network[at], network[at + 1]])), ends, "{slip}");
     }
 }

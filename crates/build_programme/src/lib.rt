@@ -124,7 +124,7 @@ fn assemble_columns(
     )
 }
 
-// The programme of a network file in the work runs, or refusal 1 to 11.
+// The programme of a network file in the work runs, or the file's refusal, or 11.
 pub fn assemble(s: &[u8], sentinel: Sentinel, words: &mut [u16], numbers: &mut [f64]) -> Assembled
     requires { ⌜ WorkRoom (now words) (now numbers) ⌝ }
     ensures { λ r. ⌜ AfterAssemble sentinel (now (s .entry)) r (now (words .exit)) (now (numbers .exit)) ⌝ }

@@ -37,7 +37,7 @@ pub record Made (s : Sentinel) (file : List ℕ) (z : Sizes) (words : List ℕ) 
   pub is : build s file ≡ value built
   pub laid : Laid s built z words numbers
 
--- what assembling promises, refusals 1 to 11 included
+-- what assembling promises, refusals included
 pub record AfterAssemble (s : Sentinel) (file : List ℕ) (r : Assembled) (words : List ℕ) (numbers : List Float) : Type 0 where
   pub refusal : (n p : ℕ) → r ≡ Assembled.Refused n p → build s file ≡ refused n p
   pub made : (z : Sizes) → r ≡ Assembled.Done z → Made s file z words numbers

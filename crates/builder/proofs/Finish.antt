@@ -67,7 +67,7 @@ module _ (s : Sentinel) (file : List ℕ) (old : Store) (words : List ℕ) (numb
     unfolding buildNumbers cleared
     numbers-are = rw ok (xz ∙ ap (λ (k : ℕ). replicate k zero64) xl)
 
-    -- 1 to 11: the store is as it was
+    -- any refusal but 16: the store is as it was
     pub refuse : {n p : ℕ} → a ≡ Assembled.Refused n p → AfterBuild s file old words numbers (Answer.Refused n p) old words′ numbers′
     unfolding buildAnswer buildStore storeOfBuild need _>>=_ answerOf
     refuse {n} {p} e =

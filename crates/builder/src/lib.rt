@@ -4,7 +4,7 @@ use pywr::Answer;
 use pywr::Sentinel;
 ghost use Rattle.pywr.specs.Calls.{AfterBuild};
 
-// Writes the programme of a network file into the store, or refuses with 1 to 11 or 16.
+// Writes the programme of a network file into the store, or refuses with 1 to 11, 16, 19 or 20.
 pub fn build(
     file: &[u8],
     sentinel: Sentinel,

@@ -25,6 +25,11 @@ pub next-tested : (b : Bool) (f : Checked) (n p y : ℕ) → cond b f (Checked.R
 next-tested true f n p y e = (refl, e)
 next-tested false f n p y e = absurd (let z : _≡_ {A = ℕ} 0 1 = cc in omega arith)
 
+-- the refusal where the test holds
+pub next-unless : (b : Bool) (n p : ℕ) (f : Checked) (y : ℕ) → cond b (Checked.Refused n p) f ≡ Checked.Next y → (b ≡ false) × (f ≡ Checked.Next y)
+next-unless true n p f y e = absurd (let z : _≡_ {A = ℕ} 0 1 = cc in omega arith)
+next-unless false n p f y e = (refl, e)
+
 -- the parts of a check that passed
 pub field-next : (f : Field) (S : ℕ → Checked) (x : ℕ) → fieldThen f S ≡ Checked.Next x → (y : ℕ) × (f ≡ Field.Value y) × (S y ≡ Checked.Next x)
 field-next (Field.Value y) S x e = (y, refl, e)

@@ -14,7 +14,7 @@ pub enum Loaded {
     Refused(u8, usize),
 }
 
-// The records up to the file's end: refusals 1 to 6.
+// The records up to the file's end: refusals 1 to 6, 19 and 20.
 pub fn scan(s: &[u8]) -> Loaded
     ensures { λ r. ⌜ (readRecords (length (now (s .entry))) (now (s .entry)) start ≡ resultOf (now (s .entry)) r) × Placed (now (s .entry)) r ⌝ }
 {
@@ -65,7 +65,7 @@ pub fn scan(s: &[u8]) -> Loaded
     })
 }
 
-// The whole file: refusals 1 to 10.
+// The whole file: refusals 1 to 10, 19 and 20.
 pub fn load(s: &[u8]) -> Loaded
     ensures { λ r. ⌜ (parseNetwork (now (s .entry)) ≡ resultOf (now (s .entry)) r) × Placed (now (s .entry)) r ⌝ }
 {

@@ -39,16 +39,18 @@ pairAmong file (suc count) at from to =
     let rest = pairAmong file count (at + edgeLength) from to in
     (eqb (le16 file (at + fromOffset)) from && eqb (le16 file (at + toOffset)) to) || rest
 
--- 5 "edge into an input, out of an output, to itself, or repeating a pair": the earlier records are read where they stand
-unfoldable pub badEdgeAt : List ℕ → ℕ → ℕ → ℕ → ℕ → Bool
-badEdgeAt file nodes edges from to =
-    eqb (byte file (nodePlace to + kindOffset)) input
-    || eqb (byte file (nodePlace from + kindOffset)) output
-    || eqb from to
-    || pairAmong file edges (nodePlace nodes) from to
+-- 5 "an edge into an input or out of an output": the nodes' kinds are read where their records stand
+unfoldable pub wrongWayAt : List ℕ → ℕ → ℕ → Bool
+wrongWayAt file from to = eqb (byte file (nodePlace to + kindOffset)) input || eqb (byte file (nodePlace from + kindOffset)) output
+
+-- an edge whose ends are nodes: 5, 19 and 20 in turn, at the `from` field of its record at `at`
+unfoldable pub checkEnds : List ℕ → ℕ → ℕ → ℕ → ℕ → ℕ → Checked
+checkEnds file nodes edges at from to =
+    cond (wrongWayAt file from to) (Checked.Refused 5 (at + fromOffset))
+    (cond (eqb from to) (Checked.Refused 19 (at + fromOffset))
+    (cond (pairAmong file edges (nodePlace nodes) from to) (Checked.Refused 20 (at + fromOffset)) (Checked.Next (at + edgeLength))))
 
 unfoldable pub checkEdge : List ℕ → ℕ → ℕ → ℕ → Checked
 checkEdge file nodes edges at =
     fieldThen (nodeField file at (at + fromOffset) nodes) (λ from.
-    fieldThen (nodeField file at (at + toOffset) nodes) (λ to.
-    cond (badEdgeAt file nodes edges from to) (Checked.Refused 5 at) (Checked.Next (at + edgeLength))))
+    fieldThen (nodeField file at (at + toOffset) nodes) (λ to. checkEnds file nodes edges at from to))

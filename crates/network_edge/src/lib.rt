@@ -3,7 +3,8 @@ ghost use mathlib.Core.Path.{_≡_};
 ghost use Prim.Native.Nat.{_+_, _*_, _<_, _≤_, _^_};
 ghost use lib.ListN.{length};
 ghost use Rattle.fields.specs.Field.{NextWithin};
-ghost use Rattle.network_edge.specs.Edge.{pairAmong, badEdgeAt, checkEdge, edgeAt, edgeLength, edgePlace, endOf};
+ghost use Rattle.network_node.specs.Node.{nodeLength, nodePlace};
+ghost use Rattle.network_edge.specs.Edge.{pairAmong, wrongWayAt, checkEnds, checkEdge, edgeAt, edgeLength, edgePlace, endOf};
 use fields::Checked;
 use fields::Field;
 use pywr::EdgeIndex;
@@ -50,21 +51,42 @@ fn pair_among(s: &[u8], count: usize, start: usize, from: NodeIndex, to: NodeInd
     false
 }
 
-// 5 of an edge whose ends are nodes: into an input, out of an output, to itself, or repeating a pair.
-fn bad_edge(s: &[u8], nodes: usize, edges: usize, from: NodeIndex, to: NodeIndex) -> bool
-    requires { ⌜ (edgePlace nodes edges ≤ length (now s)) × (from .0 < nodes) × (to .0 < nodes) × (nodes ≤ 65536) ⌝ }
-    ensures { λ r. ⌜ r ≡ badEdgeAt (now (s .entry)) nodes edges (from .0) (to .0) ⌝ }
+// 5 of an edge whose ends are nodes: into an input, or out of an output.
+fn wrong_way(s: &[u8], from: NodeIndex, to: NodeIndex) -> bool
+    requires { ⌜ (nodePlace (from .0) + nodeLength ≤ length (now s)) × (nodePlace (to .0) + nodeLength ≤ length (now s)) ⌝ }
+    ensures { λ r. ⌜ r ≡ wrongWayAt (now (s .entry)) (from .0) (to .0) ⌝ }
 {
     if network_node::kind(s, to) == 0 {
         return true;
     }
-    if network_node::kind(s, from) == 1 {
-        return true;
+    network_node::kind(s, from) == 1
+}
+
+// 5, 19 and 20 of an edge whose ends are nodes, behind `nodes` nodes and `edges` edges. Their place is the `from` field of its record at `at`.
+fn check_ends(
+    s: &[u8],
+    nodes: usize,
+    edges: usize,
+    at: usize,
+    from: NodeIndex,
+    to: NodeIndex,
+) -> Checked
+    requires { ⌜ (at + edgeLength ≤ length (now s)) × (edgePlace nodes edges ≤ length (now s)) × (from .0 < nodes) × (to .0 < nodes) × (nodes ≤ 65536) ⌝ }
+    ensures { λ r. ⌜ (r ≡ checkEnds (now (s .entry)) nodes edges at (from .0) (to .0)) × NextWithin r (length (now (s .entry))) ⌝ }
+{
+    let place = at + FROM_OFFSET;
+    let wrong = wrong_way(s, from, to);
+    let itself = from.0 == to.0;
+    if wrong {
+        return Checked::Refused(5, place);
     }
-    if from.0 == to.0 {
-        return true;
+    if itself {
+        return Checked::Refused(19, place);
     }
-    pair_among(s, edges, network_node::nodes_end(nodes), from, to)
+    if pair_among(s, edges, network_node::nodes_end(nodes), from, to) {
+        return Checked::Refused(20, place);
+    }
+    Checked::Next(at + EDGE_LENGTH)
 }
 
 // The edge whose record stands at `at`, behind `nodes` nodes and `edges` edges.
@@ -82,10 +104,7 @@ pub fn check_edge(s: &[u8], nodes: usize, edges: usize, at: usize) -> Checked
                 Field::Value(to) => {
                     let from_node = NodeIndex(widths::narrow16(from));
                     let to_node = NodeIndex(widths::narrow16(to));
-                    if bad_edge(s, nodes, edges, from_node, to_node) {
-                        return Checked::Refused(5, at);
-                    }
-                    Checked::Next(at + EDGE_LENGTH)
+                    check_ends(s, nodes, edges, at, from_node, to_node)
                 }
             }
         }

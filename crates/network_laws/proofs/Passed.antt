@@ -2,19 +2,19 @@
 use Prim.Native.Nat.{ℕ, _+_, _*_, _<_, _≤_}
 use mathlib.Core.Path.{_≡_, sym, _∙_, ap, subst}
 use mathlib.Core.List.{List}
-use mathlib.Core.Bool.{Bool, true, false, cond}
 use native.Mathlib.Omega.{arith}
 use lib.ListN.{length}
+use lib.Dec.{eqb}
 use Rattle.pywr.specs.Bytes.{byte, le16}
 use Rattle.pywr.specs.NetworkFile.{mostConstant}
 use Rattle.fields.specs.Field.{byteField, nodeField, activeField, checkFactor}
 use Rattle.fields.specs.Records.{checkEach}
 use Rattle.fields.specs.declared.Checked.{Checked}
-use Rattle.fields.proofs.Within.{byte-within, node-within, active-within, factor-within, field-next, check-next}
+use Rattle.fields.proofs.Within.{byte-within, node-within, active-within, factor-within, next-unless, field-next, check-next}
 use Rattle.fields.proofs.RecordLaws.{end-fixed, each-ends, each-pass, each-within, nextOf}
 use Rattle.network_node.specs.Node.{checkBound, checkNode}
 use Rattle.network_node.proofs.BoundWithin.{bound-within}
-use Rattle.network_edge.specs.Edge.{badEdgeAt, checkEdge}
+use Rattle.network_edge.specs.Edge.{pairAmong, wrongWayAt, checkEnds, checkEdge}
 use Rattle.network_aggregate.specs.AggregatedNode.{setEnd, aggregateEnd, checkMember, checkSet, checkAggregate}
 use Rattle.network_virtual_storage.specs.VirtualStorage.{virtualStorageEnd, checkPart, checkDates, checkVirtualStorage}
 use Rattle.network_laws.specs.Passed.{NodePassed, EdgePassed, SetPassed, AggregatePassed, PartPassed, VirtualStoragePassed}
@@ -51,9 +51,13 @@ module _ (file : List ℕ) where
 
   -- ---- an edge
 
-  next-six : (b : Bool) (at x : ℕ) → cond b (Checked.Refused 5 at) (Checked.Next (at + 6)) ≡ Checked.Next x → x ≡ at + 6
-  next-six true at x e = absurd (let z : _≡_ {A = ℕ} 0 1 = cc in omega arith)
-  next-six false at x e = sym (ap nextOf e)
+  ends-next : (nodes edges at from to x : ℕ) → checkEnds file nodes edges at from to ≡ Checked.Next x → x ≡ at + 6
+  unfolding checkEnds
+  ends-next nodes edges at from to x h =
+      let way = next-unless (wrongWayAt file from to) 5 (at + 2) _ x h in
+      let apart = next-unless (eqb from to) 19 (at + 2) _ x (way .1) in
+      let pair = next-unless (pairAmong file edges (20 * nodes) from to) 20 (at + 2) (Checked.Next (at + 6)) x (apart .1) in
+      sym (ap nextOf (pair .1))
 
   module _ (nodes edges at x : ℕ) (h : checkEdge file nodes edges at ≡ Checked.Next x) where
     pub edge-end : x ≡ at + 6
@@ -61,7 +65,7 @@ module _ (file : List ℕ) where
     edge-end =
         let a = field-next (nodeField file at (at + 2) nodes) _ x h in
         let b = field-next (nodeField file at (at + 4) nodes) _ x (a .2) in
-        next-six (badEdgeAt file nodes edges (a .0) (b .0)) at x (b .2)
+        ends-next nodes edges at (a .0) (b .0) x (b .2)
 
     pub edge-passed : EdgePassed file nodes at
     unfolding checkEdge

@@ -12,12 +12,12 @@ use Rattle.pywr.specs.Result.{Result, value, refused, _>>=_, need}
 use Rattle.pywr.specs.Bytes.{byte, le16, le32, u8, u16, bits64, checked}
 use Rattle.pywr.specs.Numbers.{isSmall, ofPattern}
 use Rattle.pywr.specs.Network.{Node, Edge, Part, Network, kindOf, noNode}
-use Rattle.pywr.specs.NetworkFile.{Read, between, readNode, readEdge, readMembers, readSets, readAggregate, readParts, readVirtualStorage, joins, badEdge, leastDate, mostDate, mostConstant}
+use Rattle.pywr.specs.NetworkFile.{Read, between, readNode, readEdge, readMembers, readSets, readAggregate, readParts, readVirtualStorage, joins, wrongWay, leastDate, mostDate, mostConstant}
 use Rattle.fields.specs.Records.{recordsAt, recordsEnd, checkEach}
 use Rattle.fields.specs.declared.Checked.{Checked}
 use Rattle.fields.proofs.RecordLaws.{records-length, records-get, end-fixed}
 use Rattle.network_node.specs.Node.{nodeAt, checkNode}
-use Rattle.network_edge.specs.Edge.{edgeAt, pairAmong, badEdgeAt, checkEdge}
+use Rattle.network_edge.specs.Edge.{edgeAt, pairAmong, wrongWayAt, checkEnds, checkEdge}
 use Rattle.network_aggregate.specs.AggregatedNode.{setAt, setEnd, aggregateAt, checkMember, checkSet, checkAggregate}
 use Rattle.network_virtual_storage.specs.VirtualStorage.{partAt, periodAt, virtualStorageAt, checkPart, checkDates, checkVirtualStorage}
 use Rattle.network_laws.specs.NetworkAt.{nodeRecords, networkAt}
@@ -154,22 +154,32 @@ module _ (file : List ℕ) where
   joins-law zero at from to = refl
   joins-law (suc e) at from to = ap (λ (b : Bool). (eqb (le16 file (at + 2)) from && eqb (le16 file (at + 4)) to) || b) (joins-law e (at + 6) from to)
 
-  bad-law : (n e a v from to : ℕ) → from < n → to < n → badEdge (networkAt file n e a v) from to ≡ badEdgeAt file n e from to
-  unfolding badEdge badEdgeAt networkAt
-  bad-law n e a v from to f t = rw (kind-law n to t, kind-law n from f, joins-law e (20 * n) from to)
+  way-law : (n e a v from to : ℕ) → from < n → to < n → wrongWay (networkAt file n e a v .nodes) from to ≡ wrongWayAt file from to
+  unfolding wrongWay wrongWayAt networkAt
+  way-law n e a v from to f t = rw (kind-law n to t, kind-law n from f)
 
-  need-law : (b : Bool) (at : ℕ) (item : Edge) → need (not b) 5 at (record { item = item; next = at + 6 }) ≡ answer item (cond b (Checked.Refused 5 at) (Checked.Next (at + 6)))
-  unfolding need
-  need-law true at item = refl
-  need-law false at item = refl
+  -- 5, 19, 20: one law over the number
+  need-law : (b : Bool) (number place : ℕ) (edge : Edge) (next : Edge → Result (Read Edge)) (st : Checked) → next edge ≡ answer edge st
+      → (need (not b) number place edge >>= next) ≡ answer edge (cond b (Checked.Refused number place) st)
+  unfolding need _>>=_
+  need-law true number place edge next st h = refl
+  need-law false number place edge next st h = h
 
   pub edge-law : (n e a v at : ℕ) → readEdge (networkAt file n e a v) file at ≡ answer (edgeAt file at) (checkEdge file n e at)
-  unfolding readEdge checkEdge networkAt
+  unfolding readEdge checkEdge checkEnds networkAt
   edge-law n e a v at =
-      let bad = badEdgeAt file n e (le16 file (at + 2)) (le16 file (at + 4)) in
+      let from = le16 file (at + 2) in
+      let to = le16 file (at + 4) in
+      let edge : Edge = edgeAt file at in
+      let repeats = joins (networkAt file n e a v .edges) from to in
+      let read : Edge → Result (Read Edge) = λ item. value (record { item = item; next = at + 6 }) in
+      let unrepeated : Bool → Edge → Result (Read Edge) = λ repeats apart. need (not repeats) 20 (at + 2) apart >>= read in
+      let answers : Bool → Bool → Result (Read Edge) = λ wrong repeats.
+      need (not wrong) 5 (at + 2) edge >>= λ rightWay. need (not (eqb from to)) 19 (at + 2) rightWay >>= unrepeated repeats in
       rw (records-length (nodeAt file) (λ at. at + 20) n 0)
       (node-then _ _ _ file at (at + 2) n
       (λ f. node-then _ _ _ file at (at + 4) n
-      (λ t. ap (λ (b : Bool). need (not b) 5 at (record { item = edgeAt file at; next = at + 6 }))
-      (bad-law n e a v (le16 file (at + 2)) (le16 file (at + 4)) (ltb-true _ _ f) (ltb-true _ _ t))
-      ∙ need-law bad at (edgeAt file at))))
+      (λ t. ap (λ (wrong : Bool). answers wrong repeats) (way-law n e a v from to (ltb-true _ _ f) (ltb-true _ _ t))
+      ∙ ap (answers (wrongWayAt file from to)) (joins-law e (20 * n) from to)
+      ∙ need-law (wrongWayAt file from to) 5 (at + 2) edge _ _
+      (need-law (eqb from to) 19 (at + 2) edge _ _ (need-law (pairAmong file e (20 * n) from to) 20 (at + 2) edge read _ refl)))))

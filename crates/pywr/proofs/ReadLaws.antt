@@ -1,4 +1,4 @@
--- A network that was read is sound: no edge to itself, links with edges in and out, members under the node count, counts within the maxima, and
+-- A network that was read is sound: no edge into an input, out of an output or to itself, links with edges in and out, members under the node count, counts within the maxima, and
 -- doubles that are bounds. Assumes nothing.
 use mathlib.Core.Path.{_≡_, refl, sym, ap, _∙_, subst}
 use mathlib.Core.Logic.{_≢_}
@@ -8,16 +8,16 @@ use native.Mathlib.Omega.{arith}
 use mathlib.Core.Bool.{Bool, true, false, cond, not, _&&_, _||_}
 use mathlib.Core.List.{List, [], _∷_, _++_}
 use mathlib.Core.Option.{Option, none, some}
-use lib.ListN.{length, getElem?, length-append}
-use lib.Dec.{T, T-not, leb, ltb, eqb, leb→le, ltb→lt, eqb-refl}
+use lib.ListN.{length, getElem?, length-append, List·getD-append}
+use lib.Dec.{T, T-not, leb, ltb, eqb, leb→le, ltb→lt}
 use lib.Ieee.{inf, lt, eq}
-use lib.Ieee.Fits.{and-r}
+use lib.Ieee.Fits.{and-r, eq→eqb}
 use Rattle.laws.proofs.Tests.{or-l, or-r, cond-yes}
 use Rattle.pywr.specs.Result.{value, Result, _>>=_, need}
 use Rattle.pywr.specs.Bytes.{checked}
 use Rattle.pywr.specs.Numbers.{isFlow, isSmall, ofPattern}
-use Rattle.pywr.specs.Network.{input, output, link, Node, Edge, Aggregate, Part, VirtualStorage, Network, kindOf, isExclusive, incoming, outgoing}
-use Rattle.pywr.specs.NetworkFile.{between, Read, ND, constantFits, readNode, ED, joins, badEdge, readEdge, readMembers, readSets, AG}
+use Rattle.pywr.specs.Network.{input, output, link, Node, Edge, Aggregate, Part, VirtualStorage, Network, noNode, kindOf, isExclusive, incoming, outgoing}
+use Rattle.pywr.specs.NetworkFile.{between, Read, ND, constantFits, readNode, ED, wrongWay, readEdge, readMembers, readSets, AG}
 use Rattle.pywr.specs.NetworkFile.{readAggregate, readParts, VS, readVirtualStorage, Mark, hasRoom, withNode, withEdge, withAggregate, withVirtualStorage, readBody, Reading}
 use Rattle.pywr.specs.NetworkFile.{readRecord, readRecords, emptyNetwork, firstRefused, isEmpty, unconnectedLink, badConstant, refusedIf, checkNetwork, parseNetwork}
 use Rattle.pywr.proofs.BoundLaws.{IsBound}
@@ -66,24 +66,36 @@ read-node file at r e =
       most = λ t. flow-bound d (flows d (checked-value 3 at (constantFits b) _ d d-is) t);
     })))))
 
-pub record EdgeOk (nodes : ℕ) (x : Edge) : Type 0 where
+pub record EdgeOk (nodes : List Node) (x : Edge) : Type 0 where
+  pub from-under : x .from < length nodes
+  pub to-under : x .to < length nodes
+  pub intoNoInput : kindOf nodes (x .to) ≢ input
+  pub outOfNoOutput : kindOf nodes (x .from) ≢ output
   pub apart : x .from ≢ x .to
-  pub from-under : x .from < nodes
-  pub to-under : x .to < nodes
 
-read-edge : (net : Network) (file : List ℕ) (at : ℕ) (r : Read Edge) → readEdge net file at ≡ value r → EdgeOk (length (net .nodes)) (r .item)
-unfolding readEdge badEdge
+read-edge : (net : Network) (file : List ℕ) (at : ℕ) (r : Read Edge) → readEdge net file at ≡ value r → EdgeOk (net .nodes) (r .item)
+unfolding readEdge wrongWay
 read-edge net file at r e =
     bind-then _ _ r e (λ from from-is e. bind-then _ _ r e (λ to to-is e.
-    let ok : T (not (badEdge net from to)) = need-test _ 5 at _ r e in
-    let first : Bool = eqb (kindOf (net .nodes) to) input || eqb (kindOf (net .nodes) from) output in
+    bind-then _ _ r e (λ rightWay rightWay-is e. bind-then _ _ r e (λ apart apart-is e. bind-then _ _ r e (λ unrepeated unrepeated-is e.
     let under : ℕ → Bool = (λ (n : ℕ). ltb n (length (net .nodes))) in
-    subst (λ (q : Read Edge). EdgeOk (length (net .nodes)) (q .item)) (need-value _ 5 at _ r e)
+    let into : Bool = eqb (kindOf (net .nodes) to) input in
+    let right : T (not (wrongWay (net .nodes) from to)) = need-test _ _ _ _ rightWay rightWay-is in
+    let differ : T (not (eqb from to)) = need-test _ _ _ rightWay apart apart-is in
+    let edge : Edge = record { from = from; to = to } in
+    let same : edge ≡ r .item =
+    need-value _ _ _ edge rightWay rightWay-is
+    ∙ need-value _ _ _ rightWay apart apart-is
+    ∙ need-value _ _ _ apart unrepeated unrepeated-is
+    ∙ ap (λ (q : Read Edge). q .item) (same-value _ r e) in
+    subst (EdgeOk (net .nodes)) same
     (record {
-      apart = λ q. T-not (badEdge net from to) ok (or-l (first || eqb from to) (joins (net .edges) from to) (or-r first (eqb from to) (subst (λ (k : ℕ). T (eqb from k)) q (eqb-refl from))));
       from-under = ltb→lt from (length (net .nodes)) (checked-value 4 at under _ from from-is);
       to-under = ltb→lt to (length (net .nodes)) (checked-value 4 at under _ to to-is);
-    })))
+      intoNoInput = λ q. T-not (wrongWay (net .nodes) from to) right (or-l into _ (eq→eqb q));
+      outOfNoOutput = λ q. T-not (wrongWay (net .nodes) from to) right (or-r into (eqb (kindOf (net .nodes) from) output) (eq→eqb q));
+      apart = λ q. T-not (eqb from to) differ (eq→eqb q);
+    }))))))
 
 -- ---- aggregates
 
@@ -168,7 +180,7 @@ read-virtual-storage net file at r e =
 
 pub record Good (net : Network) : Type 0 where
   pub nodes : AllMem NodeOk (net .nodes)
-  pub edges : AllMem (EdgeOk (length (net .nodes))) (net .edges)
+  pub edges : AllMem (EdgeOk (net .nodes)) (net .edges)
   pub aggregates : AllMem (AggregateOk (length (net .nodes))) (net .aggregates)
   pub virtualStorages : AllMem VirtualStorageOk (net .virtualStorages)
   pub nodeCount : length (net .nodes) ≤ 256
@@ -183,8 +195,20 @@ more-nodes n m h a ok =
       few = ok .few;
     }
 
-more-ends : (n m : ℕ) → n ≤ m → (x : Edge) → EdgeOk n x → EdgeOk m x
-more-ends n m h x ok = record { apart = ok .apart; from-under = (let l = ok .from-under in omega arith); to-under = (let l = ok .to-under in omega arith) }
+kind-kept : (nodes : List Node) (node : Node) (n : ℕ) → n < length nodes → kindOf (nodes ++ (node ∷ [])) n ≡ kindOf nodes n
+unfolding kindOf
+kind-kept nodes node n h = ap (λ (x : Node). x .kind) (List·getD-append nodes (node ∷ []) noNode n h)
+
+more-ends : (nodes : List Node) (node : Node) (x : Edge) → EdgeOk nodes x → EdgeOk (nodes ++ (node ∷ [])) x
+more-ends nodes node x ok =
+    let l = length-append nodes (node ∷ []) in
+    record {
+      from-under = (let h = ok .from-under in omega arith);
+      to-under = (let h = ok .to-under in omega arith);
+      intoNoInput = λ q. ok .intoNoInput (sym (kind-kept nodes node (x .to) (ok .to-under)) ∙ q);
+      outOfNoOutput = λ q. ok .outOfNoOutput (sym (kind-kept nodes node (x .from) (ok .from-under)) ∙ q);
+      apart = ok .apart;
+    }
 
 body : (m : Mark) (net : Network) (file : List ℕ) (at : ℕ) (r : Read Network) → T (hasRoom net m) → readBody m net file at ≡ value r → Good net → Good (r .item)
 unfolding readBody hasRoom withNode withEdge withAggregate withVirtualStorage
@@ -196,7 +220,7 @@ body ND net file at r room e g =
     subst (λ (q : Read Network). Good (q .item)) (same-value _ r (a .2))
     (record {
       nodes = all-snoc NodeOk (net .nodes) x (g .nodes) (read-node file at (a .0) (a .1));
-      edges = λ y k. more-ends (length (net .nodes)) (length (net .nodes ++ (x ∷ []))) (omega arith) y (g .edges y k);
+      edges = λ y k. more-ends (net .nodes) x y (g .edges y k);
       aggregates = λ y k. more-nodes (length (net .nodes)) (length (net .nodes ++ (x ∷ []))) (omega arith) y (g .aggregates y k);
       virtualStorages = g .virtualStorages;
       nodeCount = omega arith;
@@ -212,7 +236,7 @@ body ED net file at r room e g =
     subst (λ (q : Read Network). Good (q .item)) (same-value _ r (a .2))
     (record {
       nodes = g .nodes;
-      edges = all-snoc (EdgeOk (length (net .nodes))) (net .edges) x (g .edges) (read-edge net file at (a .0) (a .1));
+      edges = all-snoc (EdgeOk (net .nodes)) (net .edges) x (g .edges) (read-edge net file at (a .0) (a .1));
       aggregates = g .aggregates;
       virtualStorages = g .virtualStorages;
       nodeCount = g .nodeCount;
@@ -275,7 +299,7 @@ good-empty : Good emptyNetwork
 good-empty =
     record {
       nodes = all-none NodeOk;
-      edges = all-none (EdgeOk 0);
+      edges = all-none (EdgeOk []);
       aggregates = all-none (AggregateOk 0);
       virtualStorages = all-none VirtualStorageOk;
       nodeCount = zero-le;

@@ -14,7 +14,7 @@ use Rattle.layout.specs.Layout.{aggregatesAt, edgesAt, nodeRowCeiling, nodeRows
 use Rattle.laws.proofs.Tests.{or-l, or-r}
 use Rattle.pywr.specs.declared.Sentinel.{Sentinel}
 use Rattle.pywr.specs.declared.Sentinel.the-variants.{Infinity, Largest}
-use Rattle.pywr.specs.Network.{Edge, VirtualStorage, Network, listed}
+use Rattle.pywr.specs.Network.{Node, Edge, VirtualStorage, Network, listed}
 use Rattle.pywr.specs.ColEdgeMap.{columns, MappedEdge, withColumns, mappedEdges}
 use Rattle.pywr.specs.ExclusiveSets.{exclusiveSets}
 use Rattle.pywr.specs.Rows.{Element, columnMap, aggregateRow, virtualStorageRow}
@@ -151,18 +151,19 @@ record PipeOk (nodes edges : ℕ) (p : MappedEdge) : Type 0 where
   to-under : p .to < nodes
   column-under : p .column < edges
 
-pipe-ends : (nodes : ℕ) (es : List Edge) (cs : List (Option ℕ)) → AllMem (EdgeOk nodes) es → AllMem (λ (p : MappedEdge). (p .from < nodes) × (p .to < nodes)) (withColumns es cs)
+pipe-ends : (nodes : List Node) (es : List Edge) (cs : List (Option ℕ)) → AllMem (EdgeOk nodes) es
+    → AllMem (λ (p : MappedEdge). (p .from < length nodes) × (p .to < length nodes)) (withColumns es cs)
 unfolding withColumns
-pipe-ends nodes [] cs h = all-none (λ (p : MappedEdge). (p .from < nodes) × (p .to < nodes))
-pipe-ends nodes (e ∷ es) [] h = all-none (λ (p : MappedEdge). (p .from < nodes) × (p .to < nodes))
+pipe-ends nodes [] cs h = all-none (λ (p : MappedEdge). (p .from < length nodes) × (p .to < length nodes))
+pipe-ends nodes (e ∷ es) [] h = all-none (λ (p : MappedEdge). (p .from < length nodes) × (p .to < length nodes))
 pipe-ends nodes (e ∷ es) (c ∷ cs) h =
     let k = h e (List·Memᴰ·head refl) in
-    all-cons (λ (p : MappedEdge). (p .from < nodes) × (p .to < nodes)) _ (withColumns es cs) (k .from-under, k .to-under) (pipe-ends nodes es cs (λ x m. h x (List·Memᴰ·tail m)))
+    all-cons (λ (p : MappedEdge). (p .from < length nodes) × (p .to < length nodes)) _ (withColumns es cs) (k .from-under, k .to-under) (pipe-ends nodes es cs (λ x m. h x (List·Memᴰ·tail m)))
 
 pipes-ok : (net : Network) → Sound net → AllMem (PipeOk (length (net .nodes)) (columns net .count)) (mappedEdges net)
 unfolding mappedEdges
 pipes-ok net sound p m =
-    let k = pipe-ends (length (net .nodes)) (net .edges) (columns net .of) (sound .good .edges) p m in
+    let k = pipe-ends (net .nodes) (net .edges) (columns net .of) (sound .good .edges) p m in
     let i = mem-found (withColumns (net .edges) (columns net .of)) p m in
     record { from-under = k .0; to-under = k .1; column-under = mapped-edge-of net (sound .noself) (i .0) p (i .1) .below }
 

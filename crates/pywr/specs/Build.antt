@@ -84,6 +84,6 @@ underCeilings f p =
     && leb (length (p .varying) + length (p .fixed)) rowCeiling
     && leb (elementCount (p .varying) + elementCount (p .fixed)) elementCeiling
 
--- a build's answer: the refusals 1 to 10 of the file, then 11 "programme over its ceilings (place 0)"
+-- a build's answer: the file's refusals, then 11 "programme over its ceilings (place 0)"
 unfoldable pub build : Sentinel → List ℕ → Result Built
 build s file = parseNetwork file >>= λ net. need (underCeilings (columnMap net) (programmeOf s net .programme)) 11 0 (programmeOf s net)

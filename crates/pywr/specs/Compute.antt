@@ -6,7 +6,7 @@ use Rattle.pywr.specs.Result.{_>>=_, need}
 use Rattle.pywr.specs.Bytes.{u8, u16, u32, bits64, checked}
 use Rattle.pywr.specs.Numbers.{double, zero64, one64, two64, million, millionth, trillion, leastDays, mostDays, high, low, lesser, greater, isFlow, isSmall, isDays, ofPattern}
 use Rattle.pywr.specs.Network.{noNode, kindOf, keepIf, listed, anyListed, isExclusive, edgesWith, incoming, outgoing}
-use Rattle.pywr.specs.NetworkFile.{constantFits, readNode, joins, badEdge, readEdge, readMembers, readSets, readAggregate, readParts, readVirtualStorage, markAt}
+use Rattle.pywr.specs.NetworkFile.{constantFits, readNode, joins, wrongWay, readEdge, readMembers, readSets, readAggregate, readParts, readVirtualStorage, markAt}
 use Rattle.pywr.specs.NetworkFile.{inOrder, hasRoom, withNode, withEdge, withAggregate, withVirtualStorage, readBody, between, mostConstant, activeFits, leastDate}
 use Rattle.pywr.specs.NetworkFile.{mostDate, readRecord, readRecords, firstRefused, isEmpty, unconnectedLink, badConstant, refusedIf, checkNetwork, parseNetwork}
 use Rattle.pywr.specs.ColEdgeMap.{columns, columnAt, put, putNew, addSimpleEdge, addEqualEdges, single, sharesWith, placeEdge, placeEdges, withColumns, mappedEdges, columnOf}
@@ -49,7 +49,7 @@ rounding = 0
 -- network files
 unfoldable pub reading : ℕ
 unfolding _>>=_ need u8 u16 u32 bits64 checked double zero64 one64 two64 million millionth trillion leastDays mostDays high low lesser greater isFlow
-    isSmall isDays ofPattern noNode kindOf keepIf listed anyListed isExclusive edgesWith incoming outgoing constantFits readNode joins badEdge
+    isSmall isDays ofPattern noNode kindOf keepIf listed anyListed isExclusive edgesWith incoming outgoing constantFits readNode joins wrongWay
     readEdge readMembers readSets readAggregate between mostConstant activeFits leastDate mostDate readParts readVirtualStorage markAt inOrder hasRoom
     withNode withEdge withAggregate withVirtualStorage readBody readRecord readRecords firstRefused isEmpty unconnectedLink badConstant refusedIf
     checkNetwork parseNetwork

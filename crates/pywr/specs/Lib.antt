@@ -4,6 +4,7 @@ pub mod Bytes
 pub mod Numbers
 pub mod Network
 pub mod NetworkFile
+pub mod EdgeRefusals
 pub mod ColEdgeMap
 pub mod ExclusiveSets
 pub mod Rows

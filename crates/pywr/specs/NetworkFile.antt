@@ -1,6 +1,6 @@
 -- The network file: read left to right to a network, or to the one refusal of document 01's order.
 -- "Order, build: .. per record its mark (1, 2), 6, then fields left to right (1, then 3 or 4), then 5; 7; 8 by node; then by node 9, 10".
--- Refusals 16 and 11 are the build's. Assumes nothing.
+-- "where 5 stood, in the order 5, 19, 20" (document 02, L1). Refusals 16 and 11 are the build's. Assumes nothing.
 use Prim.Native.Nat.{ℕ, zero, suc, _+_}
 use mathlib.Core.List.{List, [], _∷_, _++_}
 use mathlib.Core.Bool.{Bool, true, false, cond, not, _&&_, _||_}
@@ -45,16 +45,20 @@ unfoldable pub joins : List Edge → ℕ → ℕ → Bool
 joins [] from to = false
 joins (edge ∷ edges) from to = (eqb (edge .from) from && eqb (edge .to) to) || joins edges from to
 
--- 5 "edge into an input, out of an output, to itself, or repeating a pair"
-unfoldable pub badEdge : Network → ℕ → ℕ → Bool
-badEdge net from to = eqb (kindOf (net .nodes) to) input || eqb (kindOf (net .nodes) from) output || eqb from to || joins (net .edges) from to
+-- "an edge into an input or out of an output"
+unfoldable pub wrongWay : List Node → ℕ → ℕ → Bool
+wrongWay nodes from to = eqb (kindOf nodes to) input || eqb (kindOf nodes from) output
 
--- `ED`: from u16, to u16
+-- `ED`: from u16, to u16. "in the order 5, 19, 20": the wrong way, "an edge from a node to itself", "a repeated pair". "The place of all these is the `from` field's byte
+-- offset."
 unfoldable pub readEdge : Network → List ℕ → ℕ → Result (Read Edge)
 readEdge net file at = do
   from ← checked 4 at (λ n. ltb n (length (net .nodes))) (u16 file at 1 (at + 2))
   to ← checked 4 at (λ n. ltb n (length (net .nodes))) (u16 file at 1 (at + 4))
-  need (not (badEdge net from to)) 5 at (record { item = record { from = from; to = to }; next = at + 6 })
+  rightWay ← need (not (wrongWay (net .nodes) from to)) 5 (at + 2) (record { from = from; to = to })
+  apart ← need (not (eqb from to)) 19 (at + 2) rightWay
+  unrepeated ← need (not (joins (net .edges) from to)) 20 (at + 2) apart
+  value (record { item = unrepeated; next = at + 6 })
 
 -- `count` more nodes of a set, after those read so far: the set's nodes in order
 unfoldable pub readMembers : List ℕ → ℕ → ℕ → ℕ → List ℕ → ℕ → Result (Read (List ℕ))
@@ -191,7 +195,7 @@ pub record Reading : Type 0 where
   pub at : ℕ
   pub stage : ℕ
 
--- one record: its mark (1, 2), 6, its fields (1, then 3 or 4), 5
+-- one record: its mark (1, 2), 6, its fields (1, then 3 or 4), 5, 19, 20
 unfoldable pub readRecord : List ℕ → Reading → Result Reading
 readRecord file r = do
   found ← need (within file (r .at) 2) 1 (r .at) (markAt file (r .at))

@@ -1,9 +1,10 @@
-# Builds for crates/test_cases: the worked example, each refusal from 1 to 11 at its smallest, and both sides of each ceiling. Used by cases.py.
+# Builds for crates/test_cases: the worked example, each refusal of a network at its smallest, and both sides of each ceiling. Used by cases.py.
 import math
 
-from make import INPUT, LINK, OUTPUT, aggregate, edge, node, virtual_storage
+from make import INPUT, LINK, OUTPUT, STORAGE, aggregate, edge, node, virtual_storage
 
 PAIR = node(INPUT) + node(OUTPUT) + edge(0, 1)
+LINE = node(INPUT) + node(LINK) * 2 + node(OUTPUT) + edge(0, 1) + edge(1, 2) + edge(2, 3)  # 98 bytes
 
 
 def edges(count):  # 16 inputs and 33 outputs, with the first `count` of their 528 pairs as edges
@@ -42,20 +43,44 @@ CASES = [
     "# the worked example, and a pair of nodes",
     (node(INPUT) + node(OUTPUT, (0.0, 48.5)) + edge(0, 1), "P 1 2 1 2"),
     (PAIR, "P 1 1 1 1"),
-    "# refusals 1 to 11, each at its smallest",
+    "# refusals 1 to 11, 19 and 20, each at its smallest",
     (b"N", "N 1 0"),
     (PAIR + b"N", "N 1 46"),
     (b"XX", "N 2 0"),
     (PAIR + node(INPUT), "N 2 46"),
     (b"ND\4", "N 3 0"),
     (b"ED\0\0", "N 4 0"),
-    (node(INPUT) + edge(0, 0), "N 5 20"),
+    (node(INPUT) + edge(0, 0), "N 5 22"),
     (node(INPUT) + virtual_storage([(0, 1.0)]) * 32 + b"VS", "N 6 596"),
     (b"", "N 7 0"),
     (node(INPUT) + node(LINK) + edge(0, 1), "N 8 1"),
     (node(INPUT, (2.0, 1.0)) + node(OUTPUT) + edge(0, 1), "N 9 0"),
     (node(INPUT, (-math.inf, -math.inf)) + node(OUTPUT) + edge(0, 1) + aggregate([[0]], (0, 0)), "N 10 0"),
     (many(14), "N 11 0"),
+    (node(LINK) + edge(0, 0), "N 19 22"),
+    (PAIR + edge(0, 1), "N 20 48"),
+    "# an edge: 5 into an input and out of an output, 19 to itself, 20 a pair that any earlier edge has, all at its `from` field",
+    (node(LINK) + node(INPUT) + edge(0, 1), "N 5 42"),
+    (node(LINK) + node(OUTPUT) + edge(1, 0), "N 5 42"),
+    (node(OUTPUT) + node(INPUT) + edge(0, 1), "N 5 42"),
+    (node(STORAGE) + edge(0, 0), "N 19 22"),
+    (LINE + edge(0, 1), "N 20 100"),
+    (LINE + edge(1, 2), "N 20 100"),
+    (LINE + edge(2, 3), "N 20 100"),
+    "# the same nodes the other way are another pair",
+    (node(INPUT) + node(LINK) * 2 + edge(0, 1) + edge(1, 2) + edge(2, 1), "P 2 3 2 4"),
+    "# 5 before 19: an output's edge to itself, and above an input's; each record whole before the next",
+    (node(OUTPUT) + edge(0, 0), "N 5 22"),
+    (node(LINK) + node(INPUT) + edge(0, 0) + edge(0, 1), "N 19 42"),
+    (PAIR + edge(0, 1) + edge(1, 0), "N 20 48"),
+    (PAIR + edge(1, 0) + edge(0, 1), "N 5 48"),
+    "# 1, 2, 4 and 6 of an edge come before, at its record",
+    (node(LINK) + edge(0, 0)[:5], "N 1 20"),
+    (node(OUTPUT) + node(INPUT) + edge(0, 1)[:4], "N 1 40"),
+    (PAIR + virtual_storage([(0, 1.0)]) + edge(0, 1), "N 2 64"),
+    (node(OUTPUT) + edge(0, 1), "N 4 20"),
+    (node(LINK) + edge(1, 1), "N 4 20"),
+    (edges(512) + edge(0, 0), "N 6 4052"),
     "# nodes, edges, aggregates and virtual storages at their ceilings and over",
     (node(INPUT) + node(OUTPUT) * 255 + edge(0, 1), "P 1 2 2 1"),
     (node(INPUT) + node(OUTPUT) * 256 + edge(0, 1), "N 6 5120"),

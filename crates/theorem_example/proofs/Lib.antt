@@ -1,2 +1,3 @@
 pub mod WorkedExample
 pub mod UncrossedExample
+pub mod EdgeExample

@@ -14,7 +14,7 @@ use Rattle.laws.proofs.Runs.{replicate-more}
 use Rattle.pywr.specs.Result.{value, Result, refused}
 use Rattle.pywr.specs.Bytes.{within}
 use Rattle.pywr.specs.Network.{Node, Edge, Network, kindOf}
-use Rattle.pywr.specs.NetworkFile.{Read, joins, Mark, ND, ED, AG, VS, rank, markAt, inOrder, hasRoom}
+use Rattle.pywr.specs.NetworkFile.{Read, joins, wrongWay, Mark, ND, ED, AG, VS, rank, markAt, inOrder, hasRoom}
 use Rattle.pywr.specs.NetworkFile.{withNode, withEdge, withAggregate, withVirtualStorage, readBody, Reading, readRecord, readRecords, emptyNetwork, parseNetwork}
 use Rattle.pywr.specs.declared.Sentinel.{Sentinel}
 use Rattle.pywr.specs.Programme.{Built}
@@ -283,7 +283,7 @@ unfolding manyEdges edgesFrom
 many-edges = refl
 
 all-good : allGood (replicate 256 linkNode) [] manyEdges ≡ true
-unfolding manyEdges edgesFrom allGood goodEdge kindOf joins
+unfolding manyEdges edgesFrom allGood goodEdge wrongWay kindOf joins
 all-good = refl
 
 unfoldable longest : List ℕ → List ℕ

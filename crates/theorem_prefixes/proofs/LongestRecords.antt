@@ -2,7 +2,7 @@
 use mathlib.Core.Path.{_≡_, refl, ap, _∙_, subst}
 use Prim.Native.Nat.{ℕ, zero, suc, _+_, _*_, _<_}
 use native.Mathlib.Omega.{arith}
-use mathlib.Core.Bool.{Bool, true, false, not, _&&_, _||_}
+use mathlib.Core.Bool.{Bool, true, false, not, _&&_}
 use mathlib.Core.List.{List, [], _∷_, _++_}
 use lib.ListN.{length, drop, replicate}
 use lib.Dec.{ltb, eqb}
@@ -10,8 +10,8 @@ use borrow.Author.Tests.{lt-ltb}
 use Rattle.pywr.specs.Result.{value}
 use Rattle.pywr.specs.Bytes.{u8, u16}
 use Rattle.pywr.specs.Numbers.{isSmall, ofPattern}
-use Rattle.pywr.specs.Network.{input, output, Node, Edge, Aggregate, Part, VirtualStorage, Network, kindOf}
-use Rattle.pywr.specs.NetworkFile.{between, Read, constantFits, mostConstant, readNode, joins, badEdge, readEdge}
+use Rattle.pywr.specs.Network.{Node, Edge, Aggregate, Part, VirtualStorage, Network}
+use Rattle.pywr.specs.NetworkFile.{between, Read, constantFits, mostConstant, readNode, joins, wrongWay, readEdge}
 use Rattle.pywr.specs.NetworkFile.{readMembers, readSets, activeFits, readAggregate, readParts, leastDate, mostDate, readVirtualStorage}
 use Rattle.pywr.specs.Compute.{computing}
 use Rattle.theorem_prefixes.proofs.Left.{then-value, need-true, checked-true, times, times-left, left-next, u8-left, u16-left, u32-left, bits64-left}
@@ -47,7 +47,7 @@ unfoldable pub goodEdge : List Node → List Edge → Edge → Bool
 goodEdge nodes edges x =
     ltb (x .from) (length nodes)
     && (ltb (x .to) (length nodes)
-    && not (eqb (kindOf nodes (x .to)) input || eqb (kindOf nodes (x .from)) output || eqb (x .from) (x .to) || joins edges (x .from) (x .to)))
+    && (not (wrongWay nodes (x .from) (x .to)) && (not (eqb (x .from) (x .to)) && not (joins edges (x .from) (x .to)))))
 
 pub each-true : (a b : Bool) → (a && b) ≡ true → (a ≡ true) × (b ≡ true)
 each-true true b e = (refl, e)
@@ -55,15 +55,19 @@ each-true false b e = absurd (let z : _≡_ {A = ℕ} 0 1 = cc in omega arith)
 
 pub edge-read : (net : Network) (file : List ℕ) (at : ℕ) (x : Edge) (rest : List ℕ) → drop at file ≡ edgeBytes x ++ rest → goodEdge (net .nodes) (net .edges) x ≡ true
     → readEdge net file at ≡ value (record { item = x; next = at + 6 })
-unfolding readEdge goodEdge badEdge
+unfolding readEdge goodEdge
 edge-read net file at x rest e good =
     let l = edgeBytes x ++ rest in
     let from : u16 file at 1 (at + 2) ≡ value (x .from) = u16-left file at l e at 1 2 (omega arith) ∙ ap value (let k : x .from + 256 * 0 ≡ x .from = omega arith in k) in
     let to : u16 file at 1 (at + 4) ≡ value (x .to) = u16-left file at l e at 1 4 (omega arith) ∙ ap value (let k : x .to + 256 * 0 ≡ x .to = omega arith in k) in
     let a = each-true _ _ good in
     let b = each-true _ _ (a .1) in
+    let way = each-true _ _ (b .1) in
+    let apart = each-true _ _ (way .1) in
     then-value _ _ _ (x .from) (checked-true 4 at _ (x .from) from (a .0))
-    (then-value _ _ _ (x .to) (checked-true 4 at _ (x .to) to (b .0)) (need-true _ 5 at _ (b .1)))
+    (then-value _ _ _ (x .to) (checked-true 4 at _ (x .to) to (b .0))
+    (then-value _ _ _ x (need-true _ 5 (at + 2) x (way .0))
+    (then-value _ _ _ x (need-true _ 19 (at + 2) x (apart .0)) (then-value _ _ _ x (need-true _ 20 (at + 2) x (apart .1)) refl))))
 
 -- a plain aggregate of 16 sets, in each of which node 0 stands 16 times
 abbrev pub memberBytes : List ℕ

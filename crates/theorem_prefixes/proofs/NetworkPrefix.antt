@@ -1,5 +1,5 @@
 -- The first 63,490 bytes of a network file decide the build's answer, and a file that is accepted has at most 63,488. Assumes nothing.
-use mathlib.Core.Path.{_≡_, refl, ap, subst}
+use mathlib.Core.Path.{_≡_, refl, subst}
 use Prim.Native.Nat.{ℕ, zero, suc, _+_, _*_, _≤_}
 use native.Mathlib.Omega.{arith}
 use mathlib.Core.Bool.{Bool, true, false, not}
@@ -35,7 +35,7 @@ module _ (file : List ℕ) where
   edge-end : (net : Network) (at : ℕ) (r : Read Edge) → readEdge net file at ≡ value r → at + 6 ≡ r .next
   unfolding readEdge
   edge-end net at r e =
-      bind-then _ _ r e (λ a _ e. bind-then _ _ r e (λ b _ e. ap (λ (x : Read Edge). x .next) (need-value _ 5 at _ r e)))
+      bind-then _ _ r e (λ a _ e. bind-then _ _ r e (λ b _ e. bind-then _ _ r e (λ c _ e. bind-then _ _ r e (λ d _ e. bind-then _ _ r e (λ x _ e. ends _ r e)))))
 
   module _ (place nodes : ℕ) where
     members-end : (count : ℕ) (soFar : List ℕ) (at : ℕ) (r : Read (List ℕ)) → readMembers file place nodes count soFar at ≡ value r → r .next ≡ at + 2 * count

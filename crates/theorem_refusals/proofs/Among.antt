@@ -2,7 +2,7 @@
 use mathlib.Core.Path.{_≡_, subst}
 use Prim.Native.Nat.{ℕ, _≤_}
 use native.Mathlib.Omega.{arith}
-use mathlib.Core.Bool.{Bool, true, false, _&&_, _||_}
+use mathlib.Core.Bool.{Bool, true, false, _&&_}
 use mathlib.Core.List.{List}
 use lib.Dec.{T, leb, leb→le, le→leb}
 use lib.Ieee.Fits.{and-l, and-r}
@@ -48,9 +48,6 @@ more-among (refused n p) w (told t) = told (w n t)
 
 both : (a b : Bool) → T a → T b → T (a && b)
 both true b h k = k
-
-pub either : (a b : Bool) → T a → T (a || b)
-either true b h = tt
 
 pub wider : (least most least′ most′ n : ℕ) → least′ ≤ least → most ≤ most′ → T (fromTo least most n) → T (fromTo least′ most′ n)
 wider least most least′ most′ n h k t =

@@ -7,6 +7,7 @@ use mathlib.Core.List.{List}
 use lib.ListN.{length}
 use lib.Dec.{T, eqb}
 use lib.Ieee.{Float}
+use Rattle.laws.proofs.Tests.{or-l, or-r, or-elim}
 use Rattle.pywr.specs.declared.Sentinel.{Sentinel}
 use Rattle.pywr.specs.Result.{value, Result, refused, _>>=_, need}
 use Rattle.pywr.specs.NetworkFile.{parseNetwork}
@@ -16,23 +17,26 @@ use Rattle.pywr.specs.StepIntervals.{ordered}
 use Rattle.pywr.specs.Store.{Store, storeHasRoom, shapeOf}
 use Rattle.pywr.specs.Misshapen.{wellShaped}
 use Rattle.pywr.specs.Calls.{buildRoom, buildAnswer, stepRoom, stepRead, stepIntervals, stepAnswer, rowAnswer}
-use Rattle.theorem_refusals.specs.RefusalNumbers.{Among, passed, fromTo, ofProgramme, ofBuild, ofJudged, ofStep, ofRow}
-use Rattle.theorem_refusals.proofs.Among.{bind-among, need-among, more-among, either, wider, number-among}
+use Rattle.theorem_refusals.specs.RefusalNumbers.{Among, passed, fromTo, ofNetworkFile, ofProgramme, ofBuild, ofJudged, ofStep, ofRow}
+use Rattle.theorem_refusals.proofs.Among.{bind-among, need-among, more-among, wider, number-among}
 use Rattle.theorem_refusals.proofs.NetworkNumbers.{network-file-numbers}
 use Rattle.theorem_refusals.proofs.StepNumbers.{step-file-numbers, interval-numbers}
 
 -- ---- the build
 
+of-programme : (n : ℕ) → T (ofNetworkFile n) → T (ofProgramme n)
+of-programme n t =
+    or-elim (fromTo 1 10 n) (fromTo 19 20 n) t (λ first. or-l (fromTo 1 11 n) (fromTo 19 20 n) (wider 1 10 1 11 n (omega arith) (omega arith) first)) (λ last. or-r (fromTo 1 11 n) (fromTo 19 20 n) last)
+
 programme-among : (s : Sentinel) (file : List ℕ) → Among ofProgramme (build s file)
 unfolding build
-programme-among s file =
-    bind-among _ _ (more-among (parseNetwork file) (λ n t. wider 1 10 1 11 n (omega arith) (omega arith) t) (network-file-numbers file)) (λ net. need-among _ 11 0 _ tt)
+programme-among s file = bind-among _ _ (more-among (parseNetwork file) of-programme (network-file-numbers file)) (λ net. need-among _ 11 0 _ tt)
 
 module _ (s : Sentinel) (file : List ℕ) (old : Store) (words : List ℕ) (numbers : List Float) where
   build-among : Among ofBuild (buildAnswer s file old words numbers)
   unfolding buildAnswer
   build-among =
-      bind-among _ _ (need-among (buildRoom old words numbers) 16 0 old tt) (λ room. more-among (build s file) (λ n t. either (ofProgramme n) (eqb n 16) t) (programme-among s file))
+      bind-among _ _ (need-among (buildRoom old words numbers) 16 0 old tt) (λ room. more-among (build s file) (λ n t. or-l (ofProgramme n) (eqb n 16) t) (programme-among s file))
 
   pub build-numbers : (n p : ℕ) → buildAnswer s file old words numbers ≡ refused n p → T (ofBuild n)
   build-numbers n p e = number-among (buildAnswer s file old words numbers) n p build-among e
@@ -57,7 +61,7 @@ abbrev orderedIn : Store → StepFile → Result StepFile
 orderedIn store f = ordered (stepIntervals store f) >>= λ _. value f
 
 within : (least most n : ℕ) → 12 ≤ least → most ≤ 14 → T (fromTo least most n) → T (ofJudged n)
-within least most n h k t = either (fromTo 12 14 n) (eqb n 17) (wider least most 12 14 n h k t)
+within least most n h k t = or-l (fromTo 12 14 n) (eqb n 17) (wider least most 12 14 n h k t)
 
 read-among : (file : List ℕ) (room : Store) → Among ofJudged (readWith file room)
 read-among file room =
@@ -74,8 +78,8 @@ module _ (store : Store) (file : List ℕ) (work : List Float) where
   step-among =
       bind-among (need (stepRoom store work) 16 0 store >>= readWith file) (orderedIn store)
       (bind-among (need (stepRoom store work) 16 0 store) (readWith file) (need-among (stepRoom store work) 16 0 store tt)
-      (λ room. more-among (readWith file room) (λ n t. either (ofJudged n) (eqb n 16) t) (read-among file room)))
-      (λ f. more-among (orderedIn store f) (λ n t. either (ofJudged n) (eqb n 16) t) (ordered-among store f))
+      (λ room. more-among (readWith file room) (λ n t. or-l (ofJudged n) (eqb n 16) t) (read-among file room)))
+      (λ f. more-among (orderedIn store f) (λ n t. or-l (ofJudged n) (eqb n 16) t) (ordered-among store f))
 
   pub step-numbers : (n p : ℕ) → stepAnswer store file work ≡ refused n p → T (ofStep n)
   step-numbers n p e = number-among (stepAnswer store file work) n p step-among e

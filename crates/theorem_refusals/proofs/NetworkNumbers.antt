@@ -1,4 +1,4 @@
--- The network file is refused with 1 to 10 alone. Assumes nothing.
+-- The network file is refused with 1 to 10, 19 and 20 alone. Assumes nothing.
 use mathlib.Core.Path.{_≡_, refl, subst}
 use Prim.Native.Nat.{ℕ, zero, suc, _+_}
 use native.Mathlib.Omega.{arith}
@@ -28,7 +28,10 @@ read-edge : (net : Network) (file : List ℕ) (at : ℕ) → Among ofNetworkFile
 unfolding readEdge
 read-edge net file at =
     bind-among _ _ (checked-among 4 at _ _ tt (u16-among file at 1 tt (at + 2))) (λ a.
-    bind-among _ _ (checked-among 4 at _ _ tt (u16-among file at 1 tt (at + 4))) (λ b. need-among _ 5 at _ tt))
+    bind-among _ _ (checked-among 4 at _ _ tt (u16-among file at 1 tt (at + 4))) (λ b.
+    bind-among _ _ (need-among _ 5 (at + 2) _ tt) (λ c.
+    bind-among _ _ (need-among _ 19 (at + 2) c tt) (λ d.
+    bind-among _ _ (need-among _ 20 (at + 2) d tt) (λ e. passed)))))
 
 read-members : (file : List ℕ) (place nodes count : ℕ) (soFar : List ℕ) (at : ℕ) → Among ofNetworkFile (readMembers file place nodes count soFar at)
 unfolding readMembers

@@ -8,12 +8,13 @@ abbrev pub fromTo : ℕ → ℕ → ℕ → Bool
 fromTo least most n = leb least n && leb n most
 
 -- "Order, build: 16; per record its mark (1, 2), 6, then fields left to right (1, then 3 or 4), then 5; 7; 8 by node; then by node 9, 10; 11."
+-- "where 5 stood, in the order 5, 19, 20" (document 02, L1)
 abbrev pub ofNetworkFile : ℕ → Bool
-ofNetworkFile = fromTo 1 10
+ofNetworkFile n = fromTo 1 10 n || fromTo 19 20 n
 
 -- of a build with room, and of a build
 abbrev pub ofProgramme : ℕ → Bool
-ofProgramme = fromTo 1 11
+ofProgramme n = fromTo 1 11 n || fromTo 19 20 n
 
 abbrev pub ofBuild : ℕ → Bool
 ofBuild n = ofProgramme n || eqb n 16

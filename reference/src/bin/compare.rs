@@ -103,7 +103,7 @@ fn run(arguments: &Arguments, port: &mut Option<Box<dyn Port>>, tally: &mut Tall
     let mut failures = 0;
     for index in arguments.from..arguments.from + count {
         let case = generate::case(seed, index);
-        // A panic of the Rust is a difference too: what passes refusals 1 to 10 builds there.
+        // A panic of the Rust is a difference too: what passes every refusal but 11 builds there.
         let compared = catch_unwind(AssertUnwindSafe(|| comparison::compare(&case, port, tally)));
         if let Err(difference) = compared.unwrap_or_else(|_| Err("the reference panics".into())) {
             failures += 1;

@@ -1,4 +1,4 @@
-//! Well-formed files that break one rule of the network: refusals 4, 5 and 7 to 10, and their nearest neighbours that pass.
+//! Well-formed files that break one rule of the network: refusals 3, 4, 5, 7 to 10, 19 and 20, and their nearest neighbours that pass.
 use super::small;
 use crate::NetworkFile;
 use crate::random::Random;
@@ -9,7 +9,7 @@ pub fn network(r: &mut Random) -> NetworkFile {
     let mut network = super::base(r);
     let count = network.nodes.len();
     let node = r.below(count);
-    match r.below(9) {
+    match r.below(10) {
         0 => network.edges.clear(),
         1 => network.edges.retain(|e| e.1 != node),
         2 => network.edges.retain(|e| e.0 != node),
@@ -29,6 +29,7 @@ pub fn network(r: &mut Random) -> NetworkFile {
             let edge = *r.pick(&[(beyond, node), (node, beyond)]);
             insert_edge(r, &mut network, edge);
         }
+        8 => insert_edge(r, &mut network, (node, node)),
         _ => break_list(r, &mut network),
     }
     network

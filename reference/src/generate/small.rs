@@ -55,7 +55,7 @@ pub fn add_edges(r: &mut Random, network: &mut NetworkFile, tries: usize) {
     r.shuffle(&mut network.edges);
 }
 
-/// Adds an edge that refusal 5 lets pass.
+/// Adds an edge that refusals 5, 19 and 20 let pass.
 pub fn add_edge(network: &mut NetworkFile, from: usize, to: usize) {
     let kind = |i: usize| network.nodes[i].kind;
     if from != to && kind(from) != NodeType::Output && kind(to) != NodeType::Input && !network.edges.contains(&(from, to)) {

@@ -14,7 +14,7 @@ const OUTPUT: u8 = 1;
 const LINK: u8 = 2;
 const STORAGE: u8 = 3;
 
-/// The network of a file that passes refusals 1 to 10.
+/// The network of a file that passes refusals 1 to 10, 19 and 20.
 pub fn read(file: &[u8]) -> Result<Network, Refusal> {
     read_good(file).ok_or_else(|| refusal(file))
 }
@@ -91,7 +91,7 @@ impl Lists {
     }
 }
 
-/// 4, 5 and 8.
+/// 4, 5, 19, 20 and 8.
 fn read_edges(nodes: &[[u8; 20]], records: &[[u8; 6]]) -> Option<(Vec<Edge>, EdgeLists)> {
     let ends = |record: &[u8; 6]| (u16_at(record, 2), u16_at(record, 4));
     let mut seen = [[0u64; MOST[0] / 64]; MOST[0]];

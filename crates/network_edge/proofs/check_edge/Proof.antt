@@ -19,56 +19,33 @@ narrow16-requires-2 c κs =
     let after-t2 = c .before .before in
     omega (arith, node-within _ _ _ _ _ (sym (after-t2 .before .before .node-field2 .ensures) ∙ after-t2 .t2 .given .1) .2)
 
-bad-edge-requires : tie.Need-bad-edge-requires
-bad-edge-requires c κs =
+check-ends-requires : tie.Need-check-ends-requires
+check-ends-requires c κs =
     let after-t2 = c .before .before .before in
     let after-node-field2 = after-t2 .before .before in
     let after-f2 = after-node-field2 .before .before in
     let after-node-field = after-f2 .before .before in
     let h = node-within _ _ _ _ _ (sym (after-node-field .node-field .ensures) ∙ after-f2 .f2 .given .1) in
     let k = node-within _ _ _ _ _ (sym (after-node-field2 .node-field2 .ensures) ∙ after-t2 .t2 .given .1) in
-    (search needs, omega (arith, c .before .narrow16 .ensures, h .2), omega (arith, c .narrow162 .ensures, k .2), search needs)
+    (omega (arith, k .0), search needs, omega (arith, c .before .narrow16 .ensures, h .2), omega (arith, c .narrow162 .ensures, k .2), search needs)
 
 returns : tie.Need-returns
 unfolding checkEdge
 returns c =
-    let after-narrow162 = c .before .before in
-    let after-narrow16 = after-narrow162 .before in
-    let after-t2 = after-narrow16 .before .before in
-    let after-node-field2 = after-t2 .before .before in
-    let after-f2 = after-node-field2 .before .before in
-    let after-node-field = after-f2 .before .before in (
-      rw (
-        ← (after-node-field .node-field .ensures),
-        after-f2 .f2 .given .1,
-        ← (after-node-field2 .node-field2 .ensures),
-        after-t2 .t2 .given .1,
-        ←
-            (after-narrow16 .narrow16 .ensures),
-        ← (after-narrow162 .narrow162 .ensures),
-        ← (c .before .bad-edge .ensures),
-        c .if1 .taken,
-      ),
-      tt,
-    )
+    (rw (← (c .before .before .before .node-field .ensures), c .before .f .given .1), tt)
 
 returns-2 : tie.Need-returns-2
 unfolding checkEdge
 returns-2 c =
-    (rw (← (c .before .before .before .node-field .ensures), c .before .f .given .1), tt)
+    let after-node-field2 = c .before .before .before in
+    let after-f2 = after-node-field2 .before .before in
+    let after-node-field = after-f2 .before .before in
+    (rw (← (after-node-field .node-field .ensures), after-f2 .f2 .given .1, ← (after-node-field2 .node-field2 .ensures), c .before .t .given .1), tt)
 
 returns-3 : tie.Need-returns-3
 unfolding checkEdge
 returns-3 c =
-    let after-node-field2 = c .before .before .before in
-    let after-f2 = after-node-field2 .before .before in
-    let after-node-field = after-f2 .before .before in
-    (rw (← (after-node-field .node-field .ensures), after-f2 .f2 .given .1, ← (c .before .before .before .node-field2 .ensures), c .before .t .given .1), tt)
-
-returns-4 : tie.Need-returns-4
-unfolding checkEdge
-returns-4 c =
-    let after-narrow162 = c .before .before in
+    let after-narrow162 = c .before in
     let after-narrow16 = after-narrow162 .before in
     let after-t2 = after-narrow16 .before .before in
     let after-node-field2 = after-t2 .before .before in
@@ -79,17 +56,10 @@ returns-4 c =
         after-f2 .f2 .given .1,
         ← (after-node-field2 .node-field2 .ensures),
         after-t2 .t2 .given .1,
-        ←
-            (after-narrow16 .narrow16 .ensures),
+        ← (after-narrow16 .narrow16 .ensures),
         ← (after-narrow162 .narrow162 .ensures),
-        ← (c .before .bad-edge .ensures),
-        c .if1 .left,
-      ),
-      omega (
-        arith,
-        node-within _ _
-            _ _ _ (sym (after-node-field2 .node-field2 .ensures) ∙ after-t2 .t2 .given .1) .0,
-      ),
+      ) (c .check-ends .ensures .0),
+      c .check-ends .ensures .1,
     )
 
 pub check-edge-spec : {M : Type 1} → statement M
@@ -106,9 +76,7 @@ check-edge-spec =
     (λ c. search needs)
     narrow16-requires
     narrow16-requires-2
-    bad-edge-requires
+    check-ends-requires
     returns
-    (λ c. search needs)
     returns-2
-    returns-3
-    returns-4)
+    returns-3)
