@@ -128,7 +128,7 @@ static inline const char *pywr_refusal_text(uint64_t number)
 }
 
 /* What a refusal's place is, or "" where it is always 0. A byte is the offset of a record; for 12 also of the first byte left over; for 5, 19 and 20
- * of an edge's `from` field: the two bytes there are the node that it comes from, the next two the node that it goes to. */
+ * of an edge's `from` field: the two bytes there are the node that it comes from, the next two the node that it goes to; all four are in the file. */
 static inline const char *pywr_place_text(uint64_t number)
 {
     switch (number) {

@@ -1,3 +1,4 @@
 pub mod AnswerNumbers
 pub mod ExportedRun
 pub mod Retired
+pub mod EdgePlaces

@@ -1,2 +1,3 @@
 pub mod ExportedRun
 pub mod Retired
+pub mod EdgePlaces

@@ -7,7 +7,7 @@ use mathlib.Core.List.{List}
 use lib.ListN.{length}
 use lib.Dec.{T, eqb}
 use lib.Ieee.{Float}
-use Rattle.laws.proofs.Tests.{or-l, or-r, or-elim}
+use Rattle.laws.proofs.Tests.{or-l}
 use Rattle.pywr.specs.declared.Sentinel.{Sentinel}
 use Rattle.pywr.specs.Result.{value, Result, refused, _>>=_, need}
 use Rattle.pywr.specs.NetworkFile.{parseNetwork}
@@ -24,13 +24,9 @@ use Rattle.theorem_refusals.proofs.StepNumbers.{step-file-numbers, inte
 
 -- ---- the build
 
-of-programme : (n : ℕ) → T (ofNetworkFile n) → T (ofProgramme n)
-of-programme n t =
-    or-elim (fromTo 1 10 n) (fromTo 19 20 n) t (λ first. or-l (fromTo 1 11 n) (fromTo 19 20 n) (wider 1 10 1 11 n (omega arith) (omega arith) first)) (λ last. or-r (fromTo 1 11 n) (fromTo 19 20 n) last)
-
 programme-among : (s : Sentinel) (file : List ℕ) → Among ofProgramme (build s file)
 unfolding build
-programme-among s file = bind-among _ _ (more-among (parseNetwork file) of-programme (network-file-numbers file)) (λ net. need-among _ 11 0 _ tt)
+programme-among s file = bind-among _ _ (more-among (parseNetwork file) (λ n t. or-l (ofNetworkFile n) (eqb n 11) t) (network-file-numbers file)) (λ net. need-among _ 11 0 _ tt)
 
 module _ (s : Sentinel) (file : List ℕ) (old : Store) (words : List ℕ) (numbers : List Float) where
   build-among : Among ofBuild (buildAnswer s file old words numbers)

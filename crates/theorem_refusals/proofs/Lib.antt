@@ -3,3 +3,4 @@ pub mod NetworkNumbers
 pub mod StepNumbers
 pub mod CallNumbers
 pub mod Retired
+pub mod EdgePlaces

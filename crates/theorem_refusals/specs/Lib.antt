@@ -1,2 +1,3 @@
 pub mod RefusalNumbers
 pub mod Retired
+pub mod EdgePlaces

@@ -7,14 +7,21 @@ use Rattle.pywr.specs.Result.{value, Result, refused}
 abbrev pub fromTo : ℕ → ℕ → ℕ → Bool
 fromTo least most n = leb least n && leb n most
 
+-- an edge's own: "where 5 stood, in the order 5, 19, 20" (document 02, L1)
+abbrev pub ofEdge : ℕ → Bool
+ofEdge n = eqb n 5 || fromTo 19 20 n
+
 -- "Order, build: 16; per record its mark (1, 2), 6, then fields left to right (1, then 3 or 4), then 5; 7; 8 by node; then by node 9, 10; 11."
--- "where 5 stood, in the order 5, 19, 20" (document 02, L1)
+-- the file's without an edge's own, and with them
+abbrev pub ofOthers : ℕ → Bool
+ofOthers n = fromTo 1 4 n || fromTo 6 10 n
+
 abbrev pub ofNetworkFile : ℕ → Bool
-ofNetworkFile n = fromTo 1 10 n || fromTo 19 20 n
+ofNetworkFile n = ofOthers n || ofEdge n
 
 -- of a build with room, and of a build
 abbrev pub ofProgramme : ℕ → Bool
-ofProgramme n = fromTo 1 11 n || fromTo 19 20 n
+ofProgramme n = ofNetworkFile n || eqb n 11
 
 abbrev pub ofBuild : ℕ → Bool
 ofBuild n = ofProgramme n || eqb n 16

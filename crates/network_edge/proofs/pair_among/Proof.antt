@@ -43,6 +43,9 @@ returns c =
     (sym (at-loop .loop .inv .2 ∙ pair-here _ _ _ _ _ _ (in-loop .loop-test .taken) h (after-wide16 .wide16 .ensures .1)
     (sym (after-wide32 .wide32 .ensures .0 ∙ after-u32-at .u32-at .ensures) ∙ c .if1 .taken)))
 
+add-at : tie.Need-add-at Inv-loop μ-loop
+add-at c = search needs
+
 loop-again : tie.Need-loop-again Inv-loop μ-loop
 loop-again c = (
   search needs,
@@ -71,7 +74,7 @@ pair-among-spec =
     (λ c κs. search needs)
     (λ c κs. search needs)
     returns
-    (λ c. search needs)
+    add-at
     (λ c. search needs)
     (λ c. search needs)
     loop-again
