@@ -15,17 +15,14 @@ use Rattle.pywr.specs.Programme.{Row}
 use Rattle.pywr.specs.Build.{elementCount}
 use Rattle.pywr.specs.Written.{startsFrom, columnsIn, valuesIn, lowerOf, upperOf}
 use Rattle.pywr.proofs.FitLaws.{elements-append}
-use Rattle.build_row.specs.RowBuilder.{gathered, Rising}
+use Rattle.build_row.specs.RowBuilder.{gathered}
 use Rattle.build_append.specs.LpBuilder.{RowsHeld, withinCeilings, AfterRows}
 use Rattle.build_append.specs.declared.Filled.{Filled}
 use Rattle.build_append.specs.declared.RowsAdded.the-variants.{Done, Full}
-use Rattle.build_append.proofs.RowLaws.{part-more, drop-sets, flat-snoc, starts-snoc, rising-under, gathered-length, gathered-columns, gathered-values}
+use Rattle.build_append.proofs.RowLaws.{part-more, drop-sets, flat-snoc, starts-snoc, gathered-length, gathered-columns, gathered-values}
 use Rattle.build_append.proofs.RowsHeldLaws.{held-few, over-rows, over-elements}
 
 -- ---- the column numbers put into words
-
-pub column-under : (columns : List ℕ) (n i : ℕ) → n ≤ length columns → Rising columns n → i < n → getD columns i 0 < 640
-column-under columns n i long rising h = rw (getD-take n columns i 0 h) at (rising-under 640 0 (take n columns) i rising (omega (arith, length-take-le n columns long)))
 
 module _ (columns words₀ words : List ℕ) (at n i : ℕ) (long : n ≤ length columns) where
   pub columns-next : (v : ℕ) → i < n → v ≡ getD columns i 0 → words ≡ sets words₀ at (take i (take n columns)) → set words (at + i) v ≡ sets words₀ at (take (i + 1) (take n columns))

@@ -1,22 +1,19 @@
 -- Lists of rows with one row more, a gathered row's columns and factors, and parts of a run. Assumes nothing.
 use mathlib.Core.Path.{_≡_, refl, sym, ap, ap₂, _∙_}
-use Prim.Native.Nat.{ℕ, zero, suc, _+_, _<_, _≤_}
+use Prim.Native.Nat.{ℕ, zero, suc, _+_, _≤_}
 use native.Mathlib.Nat.{add-zero}
 use native.Mathlib.Omega.{arith}
 use mathlib.Core.Bool.{Bool, true, false, _&&_}
 use mathlib.Core.List.{List, [], _∷_, _++_, map, flatMap, append-assoc, append-nil}
-use lib.ListN.{length, getD, take, drop, set}
+use lib.ListN.{length, take, drop, set}
 use lib.Seq.{sets, take-take, take-add, drop-drop, drop-set-lt, length-take-le}
-use lib.Dec.{leb, ltb}
 use lib.Ieee.{Float}
-use borrow.Author.Tests.{ltb-true}
 use Rattle.laws.specs.Part.{part}
 use Rattle.pywr.specs.Rows.{Element}
 use Rattle.pywr.specs.Programme.{Row}
 use Rattle.pywr.specs.Build.{elementCount}
 use Rattle.pywr.specs.Written.{startsFrom}
 use Rattle.pywr.specs.Store.{elementsOf}
-use Rattle.pywr.specs.Misshapen.{columnsRise}
 use Rattle.build_row.specs.RowBuilder.{gathered}
 
 -- ---- parts of a run
@@ -105,12 +102,3 @@ elements-back (e ∷ es) = ap (λ (l : List Element). e ∷ l) (elements-back es
 pub both-true : (a b : Bool) → (a && b) ≡ true → (a ≡ true) × (b ≡ true)
 both-true true b e = (refl, e)
 both-true false b e = absurd (let z : _≡_ {A = ℕ} 0 1 = cc in omega arith)
-
--- each of the rising columns is under the count
-pub rising-under : (count least : ℕ) (cs : List ℕ) (i : ℕ) → columnsRise count least cs ≡ true → i < length cs → getD cs i 0 < count
-unfolding columnsRise
-rising-under count least [] i e h = absurd (omega arith)
-rising-under count least (c ∷ cs) zero e h =
-    ltb-true c count (both-true (leb least c) (ltb c count) (both-true (leb least c && ltb c count) (columnsRise count (c + 1) cs) e .0) .1)
-rising-under count least (c ∷ cs) (suc i) e h =
-    rising-under count (c + 1) cs i (both-true (leb least c && ltb c count) (columnsRise count (c + 1) cs) e .1) (omega arith)

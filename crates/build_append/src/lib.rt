@@ -45,7 +45,7 @@ fn put_columns(words: &mut [u16], at: usize, columns: &[ColumnNumber], n: usize)
 {
     let mut i: usize = 0;
     while i < n {
-        words[at + i] = widths::u32_to_u16(columns[i]);
+        words[at + i] = columns[i];
         i += 1;
     }
 }

@@ -35,7 +35,7 @@ fn same_elements(
 {
     let mut i: usize = 0;
     while i < n {
-        if widths::u16_to_u32(words[at + i]) != columns[i] {
+        if words[at + i] != columns[i] {
             return false;
         }
         if numbers[ELEMENTS_MADE_AT + at + i] != numbers[ELEMENTS_MADE_AT + from + i] {

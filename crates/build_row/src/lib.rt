@@ -16,7 +16,7 @@ fn place_of(columns: &[ColumnNumber], n: usize, column: ColumnIndex) -> usize
     requires { ⌜ (n ≤ length (now columns)) × Rising (now columns) n ⌝ }
     ensures { λ r. ⌜ Place (now (columns .entry)) n (column .0) r ⌝ }
 {
-    let c = widths::u16_to_u32(column.0);
+    let c = column.0;
     if n == 0 {
         return 0;
     }
@@ -46,7 +46,7 @@ fn insert_column(columns: &mut [ColumnNumber], n: usize, p: usize, column: Colum
         columns[i] = columns[i - 1];
         i -= 1;
     }
-    columns[p] = widths::u16_to_u32(column.0);
+    columns[p] = column.0;
 }
 
 // The same of an element.
@@ -73,7 +73,7 @@ pub fn add_element(
     requires { ⌜ (n ≤ columnCeiling) × (columnCeiling ≤ length (now elements)) × (column .0 < columnCeiling) × Rising (now columns) n ⌝ }
     ensures { λ r. ⌜ ElementAdded (now (columns .entry)) (now (elements .entry)) n (column .0) value (now (columns .exit)) (now (elements .exit)) r ⌝ }
 {
-    let c = widths::u16_to_u32(column.0);
+    let c = column.0;
     let p = place_of(columns, n, column);
     if p < n {
         if columns[p] == c {

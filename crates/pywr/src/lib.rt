@@ -12,7 +12,7 @@ pub struct EdgeIndex(pub u16);
 pub struct ColumnIndex(pub u16);
 
 // The width of a column's number in the array that a row is gathered in.
-pub type ColumnNumber = u32;
+pub type ColumnNumber = u16;
 
 // A lower and an upper bound.
 pub struct Interval {

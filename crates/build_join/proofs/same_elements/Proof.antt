@@ -20,61 +20,41 @@ Inv-loop words numbers columns n at from i₀ i =
 abbrev μ-loop : tie.MeasureT-loop
 μ-loop words numbers columns n at from i₀ i = n - i
 
--- from a place to an earlier one
-abbrev to-start : tie.At-loop Inv-loop μ-loop → tie.Start Inv-loop μ-loop
-to-start c =
-    let after-shared-slice-known = c .before .before .before in
-    after-shared-slice-known .before
-
-abbrev to-in-loop : tie.Then1 Inv-loop μ-loop → tie.In-loop Inv-loop μ-loop
-to-in-loop c =
-    let after-shared-slice-known4 = c .before .before .before in
-    after-shared-slice-known4 .before
-
-abbrev to-loop : tie.Then1 Inv-loop μ-loop → tie.At-loop Inv-loop μ-loop
-to-loop c =
-    let in-loop = to-in-loop c in
-    in-loop .before
-
 loop-holds : tie.Need-loop-holds Inv-loop μ-loop
 loop-holds c =
     (search needs, rw sub-zero)
 
 returns : tie.Need-returns Inv-loop μ-loop
 returns c =
-    let start = to-start (to-loop c) in
-    let l = to-loop c .loop in
-    sym (l .inv .1 ∙ columns-differ _ _ _ _ _ _ _ (start .pre) (to-in-loop c .loop-test .taken) (λ e. c .if1 .taken (c .before .before .u16-to-u32 .ensures .0 ∙ e)))
+    let in-loop = c .before .before .before in
+    let at-loop = in-loop .before in
+    let start = at-loop .before in
+    sym (at-loop .loop .inv .1 ∙ columns-differ _ _ _ _ _ _ _ (start .pre) (in-loop .loop-test .taken) (c .if1 .taken))
 
 returns-2 : tie.Need-returns-2 Inv-loop μ-loop
 unfolding ne
 returns-2 c =
     let else1 = c .before .before .before in
-    let after-u16-to-u32 = else1 .before .before in
-    let in-loop = after-u16-to-u32 .before .before in
+    let in-loop = else1 .before .before .before in
     let at-loop = in-loop .before in
-    let start-place = to-start at-loop in
-    let start = start-place in
+    let start = at-loop .before in
     let l = at-loop .loop in
-    sym (l .inv .1 ∙ values-differ _ _ _ _ _ _ _ (start .pre) (in-loop .loop-test .taken) (sym (after-u16-to-u32 .u16-to-u32 .ensures .0) ∙ else1 .if1 .left) (not-true _ (c .if2 .taken)))
+    sym (l .inv .1 ∙ values-differ _ _ _ _ _ _ _ (start .pre) (in-loop .loop-test .taken) (else1 .if1 .left) (not-true _ (c .if2 .taken)))
 
 loop-again : tie.Need-loop-again Inv-loop μ-loop
 unfolding ne
 loop-again c =
     let else1 = c .before .before .before in
-    let after-u16-to-u32 = else1 .before .before in
-    let in-loop = after-u16-to-u32 .before .before in
+    let in-loop = else1 .before .before .before in
     let at-loop = in-loop .before in
-    let start-place = to-start at-loop in
-    let start = start-place in
+    let start = at-loop .before in
     let l = at-loop .loop in
-    (search needs, l .inv .1 ∙ same-next _ _ _ _ _ _ _ (start .pre) (in-loop .loop-test .taken) (sym (after-u16-to-u32 .u16-to-u32 .ensures .0) ∙ else1 .if1 .left) (not-false _ (c .if2 .left)))
+    (search needs, l .inv .1 ∙ same-next _ _ _ _ _ _ _ (start .pre) (in-loop .loop-test .taken) (else1 .if1 .left) (not-false _ (c .if2 .left)))
 
 returns-3 : tie.Need-returns-3 Inv-loop μ-loop
 returns-3 c =
-    let start = to-start (c .before) in
-    let l = c .before .loop in
-    sym (l .inv .1 ∙ same-end _ _ _ _ _ _ _ (start .pre) (c .loop-test .left))
+    let at-loop = c .before in
+    sym (at-loop .loop .inv .1 ∙ same-end _ _ _ _ _ _ _ (at-loop .before .pre) (c .loop-test .left))
 
 pub same-elements-spec : {M : Type 1} → statement M
 same-elements-spec =
@@ -86,7 +66,6 @@ same-elements-spec =
     (λ c. search needs)
     (λ c. search needs)
     (λ c. search needs)
-    (λ c κs. search needs)
     (λ c. search needs)
     (λ c. search needs)
     returns

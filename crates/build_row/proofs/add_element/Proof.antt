@@ -1,6 +1,6 @@
 -- `build_row::add_element` meets its contract: `Added.antt` has what it promises, from the place that `place_of` found. Assumes nothing.
 use Prim.Native.Nat.{_<_}
-use mathlib.Core.Path.{_≡_, sym, _∙_}
+use mathlib.Core.Path.{_≡_}
 use mathlib.Core.Logic.{⊎-elim}
 use native.Mathlib.Omega.{arith}
 use lib.ListN.{length}
@@ -12,31 +12,20 @@ use Rattle.build_row.proofs.add_element.Tie as tie
 -- from a place to an earlier one
 abbrev to-start : tie.After-place-of → tie.Start
 to-start c =
-    let after-wide = c .before .before .before in
-    after-wide .before .before
-
-abbrev to-wide-from-joined1 : tie.Joined1 → tie.After-u16-to-u32
-to-wide-from-joined1 c =
-    let after-place-of-arg = c .before .before .before in
-    after-place-of-arg .before
+    let after-slice-known = c .before .before .before in
+    after-slice-known .before
 
 abbrev to-place-of : tie.After-slice-known2 → tie.After-place-of
 to-place-of c =
     let then1 = c .before .before .before in
     then1 .before
 
-abbrev to-wide-from-slice-known2 : tie.After-slice-known2 → tie.After-u16-to-u32
-to-wide-from-slice-known2 c =
-    let after-place-of = to-place-of c in
-    after-place-of .before .before .before
-
 -- past the tests the column is not in the row, so that a place is free
 absent : (c : tie.Joined1)
     → let a = to-start (c .before) .args in
     Absent (a .columns .now) (a .n) (a .column .0) (c .before .place-of .result)
 absent c =
-    let e = to-wide-from-joined1 c .u16-to-u32 .ensures .0 in
-    ⊎-elim (λ w l q. w .2 .left (q ∙ sym e)) (λ w l q. omega arith) (c .if1 .came)
+    ⊎-elim (λ w l q. w .2 .left q) (λ w l q. omega arith) (c .if1 .came)
 
 free : (c : tie.Joined1) → to-start (c .before) .args .n < 640
 free c =
@@ -47,9 +36,8 @@ free c =
 returns : tie.Need-returns
 returns c =
     let s = to-start (to-place-of c) in
-    let e = to-wide-from-slice-known2 c .u16-to-u32 .ensures .0 in
     let long : length (s .args .columns .now) ≡ 640 = omega arith in
-    element-added _ _ _ _ long (s .pre .0) (s .pre .2) (s .pre .3) (to-place-of c .place-of .ensures) _ _ (s .pre .1) (c .before .before .before .if1 .taken) (c .before .if2 .taken ∙ e)
+    element-added _ _ _ _ long (s .pre .0) (s .pre .2) (s .pre .3) (to-place-of c .place-of .ensures) _ _ (s .pre .1) (c .before .before .before .if1 .taken) (c .before .if2 .taken)
 
 insert-column-requires : tie.Need-insert-column-requires
 insert-column-requires c κs =
@@ -64,7 +52,7 @@ returns-2 c =
     let after-insert-element-arg = c .before .before .before in
     let joined1-place = after-insert-element-arg .before .before .before in
     let after-place-of-arg = joined1-place .before .before .before in
-    let s = after-place-of-arg .before .before .before in
+    let s = after-place-of-arg .before .before in
     let long : length (s .args .columns .now) ≡ 640 = omega arith in
     let after-insert-element = c .before .before in
     let after-insert-column = after-insert-element .before .before in
@@ -76,7 +64,6 @@ pub add-element-spec : {M : Type 1} → statement M
 add-element-spec =
     tie.close
     (tie.spec
-    (λ c κs. search needs)
     (λ c κs. search needs)
     (λ c. search needs)
     (λ c. search needs)

@@ -12,19 +12,15 @@ abbrev μ-loop : tie.MeasureT-loop
 
 loop-holds : tie.Need-loop-holds Inv-loop μ-loop
 loop-holds c =
-    shift-first 0 _ _ _ (c .before .pre .0) (c .before .pre .1)
+    shift-first 0 _ _ _ (c .pre .0) (c .pre .1)
 
 loop-again : tie.Need-loop-again Inv-loop μ-loop
 loop-again c =
-    let c2 = c .before .before in
-    let c4 = c2 .before .before in
-    shift-next 0 _ _ _ (c4 .pre .0) (c4 .pre .1) _ _ (c2 .loop .inv) (c .before .loop-test .taken)
+    shift-next 0 _ _ _ (c .before .before .before .pre .0) (c .before .before .before .pre .1) _ _ (c .before .before .loop .inv) (c .before .loop-test .taken)
 
 returns : tie.Need-returns Inv-loop μ-loop
 returns c =
-    let c2 = c .before .before in
-    let c4 = c2 .before .before in
-    rw (← (c .u16-to-u32 .ensures .0)) (shift-done 0 _ _ _ (c4 .pre .0) (c4 .pre .1) _ _ (c2 .loop .inv) _ (c .before .loop-test .left))
+    shift-done 0 _ _ _ (c .before .before .pre .0) (c .before .before .pre .1) _ _ (c .before .loop .inv) _ (c .loop-test .left)
 
 pub insert-column-spec : {M : Type 1} → statement M
 insert-column-spec =
@@ -41,7 +37,6 @@ insert-column-spec =
     (λ c. search needs)
     (λ c. search needs)
     loop-again
-    (λ c κs. search needs)
     (λ c. search needs)
     (λ c. search needs)
     (λ c. search needs)

@@ -12,42 +12,42 @@ Inv-loop columns n c lo₀ hi₀ lo hi = Search columns n c lo hi
 abbrev μ-loop : tie.MeasureT-loop
 μ-loop columns n c lo₀ hi₀ lo hi = hi - lo
 
+-- from a place to an earlier one
+abbrev to-start : tie.At-loop Inv-loop μ-loop → tie.Start Inv-loop μ-loop
+to-start c =
+    let else2 = c .before in
+    else2 .before .before .before
+
 returns : tie.Need-returns Inv-loop μ-loop
 returns c =
     rw (c .if1 .taken) (place-none _ _)
 
 returns-2 : tie.Need-returns-2 Inv-loop μ-loop
 returns-2 c =
-    let c3 = c .before .before .before in
-    let c5 = c3 .before .before in
-    rw (← (c3 .u16-to-u32 .ensures .0)) (place-last _ _ _ (c5 .pre .0) (c5 .pre .1) (omega arith) (c .if2 .taken))
+    let start = c .before .before .before in
+    place-last _ _ _ (start .pre .0) (start .pre .1) (omega arith) (c .if2 .taken)
 
 loop-holds : tie.Need-loop-holds Inv-loop μ-loop
 loop-holds c =
-    let c3 = c .before .before .before in
-    let c5 = c3 .before .before in
-    search-first _ _ _ (c5 .pre .0) (c5 .pre .1) (omega arith) (c .if2 .left)
+    let start = c .before .before .before in
+    search-first _ _ _ (start .pre .0) (start .pre .1) (omega arith) (c .if2 .left)
 
 loop-again : tie.Need-loop-again Inv-loop μ-loop
 loop-again c =
-    let c3 = c .before .before .before in
-    let c6 = c3 .before .before .before in
-    let c9 = c6 .before .before .before in
-    search-up _ _ _ (c9 .pre .0) (c9 .pre .1) _ _ (c3 .loop .inv) _ (omega arith) (c .if3 .taken)
+    let at-loop = c .before .before .before in
+    let start = to-start at-loop in
+    search-up _ _ _ (start .pre .0) (start .pre .1) _ _ (at-loop .loop .inv) _ (omega arith) (c .if3 .taken)
 
 loop-again-2 : tie.Need-loop-again-2 Inv-loop μ-loop
 loop-again-2 c =
-    let c3 = c .before .before .before in
-    let c6 = c3 .before .before .before in
-    let c9 = c6 .before .before .before in
-    search-down _ _ _ (c9 .pre .0) (c9 .pre .1) _ _ (c3 .loop .inv) _ (omega arith) (omega arith) (c .if3 .left)
+    let at-loop = c .before .before .before in
+    let start = to-start at-loop in
+    search-down _ _ _ (start .pre .0) (start .pre .1) _ _ (at-loop .loop .inv) _ (omega arith) (omega arith) (c .if3 .left)
 
 returns-3 : tie.Need-returns-3 Inv-loop μ-loop
 returns-3 c =
-    let c2 = c .before .before in
-    let c5 = c2 .before .before .before in
-    let c7 = c5 .before .before in
-    rw (← (c5 .u16-to-u32 .ensures .0)) (search-done _ _ _ (c7 .pre .0) (c7 .pre .1) _ _ (c .before .loop .inv) (c .loop-test .left))
+    let start = to-start (c .before) in
+    search-done _ _ _ (start .pre .0) (start .pre .1) _ _ (c .before .loop .inv) (c .loop-test .left)
 
 pub place-of-spec : {M : Type 1} → statement M
 place-of-spec =
@@ -55,7 +55,6 @@ place-of-spec =
     (tie.spec
     Inv-loop
     μ-loop
-    (λ c κs. search needs)
     returns
     (λ c. search needs)
     (λ c. search needs)

@@ -1,6 +1,7 @@
 //! bench [ROUNDS]: the time of each build and each step, the port's, the Rust's with reading and that of builder.rs alone: medians of interleaved
 //! rounds; and the memory that each needs.
 //! bench --generated SEED COUNT: the ratios over the generator's networks.
+//! bench --stack SEED COUNT: the deepest stack of the port's builds and steps over them, refused ones too.
 mod calls;
 mod generated;
 mod memory;
@@ -77,13 +78,14 @@ fn tell_load() {
 
 fn main() {
     let words: Vec<String> = std::env::args().skip(1).collect();
-    let number = |word: &str| word.parse().expect("bench [ROUNDS], or bench --generated SEED COUNT");
+    let number = |word: &str| word.parse().expect("bench [ROUNDS], bench --generated SEED COUNT, or bench --stack SEED COUNT");
     if !cfg!(panic = "abort") {
         println!("compiled without the profile `timed`: the Rust is slower than it can be");
     }
     tell_load();
     match &words.iter().map(String::as_str).collect::<Vec<_>>()[..] {
         ["--generated", seed, count] => generated::run(number(seed), number(count)),
+        ["--stack", seed, count] => memory::tell_deepest(number(seed), number(count)),
         rounds => {
             let rounds = rounds.first().map_or(61, |word| number(word)) as usize;
             networks::groups().iter().for_each(|group| run_group(group, rounds));

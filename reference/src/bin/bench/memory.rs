@@ -1,6 +1,7 @@
 //! The memory that a call needs: the heap by an allocator that counts, the stack by one that is painted before the call.
 use crate::calls::{Port, rust_build, rust_create, rust_step};
 use crate::networks::Case;
+use pywr_reference::generate;
 use pywr_reference::timed::{network_reader, step_reader::StepReader};
 use std::alloc::{GlobalAlloc, Layout, System};
 use std::arch::asm;
@@ -116,4 +117,17 @@ pub fn tell(case: &Case) {
     let stacks = [stack(|| drop(rust_build(&case.network))), stack(|| rust_step(&network, &mut solver, &mut reader, &case.step))];
     print!("build: heap {} (builder.rs alone {}), stack {}; ", build.peak, held.peak, stacks[0]);
     println!("step: heap {}, stack {}", step.peak, stacks[1]);
+}
+
+/// The deepest that the port's builds and steps write on their stack over the generator's networks, refused ones too.
+pub fn tell_deepest(seed: u64, count: u64) {
+    let Port { mut store, mut words, mut numbers, mut work } = Port::new();
+    let (mut builds, mut steps) = (Vec::new(), Vec::new());
+    for case in (0..count).map(|index| generate::case(seed, index)) {
+        builds.push(stack(|| _ = store.build(&case.network, pywr::Sentinel::Infinity, &mut words, &mut numbers)));
+        steps.extend(case.steps.iter().map(|step| stack(|| _ = store.step(step, &mut work))));
+    }
+    for (name, depths) in [("builds", builds), ("steps", steps)] {
+        println!("{name}: {}, stack at most {}", depths.len(), depths.iter().max().unwrap_or(&0));
+    }
 }
