@@ -1,15 +1,15 @@
--- The column numbers of a row put into words; the gathered row becomes the last row that the work runs hold, or the rows are over the ceilings. Assumes nothing.
+-- The gathered row becomes the last row that the work runs hold, or the rows are over the ceilings. Assumes nothing.
 use mathlib.Core.Path.{_≡_, refl, sym, ap, _∙_, subst}
 use Prim.Native.Nat.{ℕ, _+_, _<_, _≤_}
 use native.Mathlib.Omega.{arith}
 use mathlib.Core.Bool.{false}
 use mathlib.Core.List.{List, [], _∷_, _++_, map, flatMap}
-use lib.ListN.{length, getD, take, drop, set, length-append, length-drop, length-set}
-use lib.Seq.{sets, length-sets, length-take-le, getD-take, drop-set-lt}
+use lib.ListN.{length, take, drop, set, length-append, length-drop, length-set}
+use lib.Seq.{sets, length-sets, length-take-le, drop-set-lt}
 use lib.Ieee.{Float}
 use Rattle.layout.specs.Layout.{numbersLength, shapeMadeAt, wordsLength}
 use Rattle.laws.specs.Part.{part}
-use Rattle.laws.proofs.Sets.{sets-next, take-whole, part-same, part-before, part-after}
+use Rattle.laws.proofs.Sets.{part-same, part-before, part-after}
 use Rattle.laws.proofs.Runs.{map-snoc}
 use Rattle.pywr.specs.Programme.{Row}
 use Rattle.pywr.specs.Build.{elementCount}
@@ -21,15 +21,6 @@ use Rattle.build_append.specs.declared.Filled.{Filled}
 use Rattle.build_append.specs.declared.RowsAdded.the-variants.{Done, Full}
 use Rattle.build_append.proofs.RowLaws.{part-more, drop-sets, flat-snoc, starts-snoc, gathered-length, gathered-columns, gathered-values}
 use Rattle.build_append.proofs.RowsHeldLaws.{held-few, over-rows, over-elements}
-
--- ---- the column numbers put into words
-
-module _ (columns words₀ words : List ℕ) (at n i : ℕ) (long : n ≤ length columns) where
-  pub columns-next : (v : ℕ) → i < n → v ≡ getD columns i 0 → words ≡ sets words₀ at (take i (take n columns)) → set words (at + i) v ≡ sets words₀ at (take (i + 1) (take n columns))
-  columns-next v h e w = sets-next words words₀ (take n columns) at i v 0 (omega (arith, length-take-le n columns long)) (getD-take n columns i 0 h ∙ sym e) w
-
-  pub columns-end : n ≤ i → words ≡ sets words₀ at (take i (take n columns)) → words ≡ sets words₀ at (take n columns)
-  columns-end h w = w ∙ ap (sets words₀ at) (take-whole (take n columns) n i (length-take-le n columns long) h)
 
 -- ---- the answer's two cases
 

@@ -43,11 +43,7 @@ fn put_columns(words: &mut [u16], at: usize, columns: &[ColumnNumber], n: usize)
     requires { ⌜ (at + n ≤ length (now words)) × (n ≤ length (now columns)) × Rising (now columns) n ⌝ }
     ensures { λ _. ⌜ now (words .exit) ≡ sets (now (words .entry)) at (take n (now (columns .entry))) ⌝ }
 {
-    let mut i: usize = 0;
-    while i < n {
-        words[at + i] = columns[i];
-        i += 1;
-    }
+    runs::copy_u16(words, at, columns, 0, n);
 }
 
 // The gathered row, its elements already in place, becomes the last row.
