@@ -104,13 +104,20 @@ def bits(x):
     return struct.pack(">d", x).hex()
 
 
-def row_text(number, varying, low, high, elements):  # elements: the value by column
-    lines = ["R %d %d %s %s %d" % (number, varying, bits(low), bits(high), len(elements))]
+MASS, NODE, AGGREGATE, VIRTUAL_STORAGE, EXCLUSIVITY = range(5)  # who makes rows
+
+
+def by(kind, index, shared_by=1):  # a row's first maker, and how many makers share the row
+    return kind, index, shared_by
+
+
+def row_text(number, varying, low, high, elements, maker):  # elements: the value by column
+    lines = ["R %d %d %s %s %d %d %d %d" % (number, varying, bits(low), bits(high), len(elements), *maker)]
     return lines + ["E %d %s" % (column, bits(x)) for column, x in sorted(elements.items())]
 
 
 def programme_text(edge_columns, costs, varying, fixed, high=math.inf):
-    # a cost for each column, the edge columns first; a row is lower, upper and elements
+    # a cost for each column, the edge columns first; a row is lower, upper, elements and maker
     rows = [(1, *row) for row in varying] + [(0, *row) for row in fixed]
     lines = ["P %d %d %d %d" % (len(costs), len(rows), len(varying), sum(len(row[3]) for row in rows))]
     for column, cost in enumerate(costs):

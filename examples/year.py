@@ -8,7 +8,8 @@ import math
 import sys
 
 from make import INTAKE, Refused, here, read
-from steps import aggregate_step, column_costs, date, is_active, node_step, programme_text, read_step, storage_interval, storage_step
+from steps import AGGREGATE, EXCLUSIVITY, MASS, NODE, VIRTUAL_STORAGE
+from steps import aggregate_step, by, column_costs, date, is_active, node_step, programme_text, read_step, storage_interval, storage_step
 from steps import tightened, virtual_interval
 
 NAMES = ["river intake", "catchment inflow", "reservoir", "pump 1", "pump 2", "raw water main", "aqueduct", "treatment works"]
@@ -54,7 +55,7 @@ def step_file(month):
     return b"".join(record for _, record in records(month))
 
 
-# The programme of intake.network: the column of each edge, the varying rows' elements, the fixed rows
+# The programme of intake.network: the column of each edge, the varying rows' elements, the fixed rows, who made the rows
 EDGE_COLUMNS = [0, 1, 0, 1, 2, 3, 4, 4, 5, 6, 6, 7, 8]
 VARYING = [{3: 1.0}, {3: 1.0, 4: -1.0, 5: -1.0}, {6: 1.0}, {6: 1.0, 7: -1.0, 8: -1.0}, {7: 1.0}]  # nodes 1, 2, 7, 9, 10
 VARYING += [{0: 1.0, 1: 1.0}, {2: 1.0, 4: 1.0}, {0: -1.0, 1: -1.0}]  # the aggregates, and both virtual storages
@@ -63,6 +64,8 @@ FIXED += [(0.0, 48.5, {0: 1.0, 1: 1.0}), (0.0, NO_LIMIT, {0: -1.0, 9: 30.0})]  #
 FIXED += [(0.0, NO_LIMIT, {1: -1.0, 10: 20.0}), (0.0, NO_LIMIT, {1: 1.0, 10: -4.0})]  # pump 2
 FIXED += [(0.0, 45.0, {2: 1.0}), (0.0, 25.0, {4: 1.0}), (0.0, 60.0, {6: 1.0}), (0.0, 12.0, {8: 1.0}), (2.0, NO_LIMIT, {5: 1.0})]
 FIXED += [(0.0, 1.0, {9: 1.0, 10: 1.0})]  # at most one pump
+MAKERS = [by(NODE, n) for n in (1, 2, 7, 9, 10)] + [by(AGGREGATE, 0), by(AGGREGATE, 1), by(VIRTUAL_STORAGE, 0, 2)]
+MAKERS += [by(MASS, 5), by(MASS, 7)] + [by(NODE, n) for n in (0, 3, 4, 4, 5, 6, 8, 11, 12)] + [by(EXCLUSIVITY, 0)]
 PERIODS = [((4, 1), (3, 31)), ((6, 1), (9, 30))]
 NETWORK = read(b"".join(record for _, record in INTAKE))
 KINDS = [kind for kind, _, _ in NETWORK[0]]
@@ -83,7 +86,8 @@ def programme(step):  # the text after an accepted step
             licence = tightened(licence, virtual_interval(*volumes, days))
     edges = [(*edge, column) for edge, column in zip(NETWORK[1], EDGE_COLUMNS)]
     costs = column_costs(KINDS, edges, [n[0] for n in nodes]) + [0.0, 0.0]
-    return programme_text(9, costs, [(*b, row) for b, row in zip([*bounds, licence], VARYING)], FIXED)
+    varying = [(*b, row, maker) for b, row, maker in zip([*bounds, licence], VARYING, MAKERS)]
+    return programme_text(9, costs, varying, [(*row, maker) for row, maker in zip(FIXED, MAKERS[len(VARYING) :])])
 
 
 def answer(data):

@@ -94,6 +94,18 @@ static void print_rows(size_t from, size_t to)
     }
 }
 
+/* Who made the rows: what a user wants to know whose solver complains of row 7. */
+static void print_makers(size_t rows)
+{
+    for (size_t row = 0; row < rows; row++) {
+        PywrMaker maker = pywr_row_maker(shape, PYWR_SHAPE, row);
+        printf("  row %zu: %s %u", row, pywr_maker_text(maker.kind), (unsigned)maker.index);
+        if (maker.shared_by > 1)
+            printf(", shared by %u", (unsigned)maker.shared_by);
+        printf("\n");
+    }
+}
+
 static void print_costs(void)
 {
     printf("  costs:");
@@ -159,6 +171,8 @@ int main(int count, char **arguments)
     size_t rows = (size_t)shape[PYWR_VARYING_ROW_COUNT] + shape[PYWR_FIXED_ROW_COUNT];
     printf("network: accepted\n");
     print_rows(0, rows);
+    printf("made by:\n");
+    print_makers(rows);
 
     static File winter, wrong, cut, summer;
     put_day(&winter, 1, 15, 40, 80, 20);

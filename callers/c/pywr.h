@@ -12,7 +12,7 @@
  *   elements                             PYWR_ELEMENTS        row r's from row_starts[r] up to row_starts[r + 1]
  *   columns                              PYWR_ELEMENTS        the column of each element, rising in a row
  *   row_starts                           PYWR_ROW_STARTS      the rows' starts and, last, the element count
- *   shape                                PYWR_SHAPE           counts (PYWR_.._COUNT below), then what a step needs
+ *   shape                                PYWR_SHAPE           counts (PYWR_.._COUNT below), what a step needs, who made each row
  *
  * A run may be longer. What lies beyond the counts is left as it was. A refused call leaves the store as it was, byte for byte.
  *
@@ -36,11 +36,11 @@ extern "C" {
 #define PYWR_ROWS 1024
 #define PYWR_ELEMENTS 4096
 #define PYWR_ROW_STARTS 1025
-#define PYWR_SHAPE 19723
+#define PYWR_SHAPE 22795
 
 /* The least lengths of the work runs: words and numbers of a build, work of a step. They need not be cleared before a call; they are
  * zero throughout after it, but as they were after 16. */
-#define PYWR_BUILD_WORDS 24844
+#define PYWR_BUILD_WORDS 27916
 #define PYWR_BUILD_NUMBERS 6784
 #define PYWR_STEP_WORK 704
 
@@ -58,6 +58,19 @@ extern "C" {
 #define PYWR_FIXED_ROW_COUNT 6
 #define PYWR_ELEMENT_COUNT 7
 
+/* Where the makers of the rows stand in shape, PYWR_MAKER_WIDTH words a row: kind, index, how many makers share the row. */
+#define PYWR_MAKERS_AT 19723
+#define PYWR_MAKER_WIDTH 3
+
+/* The kind of a row's first maker, and what its index counts. An exclusive node's rows are of kind PYWR_MAKER_NODE. */
+enum pywr_maker_kind {
+    PYWR_MAKER_MASS = 0, /* the mass balance of a link: a node */
+    PYWR_MAKER_NODE = 1, /* a node */
+    PYWR_MAKER_AGGREGATE = 2, /* an aggregate */
+    PYWR_MAKER_VIRTUAL_STORAGE = 3, /* a virtual storage */
+    PYWR_MAKER_EXCLUSIVITY = 4 /* how many sets of an exclusive aggregate are on: an aggregate */
+};
+
 typedef struct {
     uint64_t number, place;
 } PywrAnswer;
@@ -66,6 +79,12 @@ typedef struct {
 typedef struct {
     uint64_t number, place, start, length;
 } PywrRow;
+
+/* Who made a row: its first maker, and how many makers share it. One that asked for the row twice counts twice. The index counts the network
+ * file's nodes, aggregates or virtual storages, from 0. */
+typedef struct pywr_maker {
+    uint16_t kind, index, shared_by;
+} PywrMaker;
 
 /* Writes a network file's programme into the store, or refuses with 1 to 11, 16, 19 or 20. An upper bound that binds nothing is infinity, or
  * the largest finite double where `infinite` is false; a lower one is its negation. */
@@ -97,6 +116,34 @@ PywrRow pywr_row(
     const double *elements, size_t elements_length, const uint16_t *columns, size_t columns_length,
     const uint32_t *row_starts, size_t row_starts_length, const uint16_t *shape, size_t shape_length,
     size_t row);
+
+/* Who made a row of the store whose shape this is. Read it after an accepted pywr_build; no step changes it. All zero, so shared by 0, where the
+ * row is not under the row count or shape_length is under PYWR_SHAPE. On a store that something else wrote to, the words are what stands there:
+ * pywr_step and pywr_row answer 17 where they are out of range. */
+static inline PywrMaker pywr_row_maker(const uint16_t *shape, size_t shape_length, size_t row)
+{
+    PywrMaker maker = {0, 0, 0};
+    if (shape_length < PYWR_SHAPE || row >= PYWR_ROWS || row >= (size_t)shape[PYWR_VARYING_ROW_COUNT] + shape[PYWR_FIXED_ROW_COUNT])
+        return maker;
+    const uint16_t *words = shape + PYWR_MAKERS_AT + PYWR_MAKER_WIDTH * row;
+    maker.kind = words[0];
+    maker.index = words[1];
+    maker.shared_by = words[2];
+    return maker;
+}
+
+/* The words of a maker's kind, in English; its index follows them: "mass balance of node" 4. */
+static inline const char *pywr_maker_text(uint16_t kind)
+{
+    switch (kind) {
+    case PYWR_MAKER_MASS: return "mass balance of node";
+    case PYWR_MAKER_NODE: return "node";
+    case PYWR_MAKER_AGGREGATE: return "aggregate";
+    case PYWR_MAKER_VIRTUAL_STORAGE: return "virtual storage";
+    case PYWR_MAKER_EXCLUSIVITY: return "exclusivity of aggregate";
+    default: return "unknown maker";
+    }
+}
 
 /* The words of an answer's number, in English. */
 static inline const char *pywr_refusal_text(uint64_t number)

@@ -70,7 +70,7 @@ pub fn compare(case: &Case, port: &mut Option<Box<dyn Port>>, tally: &mut Tally)
     same_answer(answer, port.build(&case.network, sentinel)).map_err(|e| format!("build: {e}"))?;
     match build {
         Ok(mut reference) => {
-            same_programme(&reference, port).map_err(|e| format!("build: {e}"))?;
+            port.same_programme(&reference).map_err(|e| format!("build: {e}"))?;
             if port.columns_of_edges().is_some_and(|columns| columns != reference.columns_of_edges()) {
                 return Err("build: the columns of edges differ".into());
             }
@@ -87,7 +87,7 @@ fn compare_steps(case: &Case, reference: &mut Reference, port: &mut dyn Port, ta
         tally.count_step(answer).map_err(|e| format!("step {k}: {e}"))?;
         if port.has_steps() {
             tally.steps_compared += 1;
-            let same = same_answer(answer, port.step(step)).and_then(|()| same_programme(reference, port));
+            let same = same_answer(answer, port.step(step)).and_then(|()| port.same_programme(reference));
             same.map_err(|e| format!("step {k}: {e}"))?;
         }
     }
@@ -109,11 +109,4 @@ fn same_answer(reference: Result<(), Refusal>, port: Answer) -> Result<(), Strin
     let text = |answer: Result<(), Refusal>| answer.map_or_else(|r| r.to_string(), |()| "accepted".into());
     let port = port?;
     if reference == port { Ok(()) } else { Err(format!("the Rust answers {}, the port {}", text(reference), text(port))) }
-}
-
-fn same_programme(reference: &Reference, port: &mut dyn Port) -> Result<(), String> {
-    match reference.programme().difference(&port.programme()?) {
-        Some(difference) => Err(format!("the Rust's and the port's programme differ: {difference}")),
-        None => Ok(()),
-    }
 }

@@ -89,7 +89,7 @@ pub fn kept_from(old: &Store, new: &Store, from: &Kept) -> Result<(), String> {
     if old.row_starts[from.row_starts..] != new.row_starts[from.row_starts..] {
         return Err("row_starts is written where it must not be".into());
     }
-    let tables = from.tables.map_or([(0, 0); 6], |counts| counts.tables());
+    let tables = from.tables.map_or([(0, 0); 7], |counts| counts.tables());
     let mut shape = new.shape.clone();
     for (start, length) in tables {
         shape[start..start + length].copy_from_slice(&old.shape[start..start + length]);

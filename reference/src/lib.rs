@@ -9,12 +9,18 @@ pub mod generate;
 #[cfg(feature = "library")]
 pub mod lent;
 pub mod listing;
+#[cfg(feature = "library")]
+pub mod maker_faults;
+pub mod makers;
+pub mod naming;
 pub mod network_checks;
 pub mod network_file;
 pub mod port;
 #[cfg(feature = "library")]
 pub mod port_library;
 pub mod port_lister;
+pub mod port_namer;
+pub mod program_run;
 pub mod programme;
 pub mod random;
 pub mod reference;
@@ -28,6 +34,7 @@ pub mod step_file;
 pub mod store_shape;
 pub mod timed;
 
+pub use makers::Maker;
 pub use network_file::NetworkFile;
 pub use programme::Programme;
 pub use reference::Reference;

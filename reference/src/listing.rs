@@ -1,4 +1,5 @@
 //! Reads the lister's text: a programme or a refusal.
+use crate::makers::Maker;
 use crate::programme::{Column, Programme, Row};
 use crate::refusal::Refusal;
 
@@ -24,7 +25,7 @@ pub fn read(text: &str) -> Result<Result<Programme, Refusal>, String> {
 }
 
 fn read_programme<'a>(lines: impl Iterator<Item = &'a str>) -> Result<Programme, String> {
-    let mut programme = Programme { columns: Vec::new(), rows: Vec::new() };
+    let mut programme = Programme { columns: Vec::new(), rows: Vec::new(), makers: Vec::new() };
     for line in lines {
         let words: Vec<&str> = line.split(' ').collect();
         match words[..] {
@@ -34,12 +35,12 @@ fn read_programme<'a>(lines: impl Iterator<Item = &'a str>) -> Result<Programme,
                 upper: double(upper)?,
                 cost: double(cost)?,
             }),
-            ["R", _, varying, lower, upper, _] => programme.rows.push(Row {
-                varying: varying == "1",
-                lower: double(lower)?,
-                upper: double(upper)?,
-                elements: Vec::new(),
-            }),
+            ["R", _, varying, lower, upper, _, kind, index, shared_by] => {
+                let [lower, upper] = [double(lower)?, double(upper)?];
+                programme.rows.push(Row { varying: varying == "1", lower, upper, elements: Vec::new() });
+                let [kind, index, shared_by] = [number(Some(kind))?, number(Some(index))?, number(Some(shared_by))?];
+                programme.makers.push(Maker { kind, index, shared_by });
+            }
             ["E", column, value] => {
                 let row = programme.rows.last_mut().ok_or("an element before any row")?;
                 row.elements.push((number(Some(column))?, double(value)?));

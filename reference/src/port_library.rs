@@ -4,8 +4,8 @@ use crate::lent::{self, Kept};
 use crate::port::{Answer, Port};
 use crate::programme::{Column, Programme, Row};
 use crate::random::Random;
-use crate::store_shape::{COUNTS, Counts, EDGES, NODES, VIRTUAL_STORAGES, misshapen};
-use crate::{NetworkFile, Refusal, Sentinel};
+use crate::store_shape::{COUNTS, Counts, EDGES, MAKERS, NODES, VIRTUAL_STORAGES, misshapen};
+use crate::{Maker, NetworkFile, Refusal, Sentinel, maker_faults};
 use pywr::{BUILD_NUMBERS, BUILD_WORDS, STEP_WORK, Store};
 
 pub struct Library {
@@ -18,6 +18,8 @@ pub struct Library {
     pub misshapen: u64,
     pub no_row: u64,
     pub damaged_well: u64,
+    /// How often each fault in a maker was tried.
+    pub maker_faults: maker_faults::Tried,
 }
 
 type Checked = Result<(), String>;
@@ -32,7 +34,9 @@ fn refusal(r: pywr::Refusal) -> Refusal {
 
 impl Library {
     pub fn new() -> Self {
-        Self { store: Store::new(), random: Random::new(0), fresh: false, short: 0, misshapen: 0, no_row: 0, damaged_well: 0 }
+        let maker_faults = maker_faults::Tried::default();
+        let store = Store::new();
+        Self { store, random: Random::new(0), fresh: false, short: 0, misshapen: 0, no_row: 0, damaged_well: 0, maker_faults }
     }
 
     pub fn store(&self) -> &Store {
@@ -86,7 +90,11 @@ impl Library {
     /// A word of the store's shape, row starts or columns is changed: 17 exactly where document 01 says so.
     fn damaged(&mut self, step: &[u8]) -> Checked {
         let mut store = self.store.clone();
-        damage(&mut self.random, &mut store);
+        // Every third fault is in a maker.
+        match self.random.below(3) {
+            0 => maker_faults::write(&mut self.random, &mut store, &mut self.maker_faults),
+            _ => damage(&mut self.random, &mut store),
+        }
         let due = misshapen(&store);
         let old = store.clone();
         let part = store.row_part(0);
@@ -96,6 +104,7 @@ impl Library {
         if answer.is_err() {
             lent::changed(&old, &store).map_err(|e| format!("refused on a damaged store: {e}"))?;
         }
+        require(store.shape == old.shape, "a step on a damaged store writes its shape")?;
         if !due {
             self.damaged_well += 1;
             require(
@@ -105,8 +114,8 @@ impl Library {
             return require(part.2 != Err(pywr::Refusal { number: 17, place: 0 }), "17 for a row of a well shaped store");
         }
         self.misshapen += 2;
-        require(part.0 == 0 && part.1 == 0, "17 with a part")?;
         Self::require_refusal(part.2, 17, 0)?;
+        require(part.0 == 0 && part.1 == 0, "17 with a part")?;
         Self::require_refusal(answer, 17, 0)
     }
 
@@ -290,7 +299,9 @@ impl Port for Library {
                 elements: columns.zip(s.elements[part].iter().copied()).collect(),
             }
         });
-        Ok(Programme { columns: columns.collect(), rows: rows.collect() })
+        let makers = s.shape[MAKERS..MAKERS + 3 * counts.rows()].chunks(3);
+        let makers = makers.map(|e| Maker { kind: e[0], index: e[1], shared_by: e[2] });
+        Ok(Programme { columns: columns.collect(), rows: rows.collect(), makers: makers.collect() })
     }
 
     fn columns_of_edges(&self) -> Option<Vec<usize>> {
@@ -300,8 +311,13 @@ impl Port for Library {
 
     fn report(&self) -> Option<String> {
         let Self { short, misshapen, no_row, damaged_well, .. } = self;
+        let makers = self.maker_faults.text();
         Some(format!(
-            "faults of the caller: 16: {short}, 17: {misshapen}, 18: {no_row}; damaged stores still well shaped {damaged_well}"
+            "faults of the caller: 16: {short}, 17: {misshapen}, 18: {no_row}; damaged stores still well shaped {damaged_well}\n{makers}"
         ))
+    }
+
+    fn untried(&self) -> Option<String> {
+        self.maker_faults.untried()
     }
 }

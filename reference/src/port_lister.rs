@@ -1,9 +1,7 @@
 //! The port through its program `lister`: fresh builds with the infinite sentinel.
 use crate::port::{Answer, Port};
-use crate::{Programme, Sentinel, listing};
-use std::io::{Read, Write};
+use crate::{Programme, Sentinel, listing, program_run};
 use std::path::PathBuf;
-use std::process::{Command, Stdio};
 
 pub struct Lister {
     program: PathBuf,
@@ -13,23 +11,6 @@ pub struct Lister {
 impl Lister {
     pub fn new(program: PathBuf) -> Self {
         Self { program, programme: None }
-    }
-
-    fn run(&self, network: &[u8]) -> std::io::Result<String> {
-        let mut child = Command::new(&self.program).stdin(Stdio::piped()).stdout(Stdio::piped()).spawn()?;
-        // The lister reads its input before it writes, so no pipe fills up while the other waits.
-        let written = child.stdin.take().unwrap().write_all(network);
-        let mut text = String::new();
-        child.stdout.take().unwrap().read_to_string(&mut text)?;
-        let status = child.wait()?;
-        if !status.success() {
-            return Err(std::io::Error::other(format!("{status}")));
-        }
-        match written {
-            // It need not read what lies behind the longest file that can be accepted.
-            Err(e) if e.kind() == std::io::ErrorKind::BrokenPipe => Ok(text),
-            written => written.map(|()| text),
-        }
     }
 }
 
@@ -43,7 +24,7 @@ impl Port for Lister {
     }
 
     fn build(&mut self, network: &[u8], _sentinel: Sentinel) -> Answer {
-        let text = self.run(network).map_err(|e| format!("{}: {e}", self.program.display()))?;
+        let text = program_run::run(&self.program, &[], network)?;
         Ok(listing::read(&text)?.map(|programme| self.programme = Some(programme)))
     }
 

@@ -1,4 +1,5 @@
-//! A linear programme, the lister's text of it, and the comparison of two.
+//! A linear programme with the makers of its rows, the lister's text of it, and the comparison of two.
+use crate::makers::Maker;
 use std::fmt;
 
 #[derive(Debug, Clone, Copy)]
@@ -21,6 +22,8 @@ pub struct Row {
 pub struct Programme {
     pub columns: Vec<Column>,
     pub rows: Vec<Row>,
+    /// One for each row; none where nobody has asked who made the rows.
+    pub makers: Vec<Maker>,
 }
 
 impl Programme {
@@ -41,13 +44,19 @@ impl Programme {
         format!("P {} {} {} {}", self.columns.len(), self.rows.len(), self.varying_rows(), self.elements())
     }
 
+    /// The makers are not looked at: the Rust has none.
     pub fn same_bits(&self, other: &Self) -> bool {
         self.difference_by(other, |a, b| a.to_bits() == b.to_bits()).is_none()
     }
 
-    /// The first place where the two differ, doubles by numeric equality: zeros of either sign are equal.
+    /// The first place where the two differ, makers too, doubles by numeric equality: zeros of either sign are equal.
     pub fn difference(&self, other: &Self) -> Option<String> {
-        self.difference_by(other, |a, b| a == b)
+        self.difference_by(other, |a, b| a == b).or_else(|| self.difference_of_makers(other))
+    }
+
+    fn difference_of_makers(&self, other: &Self) -> Option<String> {
+        let at = (0..self.rows.len()).find(|&i| self.makers.get(i) != other.makers.get(i))?;
+        Some(format!("row {at} made by {:?} and {:?}", self.makers.get(at), other.makers.get(at)))
     }
 
     fn difference_by(&self, other: &Self, equal: fn(f64, f64) -> bool) -> Option<String> {
@@ -79,9 +88,11 @@ impl fmt::Display for Programme {
             let kind = if c.integer { 'i' } else { 'c' };
             writeln!(f, "C {i} {kind} {:016x} {:016x} {:016x}", c.lower.to_bits(), c.upper.to_bits(), c.cost.to_bits())?;
         }
-        for (i, r) in self.rows.iter().enumerate() {
+        assert_eq!(self.makers.len(), self.rows.len(), "a listing has the maker of each row");
+        for (i, (r, m)) in self.rows.iter().zip(&self.makers).enumerate() {
             let [lower, upper] = [r.lower.to_bits(), r.upper.to_bits()];
-            writeln!(f, "R {i} {} {lower:016x} {upper:016x} {}", r.varying as u8, r.elements.len())?;
+            write!(f, "R {i} {} {lower:016x} {upper:016x} {}", r.varying as u8, r.elements.len())?;
+            writeln!(f, " {} {} {}", m.kind, m.index, m.shared_by)?;
             for (column, value) in &r.elements {
                 writeln!(f, "E {column} {:016x}", value.to_bits())?;
             }

@@ -2,7 +2,7 @@
 use crate::ceilings;
 use crate::programme::Programme;
 use crate::solver::{InOrder, Solver, Unaltered};
-use crate::{NetworkFile, RETIRED, Refusal, Sentinel, step_file};
+use crate::{NetworkFile, RETIRED, Refusal, Sentinel, makers, step_file};
 use pywr_core::network::Network;
 use pywr_core::solvers::SolverSolveError;
 
@@ -34,7 +34,9 @@ impl Reference {
         let high = sentinel.high();
         let kept = InOrder::create(&network, high).expect("the Rust builds what passes every refusal but 11");
         let unaltered = (file.distinct_sets() <= 1).then(|| Unaltered::create(&network, high).unwrap());
-        let programme = kept.programme();
+        let mut programme = kept.programme();
+        let found = makers::of(&file, &kept.columns_of_edges(&network), &programme);
+        programme.makers = found.unwrap_or_else(|e| panic!("the makers of the Rust's rows: {e}"));
         let built = Self { file, network, high, trial: None, kept, unaltered, programme };
         built.require_agreement();
         built
@@ -49,12 +51,14 @@ impl Reference {
         if let Some(unaltered) = &mut self.unaltered {
             unaltered.step(&self.network, &timestep, &state).expect("the trial accepted this step");
         }
-        self.programme = self.kept.programme();
+        let makers = std::mem::take(&mut self.programme.makers);
+        self.programme = Programme { makers, ..self.kept.programme() };
         assert!(trial.programme().same_bits(&self.programme), "a step after a refused one differs");
         self.require_agreement();
         Ok(())
     }
 
+    /// With the makers of its rows, which no step changes.
     pub fn programme(&self) -> &Programme {
         &self.programme
     }

@@ -48,7 +48,7 @@ macro_rules! solver {
                         elements: columns.zip(s.elements()[part].iter().copied()).collect(),
                     }
                 });
-                Programme { columns: columns.collect(), rows: rows.collect() }
+                Programme { columns: columns.collect(), rows: rows.collect(), makers: Vec::new() }
             }
 
             fn columns_of_edges(&self, network: &Network) -> Vec<usize> {

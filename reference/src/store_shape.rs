@@ -1,4 +1,5 @@
-//! Refusal 17 of document 01, asked of a store laid out as the repository's README says.
+//! Refusal 17 of document 01, with the makers of document 02's L5, asked of a store laid out as the repository's README says.
+use crate::makers;
 use pywr::Store;
 
 pub const COUNTS: usize = 11;
@@ -7,6 +8,7 @@ pub const EDGES: usize = 523;
 pub const NODE_ROWS: usize = 2059;
 pub const AGGREGATES: usize = 19467;
 pub const VIRTUAL_STORAGES: usize = 19531;
+pub const MAKERS: usize = 19723;
 
 /// What stands at the start of `shape`.
 #[derive(Debug, Clone, Copy)]
@@ -40,7 +42,7 @@ impl Counts {
     }
 
     /// The tables of `shape`: where each starts, and how many words it has.
-    pub fn tables(&self) -> [(usize, usize); 6] {
+    pub fn tables(&self) -> [(usize, usize); 7] {
         [
             (0, COUNTS),
             (NODES, 2 * self.nodes),
@@ -48,7 +50,13 @@ impl Counts {
             (NODE_ROWS, 4 * self.node_rows),
             (AGGREGATES, self.aggregates),
             (VIRTUAL_STORAGES, 6 * self.virtual_storages),
+            (MAKERS, 3 * self.rows()),
         ]
+    }
+
+    /// How many there are that can make rows of each kind.
+    pub fn makers_of_kinds(&self) -> [usize; makers::KINDS] {
+        [self.nodes, self.nodes, self.aggregates, self.virtual_storages, self.aggregates]
     }
 
     fn over_a_ceiling(&self) -> bool {
@@ -92,6 +100,8 @@ fn references_wrong(store: &Store, counts: &Counts) -> bool {
             || e[2] > 2
             || (e[2] > 0 && (!under(e[3], counts.sets) || absent()))
     };
+    let maker_wrong =
+        |e: &[u16]| counts.makers_of_kinds().get(e[0] as usize).is_none_or(|&count| !under(e[1], count)) || e[2] < 1;
     (0..counts.rows()).any(columns_wrong)
         || entries(NODES, 2, counts.nodes).any(|e| e[0] > 3 || e[1] > 1)
         || entries(EDGES, 3, counts.edges)
@@ -99,4 +109,5 @@ fn references_wrong(store: &Store, counts: &Counts) -> bool {
         || entries(NODE_ROWS, 4, counts.node_rows).any(node_row_wrong)
         || entries(AGGREGATES, 1, counts.aggregates).any(|e| !under(e[0], counts.varying))
         || entries(VIRTUAL_STORAGES, 6, counts.virtual_storages).any(|e| !under(e[0], counts.varying) || e[1] > 1)
+        || entries(MAKERS, 3, counts.rows()).any(maker_wrong)
 }

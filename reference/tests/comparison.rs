@@ -16,6 +16,9 @@ enum Fault {
     Place,
     Bound,
     Element,
+    MakerKind,
+    MakerIndex,
+    SharedBy,
     StoreAfterRefusal,
     OtherSentinel,
 }
@@ -58,6 +61,9 @@ impl Port for Faulty {
         match self.fault {
             Fault::Bound => programme.rows.iter_mut().for_each(|r| r.upper = r.upper.next_down()),
             Fault::Element => programme.rows.iter_mut().flat_map(|r| &mut r.elements).for_each(|e| e.1 = -e.1),
+            Fault::MakerKind => programme.makers.iter_mut().for_each(|m| m.kind ^= 1),
+            Fault::MakerIndex => programme.makers.iter_mut().for_each(|m| m.index += 1),
+            Fault::SharedBy => programme.makers.iter_mut().for_each(|m| m.shared_by = 1),
             Fault::StoreAfterRefusal if self.refused => programme.columns[0].cost += 1.0,
             _ => {}
         }
@@ -70,7 +76,7 @@ impl Port for Faulty {
 #[test]
 fn faults_are_found() {
     use Fault::*;
-    for fault in [None, Place, Bound, Element, StoreAfterRefusal, OtherSentinel] {
+    for fault in [None, Place, Bound, Element, MakerKind, MakerIndex, SharedBy, StoreAfterRefusal, OtherSentinel] {
         let mut port: Option<Box<dyn Port>> = Some(Box::new(Faulty { fault, reference: Option::None, refused: false }));
         let mut tally = Tally::default();
         let cases = (0..200).map(|i| generate::case(4, i));

@@ -18,6 +18,7 @@ fn no_difference() {
         compare(&case, &mut port, &mut tally).unwrap_or_else(|e| panic!("case {index}: {e}"));
     }
     assert!(tally.steps_compared > 1000);
+    assert_eq!(port.unwrap().untried(), None);
 }
 
 /// A bit of each run, and one that a run may have changed.
@@ -33,7 +34,7 @@ fn written_bytes_are_seen() {
         |s| s.elements[4095] = -s.elements[4095],
         |s| s.columns[4095] ^= 1,
         |s| s.row_starts[1024] ^= 1,
-        |s| s.shape[19722] ^= 1,
+        |s| s.shape[22794] ^= 1,
     ];
     assert_eq!(changed(&old, &old.clone()), Ok(()));
     for fault in faults {
@@ -55,8 +56,9 @@ fn misshapen_stores() {
     assert_eq!(built.build(&network, Sentinel::Infinity), Ok(Ok(())));
     let store = built.store();
     assert!(!misshapen(store));
-    // The sentinel kept; a count; a start that falls; the last start; a column that does not rise; a kind; an edge's column; a row.
-    let faults: [fn(&mut Store); 8] = [
+    // The sentinel kept; a count; a start that falls; the last start; a column that does not rise; a kind; an edge's column; a row; and of the makers
+    // of the first and the last row the kind, the index and how many share the row.
+    let faults: [fn(&mut Store); 14] = [
         |s| s.shape[0] = 2,
         |s| s.shape[9] = 65,
         |s| s.row_starts[2] = 0,
@@ -65,11 +67,39 @@ fn misshapen_stores() {
         |s| s.shape[11] = 4,
         |s| s.shape[525] = 9,
         |s| s.shape[19467] = 8,
+        |s| s.shape[19723] = 5,
+        |s| s.shape[19724] = 13,
+        |s| s.shape[19725] = 0,
+        |s| s.shape[19780] = 5,
+        |s| s.shape[19781] = 2,
+        |s| s.shape[19782] = 0,
     ];
     for (k, fault) in faults.iter().enumerate() {
         let mut damaged = store.clone();
         fault(&mut damaged);
         assert!(misshapen(&damaged), "fault {k}");
         assert_eq!(damaged.row(0).unwrap_err(), pywr::Refusal { number: 17, place: 0 });
+    }
+}
+
+/// Each kind of maker at its last index and behind it. Nothing asks that the count fit the tables, and no maker behind the last row is read.
+#[test]
+fn makers_at_their_limits() {
+    let network = std::fs::read(concat!(env!("CARGO_MANIFEST_DIR"), "/../examples/intake.network")).unwrap();
+    let mut built = Library::new();
+    assert_eq!(built.build(&network, Sentinel::Infinity), Ok(Ok(())));
+    let answer = |at: usize, words: [u16; 3]| {
+        let mut store = built.store().clone();
+        store.shape[19723 + 3 * at..][..3].copy_from_slice(&words);
+        assert_eq!(store.row(0).is_err(), misshapen(&store), "row {at}, {words:?}");
+        misshapen(&store)
+    };
+    for (kind, count) in [13, 13, 2, 2, 2].into_iter().enumerate() {
+        let kind = kind as u16;
+        for row in [0, 10, 19] {
+            assert!(!answer(row, [kind, 0, 1]) && !answer(row, [kind, count - 1, 65535]));
+            assert!(answer(row, [kind, count, 1]) && answer(row, [kind, count - 1, 0]) && answer(row, [5, count - 1, 1]));
+        }
+        assert!(!answer(20, [5, count, 0]));
     }
 }

@@ -1,4 +1,5 @@
 //! A store: the nine runs that hold a programme with what its steps need.
+use crate::maker::{MAKER_WIDTH, MAKERS_AT, Maker};
 use crate::{COLUMNS, ELEMENTS, ROW_STARTS, ROWS, Refusal, SHAPE, Sentinel, calls};
 
 /// Each run may be longer than its least length. One that is shorter is refused with 16.
@@ -57,6 +58,31 @@ impl Store {
     /// The same as the start and the length of the row's part: both are 0 where it is refused.
     pub fn row_part(&self, row: usize) -> (usize, usize, Result<(), Refusal>) {
         calls::row(self, row)
+    }
+
+    /// Who made a row, and how many share it; none where the row is not under the row count.
+    ///
+    /// Ask after an accepted build; no step changes it. It reads three words of `shape`, as the counts below do, and does not look over the store
+    /// as [`Store::row`] does: so it refuses nothing. Where something else wrote to the store it is what stands there, and none where that is no
+    /// kind of maker.
+    ///
+    /// ```no_run
+    /// # fn main() -> Result<(), Box<dyn std::error::Error>> {
+    /// # let (mut words, mut numbers) = (vec![0; pywr::BUILD_WORDS], vec![0.0; pywr::BUILD_NUMBERS]);
+    /// let mut store = pywr::Store::new();
+    /// store.build(&std::fs::read("intake.network")?, pywr::Sentinel::Infinity, &mut words, &mut numbers)?;
+    /// if let Some(maker) = store.maker(7) {
+    ///     println!("row 7: {maker}"); // row 7: virtual storage 0, shared by 2
+    /// }
+    /// # Ok(())
+    /// # }
+    /// ```
+    pub fn maker(&self, row: usize) -> Option<Maker> {
+        if row >= self.row_count().min(ROWS) {
+            return None;
+        }
+        let words = part(&self.shape, MAKERS_AT + MAKER_WIDTH * row, MAKER_WIDTH);
+        Maker::of_words(words.try_into().ok()?)
     }
 
     /// How many columns are for edges; those behind them are the sets' integer columns.

@@ -28,6 +28,7 @@ fn touch(store: &mut Store) -> [Result<(), Refusal>; 2] {
     let counts = [store.edge_column_count(), store.varying_row_count(), store.element_count()];
     assert!(counts[0] <= store.column_count() && counts[1] <= store.row_count());
     for row in [0, 1, 1023, 1024, 65535, usize::MAX] {
+        assert!(store.maker(row).is_none() || row < store.row_count().min(1024) && store.shape.len() > 19725 + 3 * row);
         let (start, length, answer) = store.row_part(row);
         match store.row(row) {
             Ok(part) => assert_eq!((part.start, part.columns.len(), part.elements.len()), (start, length, length)),

@@ -3,4 +3,3 @@ pub mod RowsHeldLaws
 pub mod AddLaws
 pub mod AddingRows
 pub mod LentRow
-pub mod NodeFixedRows

@@ -1,17 +1,18 @@
 -- What the work runs hold: no rows yet, what stays where something else is written, and the ceilings. Assumes nothing.
-use mathlib.Core.Path.{_≡_, refl, ap, _∙_}
+use mathlib.Core.Path.{_≡_, refl, _∙_}
 use Prim.Native.Nat.{ℕ, _+_, _-_, _<_, _≤_}
 use native.Mathlib.Omega.{arith}
 use mathlib.Core.Bool.{Bool, true, false}
-use mathlib.Core.List.{List, [], _∷_, _++_, flatMap, append-nil}
-use lib.ListN.{length, take, drop, set, length-append, length-drop, drop-of-length-le}
-use lib.Seq.{take-set-le, drop-at, length-take-le}
+use mathlib.Core.List.{List, [], _∷_, _++_, flatMap}
+use lib.ListN.{length, take, drop, set, length-append}
+use lib.Seq.{take-set-le}
 use lib.Dec.{leb}
 use lib.Ieee.{Float}
 use borrow.Author.Tests.{leb-true, le-leb}
 use borrow.Rule.Slice.PartMut.{putMid, take-put}
 use Rattle.layout.specs.Layout.{shapeMadeAt}
 use Rattle.laws.proofs.Sets.{part-same}
+use Rattle.laws.proofs.Tails.{tail-back}
 use Rattle.pywr.specs.Programme.{Row}
 use Rattle.pywr.specs.Build.{elementCount}
 use Rattle.pywr.specs.Written.{startsFrom}
@@ -69,9 +70,7 @@ module _ (numbers ys : List Float) (a : ℕ) (ha : a ≤ length numbers) where
       held-agrees rows words words numbers (putMid a (length numbers - a) numbers ys) f h refl (rw (← e) (take-put a (length numbers - a) numbers ys ha))
 
   pub lent-written : drop a (putMid a (length numbers - a) numbers ys) ≡ ys
-  lent-written =
-      let none : drop (length numbers - a) (drop a numbers) ≡ [] = drop-of-length-le (drop a numbers) {i = length numbers - a} (omega (arith, length-drop a numbers)) in
-      drop-at (take a numbers) (ys ++ drop (length numbers - a) (drop a numbers)) a (length-take-le a numbers ha) ∙ ap (λ (l : List Float). ys ++ l) none ∙ append-nil ys
+  lent-written = tail-back a numbers ys ha
 
 -- ---- the ceilings
 

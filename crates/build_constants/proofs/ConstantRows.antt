@@ -1,9 +1,9 @@
 -- The rows of a list of constant nodes, one node at a time. Assumes nothing.
-use mathlib.Core.Path.{_≡_, refl, sym, ap, _∙_}
-use Prim.Native.Nat.{ℕ, suc, _<_}
+use mathlib.Core.Path.{_≡_, refl, _∙_}
+use Prim.Native.Nat.{ℕ, _<_}
 use mathlib.Core.Bool.{true, false, cond}
 use mathlib.Core.Logic.{_≢_, _↔_}
-use mathlib.Core.List.{List, [], _∷_, _++_, append-nil}
+use mathlib.Core.List.{List, [], _∷_, append-nil}
 use lib.ListN.{getD}
 use lib.Ieee.{Float}
 use Rattle.pywr.specs.declared.Sentinel.{Sentinel}
@@ -23,15 +23,10 @@ use Rattle.build_append.specs.declared.RowsAdded.the-variants.{Done}
 use Rattle.build_exclusive_sets.proofs.MembershipLaws.{no-sets}
 use Rattle.build_node_row.specs.Tables.{networkOf, MembershipTables}
 use Rattle.build_append.proofs.AddingRows.{Adds, adds-none}
-use Rattle.build_append.proofs.NodeFixedRows.{ByNode}
 
 -- the rows of the first node
 abbrev ofFirst : Sentinel → ColumnMap → ℕ → Node → List Row
 ofFirst s f n x = cond (x .constant) (constantRows s f n x (setsWithNode n 0 (f .sets))) []
-
-pub by-node : (s : Sentinel) (f : ColumnMap) → ByNode (constantRowsFrom s f)
-unfolding constantRowsFrom
-by-node s f = record { none = λ n. refl; split = λ n x xs. rw (append-nil (ofFirst s f n x)) }
 
 module _ (s : Sentinel) (f : ColumnMap) (n : ℕ) (x : Node) where
   of-first : constantRowsFrom s f n (x ∷ []) ≡ ofFirst s f n x

@@ -1,26 +1,28 @@
 // The rows of the constant nodes (SolverBuilder::create_node_constraints of builder.rs).
 ghost use mathlib.Core.Path.{_≡_};
-ghost use Prim.Native.Nat.{_<_, _≤_};
+ghost use Prim.Native.Nat.{_<_};
 ghost use mathlib.Core.List.{List, [], _∷_, _++_};
-ghost use lib.ListN.{length};
-ghost use Rattle.layout.specs.Layout.{wordsLength, numbersLength};
 ghost use Rattle.pywr.specs.ExclusiveSets.{setsWithNode};
 ghost use Rattle.pywr.specs.Rows.{columnMap, nodeRow};
 ghost use Rattle.pywr.specs.FixedRows.{exclusiveRows, constantRowsFrom};
-ghost use Rattle.pywr.specs.Programme.{Row};
+ghost use Rattle.pywr.specs.Programme.{Row, Maker};
+ghost use Rattle.pywr.specs.Makers.{constantMakers};
 ghost use Rattle.network_node.specs.Node.{nodeAt, nodePlace};
 ghost use Rattle.build_append.specs.LpBuilder.{RowsHeld, Holding, AfterRows};
+ghost use Rattle.build_makers.specs.MadeRows.{MadeHeld, MadeHolding, AfterMade};
 ghost use Rattle.build_node_row.specs.Tables.{networkOf, EdgeTables, MembershipTables};
 ghost use Rattle.build_node_row.specs.EdgeColumns.{edgeColumns};
 ghost use Rattle.layout.specs.WorkRoom.{WorkRoom};
 use build_append::Filled;
 use build_append::RowsAdded;
+use layout::BY_NODE;
 use layout::COLUMN_CEILING;
 use layout::EDGE_CEILING;
 use layout::ELEMENTS_MADE_AT;
 use layout::MEMBERSHIP_CEILING;
 use layout::NODE_CEILING;
 use layout::SET_SIZE_CEILING;
+use layout::SHAPE_MADE_AT;
 use network_record::Counts;
 use pywr::ColumnNumber;
 use pywr::Interval;
@@ -228,15 +230,17 @@ pub fn create_constant_constraints(
 ) -> RowsAdded
     requires { ⌜ EdgeTables (now s) c (now «first_in») (now «next_in») (now «first_out») (now «next_out») (now «edge_to_col»)
         × («edge_columns» ≡ edgeColumns (now s) c) × MembershipTables (now s) c (now «first_membership») (now «next_membership»)
-        × WorkRoom (now words) (now numbers) × Holding (now words) (now numbers) f ⌝ }
-    ensures { λ r. ⌜ ((rows : List Row) → RowsHeld rows (now (words .entry)) (now (numbers .entry)) f
-        → AfterRows (rows ++ constantRowsFrom sentinel (columnMap (networkOf (now (s .entry)) c)) 0 (networkOf (now (s .entry)) c .nodes))
+        × WorkRoom (now words) (now numbers) × MadeHolding (now words) (now numbers) f ⌝ }
+    ensures { λ r. ⌜ ((rows : List Row) (makers : List Maker) → MadeHeld rows makers (now (words .entry)) (now (numbers .entry)) f
+        → AfterMade (rows ++ constantRowsFrom sentinel (columnMap (networkOf (now (s .entry)) c)) 0 (networkOf (now (s .entry)) c .nodes))
+        (makers ++ constantMakers sentinel (columnMap (networkOf (now (s .entry)) c)) 0 (networkOf (now (s .entry)) c .nodes))
         (now (words .entry)) r (now (words .exit)) (now (numbers .exit))) ⌝ }
 {
     let nodes = c.nodes;
     let mut filled = f;
     let mut i: usize = 0;
     while i < nodes {
+        let index = widths::narrow16(i);
         let r = add_constant_rows(
             s,
             c,
@@ -248,7 +252,7 @@ pub fn create_constant_constraints(
             edge_columns,
             first_membership,
             next_membership,
-            NodeIndex(widths::narrow16(i)),
+            NodeIndex(index),
             sentinel,
             words,
             numbers,
@@ -260,6 +264,14 @@ pub fn create_constant_constraints(
                 return RowsAdded::Full;
             }
             RowsAdded::Done(g) => {
+                build_makers::put_makers(
+                    &mut words[SHAPE_MADE_AT..],
+                    filled.rows,
+                    g.rows,
+                    BY_NODE,
+                    index,
+                    1,
+                );
                 filled = g;
                 i += 1;
             }

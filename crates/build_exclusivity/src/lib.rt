@@ -4,25 +4,28 @@ ghost use Prim.Native.Nat.{_+_, _≤_};
 ghost use mathlib.Core.Bool.{true};
 ghost use mathlib.Core.List.{List, [], _∷_, _++_};
 ghost use lib.ListN.{length};
-ghost use Rattle.layout.specs.Layout.{edgeCeiling, columnCeiling, wordsLength, numbersLength};
-ghost use Rattle.pywr.specs.Numbers.{double};
+ghost use Rattle.layout.specs.Layout.{edgeCeiling, columnCeiling};
 ghost use Rattle.pywr.specs.ColEdgeMap as ColEdgeMap;
 ghost use Rattle.pywr.specs.ExclusiveSets.{exclusiveSets};
 ghost use Rattle.pywr.specs.Rows.{ColumnMap, columnMap};
 ghost use Rattle.pywr.specs.FixedRows.{exclusivityRows};
-ghost use Rattle.pywr.specs.Programme.{Row};
+ghost use Rattle.pywr.specs.Programme.{Row, Maker};
+ghost use Rattle.pywr.specs.Makers.{exclusivityMakers};
 ghost use Rattle.network_aggregate.specs.AggregatedNode.{aggregateAt, setsOffset};
 ghost use Rattle.network_laws.specs.Sections.{Sections};
 ghost use Rattle.build_exclusive_sets.specs.Sets.{setsAt, SetsFit};
 ghost use Rattle.build_append.specs.LpBuilder.{RowsHeld, Holding, AfterRows};
+ghost use Rattle.build_makers.specs.MadeRows.{MadeHeld, MadeHolding, AfterMade};
 ghost use Rattle.build_node_row.specs.Tables.{networkOf};
 ghost use Rattle.build_exclusivity.specs.ExclusivityRow.{KnownSets, MapOf, ExclusivityRow};
 ghost use Rattle.layout.specs.WorkRoom.{WorkRoom};
 use build_append::Filled;
 use build_append::RowsAdded;
+use layout::BY_EXCLUSIVITY;
 use layout::COLUMN_CEILING;
 use layout::ELEMENTS_MADE_AT;
 use layout::SET_CEILING;
+use layout::SHAPE_MADE_AT;
 use network_record::Counts;
 use pywr::ColumnIndex;
 use pywr::ColumnNumber;
@@ -115,9 +118,10 @@ pub fn create_mutual_exclusivity_constraints(
     requires { ⌜ Sections (now s) (c .nodes) (c .edges) (c .aggregates) (c .«virtual_storages») (c .«virtual_storages_at»)
         × SetsFit (now s) (now «set_at») sets × (setsAt (now s) (now «set_at») sets ≡ exclusiveSets (networkOf (now s) c))
         × («edge_columns» ≡ ColEdgeMap.columns (networkOf (now s) c) .count) × («edge_columns» ≤ edgeCeiling)
-        × WorkRoom (now words) (now numbers) × Holding (now words) (now numbers) f ⌝ }
-    ensures { λ r. ⌜ ((rows : List Row) → RowsHeld rows (now (words .entry)) (now (numbers .entry)) f
-        → AfterRows (rows ++ exclusivityRows (columnMap (networkOf (now (s .entry)) c)) (networkOf (now (s .entry)) c .aggregates))
+        × WorkRoom (now words) (now numbers) × MadeHolding (now words) (now numbers) f ⌝ }
+    ensures { λ r. ⌜ ((rows : List Row) (makers : List Maker) → MadeHeld rows makers (now (words .entry)) (now (numbers .entry)) f
+        → AfterMade (rows ++ exclusivityRows (columnMap (networkOf (now (s .entry)) c)) (networkOf (now (s .entry)) c .aggregates))
+        (makers ++ exclusivityMakers (columnMap (networkOf (now (s .entry)) c)) 0 (networkOf (now (s .entry)) c .aggregates))
         (now (words .entry)) r (now (words .exit)) (now (numbers .exit))) ⌝ }
 {
     let aggregates = c.aggregates;
@@ -141,6 +145,14 @@ pub fn create_mutual_exclusivity_constraints(
                 return RowsAdded::Full;
             }
             RowsAdded::Done(g) => {
+                build_makers::put_makers(
+                    &mut words[SHAPE_MADE_AT..],
+                    filled.rows,
+                    g.rows,
+                    BY_EXCLUSIVITY,
+                    widths::narrow16(i),
+                    1,
+                );
                 filled = g;
                 at = network_aggregate::aggregate_end(s, at);
                 i += 1;

@@ -1,14 +1,13 @@
 // The fixed rows of a programme: mass balances, constant bounds, mutual exclusivity.
 ghost use mathlib.Core.Path.{_≡_};
-ghost use Prim.Native.Nat.{_≤_};
 ghost use mathlib.Core.List.{List, _++_};
-ghost use lib.ListN.{length};
-ghost use Rattle.layout.specs.Layout.{wordsLength, numbersLength};
-ghost use Rattle.pywr.specs.Programme.{Row};
+ghost use Rattle.pywr.specs.Rows.{columnMap};
+ghost use Rattle.pywr.specs.Programme.{Row, Maker};
+ghost use Rattle.pywr.specs.Makers.{fixedMakers};
 ghost use Rattle.pywr.specs.Build.{programmeOf};
 ghost use Rattle.build_node_row.specs.EdgeColumns.{edgeColumns};
 ghost use Rattle.build_node_row.specs.Tables.{networkOf, EdgeTables, SetTables};
-ghost use Rattle.build_append.specs.LpBuilder.{RowsHeld, Holding, AfterRows};
+ghost use Rattle.build_makers.specs.MadeRows.{MadeHeld, MadeHolding, AfterMade};
 ghost use Rattle.layout.specs.WorkRoom.{WorkRoom};
 use build_append::Filled;
 use build_append::RowsAdded;
@@ -21,7 +20,7 @@ use network_record::Counts;
 use pywr::ColumnNumber;
 use pywr::Sentinel;
 
-// The fixed rows: mass balances, constant bounds, mutual exclusivity.
+// The fixed rows, each with its maker: mass balances, constant bounds, mutual exclusivity.
 pub fn add_fixed_rows(
     s: &[u8],
     c: Counts,
@@ -43,9 +42,10 @@ pub fn add_fixed_rows(
 ) -> RowsAdded
     requires { ⌜ EdgeTables (now s) c (now «first_in») (now «next_in») (now «first_out») (now «next_out») (now «edge_to_col»)
         × SetTables (now s) c (now «set_at») sets (now «first_membership») (now «next_membership») × («edge_columns» ≡ edgeColumns (now s) c)
-        × WorkRoom (now words) (now numbers) × Holding (now words) (now numbers) f ⌝ }
-    ensures { λ r. ⌜ ((rows : List Row) → RowsHeld rows (now (words .entry)) (now (numbers .entry)) f
-        → AfterRows (rows ++ programmeOf sentinel (networkOf (now (s .entry)) c) .programme .fixed)
+        × WorkRoom (now words) (now numbers) × MadeHolding (now words) (now numbers) f ⌝ }
+    ensures { λ r. ⌜ ((rows : List Row) (makers : List Maker) → MadeHeld rows makers (now (words .entry)) (now (numbers .entry)) f
+        → AfterMade (rows ++ programmeOf sentinel (networkOf (now (s .entry)) c) .programme .fixed)
+        (makers ++ fixedMakers sentinel (columnMap (networkOf (now (s .entry)) c)) (networkOf (now (s .entry)) c))
         (now (words .entry)) r (now (words .exit)) (now (numbers .exit))) ⌝ }
 {
     let m = build_mass::create_mass_balance_constraints(

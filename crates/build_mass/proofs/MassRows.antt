@@ -1,13 +1,11 @@
 -- The mass rows of a list of nodes, one node at a time, and a link's row gathered from the tables. Assumes nothing.
-use mathlib.Core.Path.{_≡_, refl, sym, ap, _∙_}
-use Prim.Native.Nat.{ℕ, suc, _+_, _*_, _-_, _≤_}
+use mathlib.Core.Path.{_≡_, sym, ap, _∙_}
+use Prim.Native.Nat.{ℕ, _+_, _*_, _-_, _≤_}
 use native.Mathlib.Nat.{sub-zero}
 use native.Mathlib.Omega.{arith}
-use mathlib.Core.Bool.{cond, not, _&&_}
 use mathlib.Core.Logic.{_≢_}
-use mathlib.Core.List.{List, [], _∷_, _++_, append-nil}
+use mathlib.Core.List.{List, [], _∷_}
 use lib.ListN.{length, getD, take, drop}
-use lib.Dec.{eqb}
 use lib.Seq.{length-take-le}
 use lib.Ieee.{Float, neg}
 use borrow.Author.Tests.{eq-eqb, ne-eqb}
@@ -32,7 +30,6 @@ use Rattle.build_append.specs.declared.RowsAdded.{RowsAdded}
 use Rattle.build_append.specs.declared.RowsAdded.the-variants.{Done}
 use Rattle.build_append.proofs.AddingRows.{Adds, adds-none}
 use Rattle.build_append.proofs.LentRow.{lent-none, lent-row}
-use Rattle.build_append.proofs.NodeFixedRows.{ByNode}
 
 module _ (f : ColumnMap) (n : ℕ) (x : Node) where
   not-link : x .kind ≢ 2 → massRowsFrom f n (x ∷ []) ≡ []
@@ -50,14 +47,6 @@ module _ (f : ColumnMap) (n : ℕ) (x : Node) where
     more-columns : length (massRow f n) ≢ 1 → massRowsFrom f n (x ∷ []) ≡ record { lower = zero64; upper = zero64; elements = massRow f n } ∷ []
     unfolding massRowsFrom
     more-columns e = rw (eq-eqb (x .kind) link h, ne-eqb (length (massRow f n)) 1 e)
-
--- the rows of the first node
-abbrev ofFirst : ColumnMap → ℕ → Node → List Row
-ofFirst f n x = cond (eqb (x .kind) link && not (eqb (length (massRow f n)) 1)) (record { lower = zero64; upper = zero64; elements = massRow f n } ∷ []) []
-
-pub by-node : (f : ColumnMap) → ByNode (massRowsFrom f)
-unfolding massRowsFrom
-by-node f = record { none = λ n. refl; split = λ n x xs. rw (append-nil (ofFirst f n x)) }
 
 -- a row gathered for the link n; k is its number as the code widens it
 module _ (file : List ℕ) (c : Counts) (firstIn nextIn firstOut nextOut edgeToCol : List ℕ) (t : EdgeTables file c firstIn nextIn firstOut nextOut edgeToCol)

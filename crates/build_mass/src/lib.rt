@@ -1,27 +1,30 @@
 // The mass rows of the links (SolverBuilder::create_mass_balance_constraints of builder.rs).
-ghost use mathlib.Core.Path.{_≡_};
 ghost use Prim.Native.Nat.{ℕ, _<_, _≤_};
 ghost use mathlib.Core.List.{List, [], _∷_, _++_};
 ghost use lib.ListN.{length};
 ghost use lib.Ieee.{neg};
-ghost use Rattle.layout.specs.Layout.{edgeCeiling, columnCeiling, wordsLength, numbersLength};
+ghost use Rattle.layout.specs.Layout.{edgeCeiling, columnCeiling};
 ghost use Rattle.laws.specs.Linked.{Linked};
 ghost use Rattle.pywr.specs.Numbers.{one64};
 ghost use Rattle.pywr.specs.Rows.{addOn, columnMap};
 ghost use Rattle.pywr.specs.FixedRows.{massRowsFrom};
-ghost use Rattle.pywr.specs.Programme.{Row};
+ghost use Rattle.pywr.specs.Programme.{Row, Maker};
+ghost use Rattle.pywr.specs.Makers.{massMakers};
 ghost use Rattle.network_node.specs.Node.{nodeAt, nodePlace};
 ghost use Rattle.build_row.specs.EdgeList.{columnsOf, ListedEdges};
 ghost use Rattle.build_append.specs.LpBuilder.{RowsHeld, Holding, AfterRows};
+ghost use Rattle.build_makers.specs.MadeRows.{MadeHeld, MadeHolding, AfterMade};
 ghost use Rattle.build_row.specs.Gathered.{Gathered};
 ghost use Rattle.build_node_row.specs.Tables.{networkOf, EdgeTables};
 ghost use Rattle.layout.specs.WorkRoom.{WorkRoom};
 use build_append::Filled;
 use build_append::RowsAdded;
+use layout::BY_MASS;
 use layout::COLUMN_CEILING;
 use layout::EDGE_CEILING;
 use layout::ELEMENTS_MADE_AT;
 use layout::NODE_CEILING;
+use layout::SHAPE_MADE_AT;
 use network_record::Counts;
 use pywr::ColumnNumber;
 use pywr::Interval;
@@ -114,15 +117,17 @@ pub fn create_mass_balance_constraints(
     f: Filled,
 ) -> RowsAdded
     requires { ⌜ EdgeTables (now s) c (now «first_in») (now «next_in») (now «first_out») (now «next_out») (now «edge_to_col»)
-        × WorkRoom (now words) (now numbers) × Holding (now words) (now numbers) f ⌝ }
-    ensures { λ r. ⌜ ((rows : List Row) → RowsHeld rows (now (words .entry)) (now (numbers .entry)) f
-        → AfterRows (rows ++ massRowsFrom (columnMap (networkOf (now (s .entry)) c)) 0 (networkOf (now (s .entry)) c .nodes))
+        × WorkRoom (now words) (now numbers) × MadeHolding (now words) (now numbers) f ⌝ }
+    ensures { λ r. ⌜ ((rows : List Row) (makers : List Maker) → MadeHeld rows makers (now (words .entry)) (now (numbers .entry)) f
+        → AfterMade (rows ++ massRowsFrom (columnMap (networkOf (now (s .entry)) c)) 0 (networkOf (now (s .entry)) c .nodes))
+        (makers ++ massMakers (columnMap (networkOf (now (s .entry)) c)) 0 (networkOf (now (s .entry)) c .nodes))
         (now (words .entry)) r (now (words .exit)) (now (numbers .exit))) ⌝ }
 {
     let nodes = c.nodes;
     let mut filled = f;
     let mut i: usize = 0;
     while i < nodes {
+        let index = widths::narrow16(i);
         let r = add_mass_row(
             s,
             c,
@@ -131,7 +136,7 @@ pub fn create_mass_balance_constraints(
             first_out,
             next_out,
             edge_to_col,
-            NodeIndex(widths::narrow16(i)),
+            NodeIndex(index),
             words,
             numbers,
             columns,
@@ -142,6 +147,14 @@ pub fn create_mass_balance_constraints(
                 return RowsAdded::Full;
             }
             RowsAdded::Done(g) => {
+                build_makers::put_makers(
+                    &mut words[SHAPE_MADE_AT..],
+                    filled.rows,
+                    g.rows,
+                    BY_MASS,
+                    index,
+                    1,
+                );
                 filled = g;
                 i += 1;
             }

@@ -1,6 +1,6 @@
 -- The counts of a network's programme. Assumes nothing.
-use mathlib.Core.Path.{_≡_, refl, sym, _∙_, ap, ap₂}
-use Prim.Native.Nat.{ℕ, zero, suc, _+_, _-_, _≤_}
+use mathlib.Core.Path.{_≡_, refl, sym, _∙_, ap}
+use Prim.Native.Nat.{ℕ, zero, suc, _+_, _-_}
 use mathlib.Core.List.{List, [], _∷_, _++_, map}
 use native.Mathlib.Nat.{add-zero}
 use native.Mathlib.Omega.{arith}
@@ -14,7 +14,7 @@ use Rattle.pywr.specs.VariableRows.{Joined, addVariableRow, addVariableRows}
 use Rattle.pywr.specs.Programme.{Row, Built}
 use Rattle.pywr.specs.VaryingRows.{RowRequest, requestsFrom}
 use Rattle.pywr.specs.Build.{edgeColumn, setColumn, allColumns, nodeShape, placedNodeRows, placedVirtualStorages, requestedRow, assemble, programmeOf, elementCount}
-use Rattle.pywr.specs.Written.{sentinelWord, integerColumns, countWords, rowsOf}
+use Rattle.pywr.specs.Written.{integerColumns, countWords, rowsOf}
 use Rattle.build_write.specs.declared.Sizes.{Sizes}
 use Rattle.build_write.specs.Lp.{columnsOf}
 use Rattle.build_shape.specs.ShapeTables.{counts}
@@ -52,6 +52,29 @@ mapped-length g xs rows =
     let m = length-map xs g in
     omega (arith, n, m)
 
+-- the tables have an entry for each row asked for
+module _ (s : Sentinel) (net : Network) where
+  pub node-rows-count : length (programmeOf s net .shape .nodeRows) ≡ length (requestsFrom (columnMap net) 0 (net .nodes))
+  unfolding programmeOf assemble
+  node-rows-count =
+      node-rows-length (requestsFrom (columnMap net) 0 (net .nodes)) (addVariableRows (map requestedRow (requestsFrom (columnMap net) 0 (net .nodes))) (record { rows = []; places = [] }) .places)
+      (mapped-length requestedRow (requestsFrom (columnMap net) 0 (net .nodes)) [])
+
+  abbrev before : Joined
+  before = addVariableRows (map requestedRow (requestsFrom (columnMap net) 0 (net .nodes))) (record { rows = []; places = [] })
+
+  pub aggregates-count : length (programmeOf s net .shape .aggregates) ≡ length (net .aggregates)
+  unfolding programmeOf assemble
+  aggregates-count = mapped-length (aggregateRow (columnMap net)) (net .aggregates) (before .rows)
+
+  pub virtual-storages-count : length (programmeOf s net .shape .virtualStorages) ≡ length (net .virtualStorages)
+  unfolding programmeOf assemble
+  virtual-storages-count =
+      let rows : List (List Element) = addVariableRows (map (aggregateRow (columnMap net)) (net .aggregates)) (record { rows = before .rows; places = [] }) .rows in
+      virtual-storages-length (net .virtualStorages)
+      (addVariableRows (map (virtualStorageRow (columnMap net)) (net .virtualStorages)) (record { rows = rows; places = [] }) .places)
+      (mapped-length (virtualStorageRow (columnMap net)) (net .virtualStorages) rows)
+
 -- the sizes of a programme
 pub record SizesAre (s : Sentinel) (net : Network) (z : Sizes) : Type 0 where
   pub nodes : z .nodes ≡ length (net .nodes)
@@ -73,26 +96,13 @@ module _ (s : Sentinel) (net : Network) (z : Sizes) (h : SizesAre s net z) where
   b = programmeOf s net
 
   node-rows-many : length (b .shape .nodeRows) ≡ z .«node_rows»
-  unfolding programmeOf assemble
-  node-rows-many =
-      node-rows-length (requestsFrom (columnMap net) 0 (net .nodes)) (addVariableRows (map requestedRow (requestsFrom (columnMap net) 0 (net .nodes))) (record { rows = []; places = [] }) .places)
-      (mapped-length requestedRow (requestsFrom (columnMap net) 0 (net .nodes)) [])
-      ∙ sym (h .nodeRows)
+  node-rows-many = node-rows-count s net ∙ sym (h .nodeRows)
 
   aggregates-many : length (b .shape .aggregates) ≡ z .aggregates
-  unfolding programmeOf assemble
-  aggregates-many = mapped-length (aggregateRow (columnMap net)) (net .aggregates)
-      (addVariableRows (map requestedRow (requestsFrom (columnMap net) 0 (net .nodes))) (record { rows = []; places = [] }) .rows) ∙ sym (h .aggregates)
+  aggregates-many = aggregates-count s net ∙ sym (h .aggregates)
 
   virtual-storages-many : length (b .shape .virtualStorages) ≡ z .«virtual_storages»
-  unfolding programmeOf assemble
-  virtual-storages-many =
-      let before : Joined = addVariableRows (map requestedRow (requestsFrom (columnMap net) 0 (net .nodes))) (record { rows = []; places = [] }) in
-      let rows : List (List Element) = addVariableRows (map (aggregateRow (columnMap net)) (net .aggregates)) (record { rows = before .rows; places = [] }) .rows in
-      virtual-storages-length (net .virtualStorages)
-      (addVariableRows (map (virtualStorageRow (columnMap net)) (net .virtualStorages)) (record { rows = rows; places = [] }) .places)
-      (mapped-length (virtualStorageRow (columnMap net)) (net .virtualStorages) rows)
-      ∙ sym (h .virtualStorages)
+  virtual-storages-many = virtual-storages-count s net ∙ sym (h .virtualStorages)
 
   nodes-many : length (b .shape .nodes) ≡ z .nodes
   unfolding programmeOf assemble

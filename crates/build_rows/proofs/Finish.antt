@@ -1,13 +1,13 @@
 -- The whole programme laid out, and the answers of the assembling. Assumes nothing.
 use mathlib.Core.Path.{_≡_, refl, sym, _∙_, ap, subst}
 use Prim.Native.Nat.{ℕ, _+_, _*_, _-_, _<_, _≤_}
-use mathlib.Core.List.{List, [], _∷_, _++_, map, flatMap}
-use mathlib.Core.Bool.{true, false}
+use mathlib.Core.List.{List, _++_, map, flatMap}
+use mathlib.Core.Bool.{false}
 use native.Mathlib.Omega.{arith}
-use lib.ListN.{length, take, drop, length-append, length-map}
-use lib.Seq.{sets, drop-drop, length-take-le}
+use lib.ListN.{length, take, length-append, length-map}
+use lib.Seq.{sets, length-take-le}
 use lib.Ieee.{Float}
-use Rattle.layout.specs.Layout.{aggregatesMadeAt, edgesMadeAt, nodeRowsMadeAt, nodesMadeAt, shapeMadeAt, virtualStoragesMadeAt, wordsLength}
+use Rattle.layout.specs.Layout.{aggregatesMadeAt, edgesMadeAt, makersAt, makersMadeAt, nodeRowsMadeAt, nodesMadeAt, shapeMadeAt, virtualStoragesMadeAt, wordsLength}
 use Rattle.laws.specs.Part.{part}
 use Rattle.pywr.specs.declared.Sentinel.{Sentinel}
 use Rattle.pywr.specs.Result.{value, refused}
@@ -15,10 +15,10 @@ use Rattle.pywr.specs.Network.{Network}
 use Rattle.pywr.specs.ColEdgeMap.{columns, mappedEdges}
 use Rattle.pywr.specs.ExclusiveSets.{exclusiveSets}
 use Rattle.pywr.specs.Rows.{columnMap}
-use Rattle.pywr.specs.Programme.{Row, Built}
-use Rattle.pywr.specs.VaryingRows.{requestsFrom}
-use Rattle.pywr.specs.Build.{nodeShape, assemble, programmeOf, elementCount, build}
-use Rattle.pywr.specs.Written.{nodeWords, edgeWords, countWords, rowsOf}
+use Rattle.pywr.specs.Programme.{Row, Maker, Built}
+use Rattle.pywr.specs.Makers.{fixedMakers}
+use Rattle.pywr.specs.Build.{nodeShape, assemble, programmeOf, build}
+use Rattle.pywr.specs.Written.{nodeWords, edgeWords, makerWords, countWords, rowsOf}
 use Rattle.network_laws.specs.NetworkAt.{nodeRecords, networkAt}
 use Rattle.network_laws.proofs.Index.{node-count, edge-count, aggregate-count, virtual-storage-count}
 use Rattle.network_record.specs.declared.Counts.{Counts}
@@ -28,8 +28,8 @@ use Rattle.build_write.specs.declared.Sizes.{Sizes}
 use Rattle.build_write.specs.Lp.{Few}
 use Rattle.build_append.specs.declared.Filled.{Filled}
 use Rattle.build_append.specs.declared.RowsAdded.{RowsAdded}
-use Rattle.build_append.specs.declared.RowsAdded.the-variants.{Done, Full}
-use Rattle.build_append.specs.LpBuilder.{RowsHeld, withinCeilings, AfterRows}
+use Rattle.build_append.specs.declared.RowsAdded.the-variants.{Done}
+use Rattle.build_append.specs.LpBuilder.{RowsHeld, withinCeilings}
 use Rattle.build_append.proofs.RowsHeldLaws.{held-within, over-more}
 use Rattle.build_node_row.specs.Tables.{networkOf, EdgeTables, SetTables}
 use Rattle.build_node_table.specs.declared.NodeRows.{NodeRows}
@@ -42,14 +42,9 @@ use Rattle.build_rows.proofs.Ceilings.{rows-over, sets-over, none-over,
 use Rattle.build_rows.proofs.EdgeTable.{entries-are}
 use Rattle.build_rows.proofs.LaidOut.{RowsLaid, laid-out}
 use Rattle.build_rows.proofs.Counts.{SizesAre, columns-are, counts-are}
-use Rattle.build_varying.proofs.Varying.{asks-few}
-
--- what stays from 5,121 on stays in each part there
-kept-part : {A : Type 0} (l l′ : List A) (a n : ℕ) → shapeMadeAt ≤ a → drop shapeMadeAt l′ ≡ drop shapeMadeAt l → part a n l′ ≡ part a n l
-kept-part {A} l l′ a n h e =
-    let q : shapeMadeAt + (a - shapeMadeAt) ≡ a = omega arith in
-    let of : (x : List A) → part a n x ≡ take n (drop (a - shapeMadeAt) (drop shapeMadeAt x)) = (λ x. sym (ap (take n) (drop-drop (a - shapeMadeAt) shapeMadeAt x ∙ ap (λ (j : ℕ). drop j x) q))) in
-    of l′ ∙ ap (λ (x : List A). take n (drop (a - shapeMadeAt) x)) e ∙ sym (of l)
+use Rattle.build_varying.proofs.Varying.{inside, asks-few}
+use Rattle.build_makers.specs.MadeRows.{AfterMade}
+use Rattle.build_rows.proofs.VaryingMade.{theirs, makers-are}
 
 counts-long : (s : Sentinel) (z : Sizes) (varying : ℕ) → length (counts s z varying) ≡ 11
 unfolding counts
@@ -115,10 +110,15 @@ module _ (s : Sentinel) (file : List ℕ) (c : Counts) (firstIn nextIn firstOut 
         sym (ap (λ (x : List (List ℕ)). length x) (l .held)) ∙ long ∙ length-take-le sets₀ setAt (omega (arith, l .fit .long, l .fit .few))
 
     module _ (words₁ words₂ : List ℕ) (numbers₁ numbers₂ : List Float) (v : VaryingLaid s net n words₁ numbers₁)
-        (r : RowsAdded) (a : AfterRows (b .programme .varying ++ b .programme .fixed) words₁ r words₂ numbers₂) (done : r ≡ Done g) where
+        (r : RowsAdded) (a : AfterMade (b .programme .varying ++ b .programme .fixed) (theirs s net ++ fixedMakers s (columnMap net) net) words₁ r words₂ numbers₂) (done : r ≡ Done g) where
       held : RowsHeld (rowsOf (b .programme)) words₂ numbers₂ g
       unfolding rowsOf
-      held = a .held g done
+      held = a .held g done .held
+
+      -- as many makers as rows
+      makers-many : length (b .makers) ≡ g .rows
+      unfolding rowsOf
+      makers-many = ap (λ (l : List Maker). length l) (sym (makers-are s net)) ∙ a .held g done .each ∙ sym (held .rowCount)
 
       are : SizesAre s net sizes
       are =
@@ -156,19 +156,22 @@ module _ (s : Sentinel) (file : List ℕ) (c : Counts) (firstIn nextIn firstOut 
       unfolding rowsOf
       varying-most = omega (arith, v .held .rowCount, held .rowCount, length-append (b .programme .varying) (b .programme .fixed))
 
-      pub all-made : (words₃ : List ℕ) → wordsLength ≤ length words₂
+      pub all-made : (words₃ : List ℕ) → wordsLength ≤ length words₁ → wordsLength ≤ length words₂
           → words₃ ≡ sets (sets (sets words₂ nodesMadeAt (flatMap nodeWords (map nodeShape (nodeRecords file (c .nodes))))) edgesMadeAt
           (flatMap edgeWords (edgeEntries file table (c .nodes) (c .edges)))) shapeMadeAt (counts s sizes (n .filled .rows))
           → AfterAssemble s file (Assembled.Done sizes) words₃ numbers₂
-      all-made words₃ room e =
+      all-made words₃ room₁ room e =
           let cs : counts s sizes (n .filled .rows) ≡ countWords b = counts-are s net sizes are (n .filled .rows) (v .held .rowCount) in
           let rows-laid : RowsLaid b sizes words₂ numbers₂ =
           record {
             rows = held;
-            nodeRows = kept-part words₁ words₂ nodeRowsMadeAt (4 * n .count) (omega arith) (a .kept) ∙ v .nodeRows;
-            aggregates = ap (λ (k : ℕ). part aggregatesMadeAt k words₂) (are .aggregates) ∙ kept-part words₁ words₂ aggregatesMadeAt (length (net .aggregates)) (omega arith) (a .kept) ∙ v .aggregates;
+            nodeRows = kept-part nodeRowsMadeAt (4 * n .count) (omega arith) (omega (arith, few .nodeRows)) ∙ v .nodeRows;
+            aggregates = ap (λ (k : ℕ). part aggregatesMadeAt k words₂) (are .aggregates)
+                ∙ kept-part aggregatesMadeAt (length (net .aggregates)) (omega arith) (omega (arith, are .aggregates, few .aggregates)) ∙ v .aggregates;
             virtualStorages = ap (λ (k : ℕ). part virtualStoragesMadeAt (6 * k) words₂) (are .virtualStorages)
-                ∙ kept-part words₁ words₂ virtualStoragesMadeAt (6 * length (net .virtualStorages)) (omega arith) (a .kept) ∙ v .virtualStorages;
+                ∙ kept-part virtualStoragesMadeAt (6 * length (net .virtualStorages)) (omega arith) (omega (arith, are .virtualStorages, few .virtualStorages)) ∙ v .virtualStorages;
+            makers = ap (λ (k : ℕ). part makersMadeAt (3 * k) words₂) (sym makers-many)
+                ∙ ap (λ (l : List Maker). part makersMadeAt (3 * length l) words₂) (sym (makers-are s net)) ∙ a .held g done .made ∙ ap (flatMap makerWords) (makers-are s net);
           } in
           let laid = laid-out s b sizes words₂ numbers₂ _ _ _ few (columns-are s net sizes are) room (nodes-length file (c .nodes))
           (edges-length file table (c .nodes) (c .edges)) (counts-long s sizes (n .filled .rows)) nodes-are edges-are cs rows-laid in
@@ -180,6 +183,10 @@ module _ (s : Sentinel) (file : List ℕ) (c : Counts) (firstIn nextIn firstOut 
                 (record { built = b; is = is; laid = subst (λ (w : List ℕ). Laid s b sizes w numbers₂) (sym e) laid });
           }
         where
+          -- the words before the table of makers stay
+          kept-part : (p k : ℕ) → shapeMadeAt ≤ p → p + k ≤ makersMadeAt → part p k words₂ ≡ part p k words₁
+          kept-part p k hp hk = inside words₁ words₂ shapeMadeAt makersAt p k hp hk (omega arith) (omega arith) (a .kept)
+
           nodes-are : flatMap nodeWords (map nodeShape (nodeRecords file (c .nodes))) ≡ flatMap nodeWords (b .shape .nodes)
           nodes-are = shape-nodes
 

@@ -1,24 +1,23 @@
 -- The tables written behind the rows lay the programme out. Assumes nothing.
-use mathlib.Core.Path.{_≡_, refl, sym, _∙_, ap, subst}
-use Prim.Native.Nat.{ℕ, _+_, _*_, _-_, _<_, _≤_}
-use mathlib.Core.List.{List, _++_, map, flatMap}
+use mathlib.Core.Path.{_≡_, refl, _∙_, ap}
+use Prim.Native.Nat.{ℕ, _*_, _-_, _≤_}
+use mathlib.Core.List.{List, map, flatMap}
 use native.Mathlib.Omega.{arith}
 use lib.ListN.{length, take}
 use lib.Seq.{sets, length-sets}
 use lib.Ieee.{Float}
-use Rattle.layout.specs.Layout.{aggregatesMadeAt, edgesAt, edgesMadeAt, nodeRowsMadeAt, nodesAt, nodesMadeAt, sentinelAt, shapeLength, shapeMadeAt, virtualStoragesMadeAt, wordsLength}
+use Rattle.layout.specs.Layout.{aggregatesMadeAt, edgesAt, edgesMadeAt, makersMadeAt, nodeRowsMadeAt, nodesAt, nodesMadeAt, sentinelAt, shapeLength, shapeMadeAt, virtualStoragesMadeAt, wordsLength}
 use Rattle.laws.specs.Part.{part}
 use Rattle.laws.proofs.Sets.{part-same, part-before, part-after}
 use Rattle.laws.proofs.Tails.{tail, putTail, tail-length, tail-written}
 use Rattle.pywr.specs.declared.Sentinel.{Sentinel}
 use Rattle.pywr.specs.Programme.{Row, Built}
 use Rattle.pywr.specs.Build.{nodeShape}
-use Rattle.pywr.specs.Written.{nodeWords, edgeWords, nodeRowWords, virtualStorageWords, countWords, rowsOf}
+use Rattle.pywr.specs.Written.{nodeWords, edgeWords, nodeRowWords, virtualStorageWords, makerWords, countWords, rowsOf}
 use Rattle.network_laws.specs.NetworkAt.{nodeRecords}
 use Rattle.build_shape.specs.ShapeTables.{edgeEntries, counts}
 use Rattle.build_write.specs.declared.Sizes.{Sizes}
 use Rattle.build_write.specs.Lp.{Few, columnsOf}
-use Rattle.build_append.specs.declared.Filled.{Filled}
 use Rattle.build_append.specs.LpBuilder.{RowsHeld}
 use Rattle.build_append.proofs.RowsHeldLaws.{held-agrees}
 use Rattle.build_rows.specs.Assembled.{Laid, tablesWritten}
@@ -51,12 +50,13 @@ module _ (s : Sentinel) (file table : List ℕ) (z : Sizes) (varying : ℕ) (wor
 
 -- ---- the tables, written
 
--- what the passes over the rows leave: the rows, and the tables of node rows, aggregates and virtual storages
+-- what the passes over the rows leave: the rows, and the tables of node rows, aggregates, virtual storages and makers
 pub record RowsLaid (b : Built) (z : Sizes) (words : List ℕ) (numbers : List Float) : Type 0 where
   pub rows : RowsHeld (rowsOf (b .programme)) words numbers (record { rows = z .rows; elements = z .elements })
   pub nodeRows : part nodeRowsMadeAt (4 * z .«node_rows») words ≡ flatMap nodeRowWords (b .shape .nodeRows)
   pub aggregates : part aggregatesMadeAt (z .aggregates) words ≡ b .shape .aggregates
   pub virtualStorages : part virtualStoragesMadeAt (6 * z .«virtual_storages») words ≡ flatMap virtualStorageWords (b .shape .virtualStorages)
+  pub makers : part makersMadeAt (3 * z .rows) words ≡ flatMap makerWords (b .makers)
 
 module _ (words ns es cs : List ℕ) (n e : ℕ) (ln : length ns ≡ 2 * n) (le : length es ≡ 3 * e) (lc : length cs ≡ 11) (fn : n ≤ 256) (fe : e ≤ 512) (room : wordsLength ≤ length words) where
   -- nodes, edges and counts written, in this order
@@ -110,4 +110,5 @@ laid-out s b z words numbers ns es cs few cols room ln le lc en ee ec r =
       nodeRows = behind words ns es cs (z .nodes) (z .edges) ln le lc (few .nodes) (few .edges) room nodeRowsMadeAt (4 * z .«node_rows») (omega arith) ∙ r .nodeRows;
       aggregates = behind words ns es cs (z .nodes) (z .edges) ln le lc (few .nodes) (few .edges) room aggregatesMadeAt (z .aggregates) (omega arith) ∙ r .aggregates;
       virtualStorages = behind words ns es cs (z .nodes) (z .edges) ln le lc (few .nodes) (few .edges) room virtualStoragesMadeAt (6 * z .«virtual_storages») (omega arith) ∙ r .virtualStorages;
+      makers = behind words ns es cs (z .nodes) (z .edges) ln le lc (few .nodes) (few .edges) room makersMadeAt (3 * z .rows) (omega arith) ∙ r .makers;
     }

@@ -2,4 +2,6 @@ pub mod Ceilings
 mod EdgeTable
 mod LaidOut
 mod Counts
+mod Askers
+mod VaryingMade
 pub mod Finish

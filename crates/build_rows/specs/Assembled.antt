@@ -5,13 +5,13 @@ use Prim.Native.Nat.{ℕ, _*_}
 use mathlib.Core.List.{List, map, flatMap}
 use lib.Seq.{sets}
 use lib.Ieee.{Float}
-use Rattle.layout.specs.Layout.{countsLength, nodeWidth, edgeWidth, nodeRowWidth, virtualStorageWidth, shapeMadeAt, nodesMadeAt, edgesMadeAt, nodeRowsMadeAt, aggregatesMadeAt, virtualStoragesMadeAt}
+use Rattle.layout.specs.Layout.{countsLength, nodeWidth, edgeWidth, nodeRowWidth, virtualStorageWidth, makerWidth, shapeMadeAt, nodesMadeAt, edgesMadeAt, nodeRowsMadeAt, aggregatesMadeAt, virtualStoragesMadeAt, makersMadeAt}
 use Rattle.laws.specs.Part.{part}
 use Rattle.pywr.specs.declared.Sentinel.{Sentinel}
 use Rattle.pywr.specs.Result.{value, refused}
 use Rattle.pywr.specs.Programme.{Built}
 use Rattle.pywr.specs.Build.{nodeShape, build}
-use Rattle.pywr.specs.Written.{nodeWords, edgeWords, nodeRowWords, virtualStorageWords, countWords, rowsOf}
+use Rattle.pywr.specs.Written.{nodeWords, edgeWords, nodeRowWords, virtualStorageWords, makerWords, countWords, rowsOf}
 use Rattle.network_laws.specs.NetworkAt.{nodeRecords}
 use Rattle.build_shape.specs.ShapeTables.{edgeEntries, counts}
 use Rattle.build_write.specs.declared.Sizes.{Sizes}
@@ -30,6 +30,7 @@ pub record Laid (s : Sentinel) (b : Built) (z : Sizes) (words : List ℕ) (numbe
   pub nodeRows : part nodeRowsMadeAt (nodeRowWidth * z .«node_rows») words ≡ flatMap nodeRowWords (b .shape .nodeRows)
   pub aggregates : part aggregatesMadeAt (z .aggregates) words ≡ b .shape .aggregates
   pub virtualStorages : part virtualStoragesMadeAt (virtualStorageWidth * z .«virtual_storages») words ≡ flatMap virtualStorageWords (b .shape .virtualStorages)
+  pub makers : part makersMadeAt (makerWidth * z .rows) words ≡ flatMap makerWords (b .makers)
 
 -- the build's programme is laid out
 pub record Made (s : Sentinel) (file : List ℕ) (z : Sizes) (words : List ℕ) (numbers : List Float) : Type 0 where

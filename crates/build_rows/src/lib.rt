@@ -1,8 +1,8 @@
-// A programme in the work runs of a build: all rows, the tables of nodes and edges, the counts.
+// A programme in the work runs of a build: all rows with their makers, the tables of nodes and edges, the counts.
 ghost use mathlib.Core.Path.{_≡_};
 ghost use Prim.Native.Nat.{ℕ, _<_, _≤_};
 ghost use lib.ListN.{length, getD};
-ghost use Rattle.layout.specs.Layout.{wordsLength, numbersLength};
+ghost use Rattle.layout.specs.Layout.{wordsLength};
 ghost use Rattle.network_edge.specs.Edge.{edgePlace};
 ghost use Rattle.build_node_row.specs.EdgeColumns.{edgeColumns};
 ghost use Rattle.build_node_row.specs.Tables.{EdgeTables, SetTables};
@@ -49,7 +49,7 @@ fn write_tables(
     build_shape::write_counts(&mut words[SHAPE_MADE_AT..], sentinel, z, varying);
 }
 
-// All rows, then the tables of nodes and edges and the counts.
+// All rows with their makers, then the tables of nodes and edges and the counts.
 pub fn add_rows(
     s: &[u8],
     c: Counts,
@@ -99,6 +99,13 @@ pub fn add_rows(
         NodeRowsAdded::Done(n) => {
             let count = n.count;
             let filled = n.filled;
+            build_sharers::put_varying_makers(
+                &mut words[SHAPE_MADE_AT..],
+                filled.rows,
+                count,
+                c.aggregates,
+                c.virtual_storages,
+            );
             let f = build_fixed::add_fixed_rows(
                 s,
                 c,

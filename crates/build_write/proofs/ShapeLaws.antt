@@ -1,15 +1,15 @@
 -- The shape run's parts written one behind the other, each call keeping the run's length. Assumes nothing.
-use mathlib.Core.Path.{_≡_, refl}
+use mathlib.Core.Path.{_≡_}
 use Prim.Native.Nat.{ℕ, _+_, _*_, _≤_}
 use native.Mathlib.Omega.{arith}
 use mathlib.Core.List.{List}
 use lib.ListN.{length}
 use lib.Seq.{sets}
-use Rattle.layout.specs.Layout.{aggregatesAt, countsLength, edgesAt, nodeRowCeiling, nodeRowsAt, nodesAt, shapeLength, shapeMadeAt, virtualStoragesAt, wordsLength}
+use Rattle.layout.specs.Layout.{aggregatesAt, makersAt, countsLength, edgesAt, nodeRowCeiling, nodeRowsAt, nodesAt, shapeLength, shapeMadeAt, virtualStoragesAt, wordsLength}
 use Rattle.laws.specs.Part.{part}
 use Rattle.laws.proofs.Tails.{tail, tail-length, tail-part}
 use Rattle.build_write.specs.declared.Sizes.{Sizes}
-use Rattle.build_write.specs.Lp.{shapeWritten}
+use Rattle.build_write.specs.Lp.{shapeTables, shapeWritten}
 
 pub node-rows-room : (n long l₁ l₂ l₃ : ℕ) → l₃ ≡ l₂ → l₂ ≡ l₁ → l₁ ≡ long → n ≤ nodeRowCeiling → shapeLength ≤ long → nodeRowsAt + 4 * n ≤ l₃
 node-rows-room n long l₁ l₂ l₃ c b a few h = omega arith
@@ -34,8 +34,8 @@ module _ (z : Sizes) (words old s₁ s₂ s₃ s₄ s₅ s₆ : List ℕ) where
 
   pub written : s₆ ≡ sets s₅ virtualStoragesAt (part virtualStoragesAt (6 * z .«virtual_storages») made) → s₅ ≡ sets s₄ aggregatesAt (part aggregatesAt (z .aggregates) made)
       → s₄ ≡ sets s₃ nodeRowsAt (part nodeRowsAt (4 * z .«node_rows») made) → s₃ ≡ sets s₂ edgesAt (part edgesAt (3 * z .edges) made)
-      → s₂ ≡ sets s₁ nodesAt (part nodesAt (2 * z .nodes) made) → s₁ ≡ sets old 0 (part 0 countsLength made) → s₆ ≡ shapeWritten z words old
-  unfolding shapeWritten
+      → s₂ ≡ sets s₁ nodesAt (part nodesAt (2 * z .nodes) made) → s₁ ≡ sets old 0 (part 0 countsLength made) → s₆ ≡ shapeTables z words old
+  unfolding shapeTables
   written f e d c b a =
       rw (
         f,
@@ -52,3 +52,9 @@ module _ (z : Sizes) (words old s₁ s₂ s₃ s₄ s₅ s₆ : List ℕ) where
         is-made nodesAt (2 * z .nodes),
         is-made 0 countsLength,
       )
+
+-- the tables written, and the makers behind them
+pub makers-written : (z : Sizes) (words old s₁ s₂ : List ℕ) → s₂ ≡ sets s₁ makersAt (part makersAt (3 * z .rows) (tail shapeMadeAt words)) → s₁ ≡ shapeTables z words old
+    → s₂ ≡ shapeWritten z words old
+unfolding shapeWritten
+makers-written z words old s₁ s₂ b a = rw (b, a, tail-part shapeMadeAt words makersAt (3 * z .rows))

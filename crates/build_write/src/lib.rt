@@ -1,17 +1,19 @@
 // An assembled programme written from the work runs into the store's runs (LpBuilder::build of builder.rs).
 ghost use mathlib.Core.Path.{_≡_};
-ghost use Prim.Native.Nat.{ℕ, _≤_};
+ghost use Prim.Native.Nat.{_≤_};
 ghost use lib.ListN.{length};
 ghost use lib.Seq.{sets};
 ghost use Rattle.layout.specs.Layout.{columnCeiling, rowCeiling, elementCeiling, rowStartsLength, shapeLength, wordsLength, elementsMadeAt, numbersLength};
 ghost use Rattle.laws.specs.Part.{part};
-ghost use Rattle.build_write.specs.Lp.{Few, RowStarts, ColumnsWritten, RowsWritten, MatrixWritten, shapeWritten};
+ghost use Rattle.build_write.specs.Lp.{Few, RowStarts, ColumnsWritten, RowsWritten, MatrixWritten, shapeTables, shapeWritten};
 ghost use Rattle.layout.specs.WorkRoom.{WorkRoom};
 use layout::AGGREGATES_AT;
 use layout::COUNTS_LENGTH;
 use layout::EDGE_WIDTH;
 use layout::EDGES_AT;
 use layout::ELEMENTS_MADE_AT;
+use layout::MAKER_WIDTH;
+use layout::MAKERS_AT;
 use layout::NODE_ROW_WIDTH;
 use layout::NODE_ROWS_AT;
 use layout::NODE_WIDTH;
@@ -111,10 +113,10 @@ pub fn write_matrix(
     runs::widen_u16(row_starts, 0, words, STARTS_MADE_AT, n);
 }
 
-// The shape run: counts and tables.
-pub fn write_shape(z: Sizes, words: &[u16], shape: &mut [u16])
+// The shape run's counts and the tables that steps read.
+fn write_tables(z: Sizes, words: &[u16], shape: &mut [u16])
     requires { ⌜ Few z × (wordsLength ≤ length (now words)) × (shapeLength ≤ length (now shape)) ⌝ }
-    ensures { λ _. ⌜ now (shape .exit) ≡ shapeWritten z (now (words .entry)) (now (shape .entry)) ⌝ }
+    ensures { λ _. ⌜ now (shape .exit) ≡ shapeTables z (now (words .entry)) (now (shape .entry)) ⌝ }
 {
     let made = &words[SHAPE_MADE_AT..];
     runs::copy_u16(shape, 0, made, 0, COUNTS_LENGTH);
@@ -135,4 +137,14 @@ pub fn write_shape(z: Sizes, words: &[u16], shape: &mut [u16])
         VIRTUAL_STORAGES_AT,
         VIRTUAL_STORAGE_WIDTH * z.virtual_storages,
     );
+}
+
+// The shape run: counts and tables, the rows' makers last.
+pub fn write_shape(z: Sizes, words: &[u16], shape: &mut [u16])
+    requires { ⌜ Few z × (wordsLength ≤ length (now words)) × (shapeLength ≤ length (now shape)) ⌝ }
+    ensures { λ _. ⌜ now (shape .exit) ≡ shapeWritten z (now (words .entry)) (now (shape .entry)) ⌝ }
+{
+    write_tables(z, words, shape);
+    let made = &words[SHAPE_MADE_AT..];
+    runs::copy_u16(shape, MAKERS_AT, made, MAKERS_AT, MAKER_WIDTH * z.rows);
 }

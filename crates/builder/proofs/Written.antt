@@ -1,23 +1,22 @@
 -- The store that is written from an assembled programme is the built store. Assumes nothing.
-use mathlib.Core.Path.{_≡_, refl, sym, _∙_, ap, ap₂}
-use Prim.Native.Nat.{ℕ, _+_, _*_}
-use mathlib.Core.List.{List, map, flatMap}
-use lib.ListN.{length}
+use mathlib.Core.Path.{_≡_, _∙_, ap}
+use Prim.Native.Nat.{ℕ, _+_}
+use mathlib.Core.List.{List, map}
 use lib.Seq.{sets}
 use lib.Ieee.{Float}
 use Rattle.laws.specs.Part.{part}
 use Rattle.pywr.specs.declared.Sentinel.{Sentinel}
 use Rattle.pywr.specs.Programme.{Column, Built}
 use Rattle.pywr.specs.Store.{Store}
-use Rattle.pywr.specs.Written.{shapeAfter, builtStore, rowsOf, lowerOf, upperOf, columnsIn, valuesIn, startsFrom}
+use Rattle.pywr.specs.Written.{shapeAfter, builtStore}
 use Rattle.build_write.specs.declared.Sizes.{Sizes}
-use Rattle.build_write.specs.Lp.{columnsOf, ColumnsWritten, RowsWritten, MatrixWritten, shapeWritten}
+use Rattle.build_write.specs.Lp.{ColumnsWritten, RowsWritten, MatrixWritten, shapeTables, shapeWritten}
 use Rattle.build_rows.specs.Assembled.{Laid}
 
 module _ (s : Sentinel) (b : Built) (z : Sizes) (words : List ℕ) (numbers : List Float) (l : Laid s b z words numbers) where
   shape-is : (old : List ℕ) → shapeWritten z words old ≡ shapeAfter old b
-  unfolding shapeWritten shapeAfter
-  shape-is old = rw (l .counts, l .nodes, l .edges, l .nodeRows, l .aggregates, l .virtualStorages)
+  unfolding shapeWritten shapeTables shapeAfter
+  shape-is old = rw (l .counts, l .nodes, l .edges, l .nodeRows, l .aggregates, l .virtualStorages, l .makers)
 
   pub store-is : (old : Store) (cl cu cc rl ru el : List Float) (co st sh : List ℕ)
       → ColumnsWritten s z (old .colLower) (old .colUpper) (old .colObjCoef) cl cu cc

@@ -16,6 +16,11 @@ module _ {A : Type 0} where
       let e : suc i + length xs ≡ i + suc (length xs) = omega arith in
       sets-snoc (set l i x) (suc i) xs v ∙ ap (λ (k : ℕ). set (sets (set l i x) (suc i) xs) k v) e
 
+  -- a list stored right behind a list
+  pub sets-behind : (l xs ys : List A) (b k : ℕ) → b + length xs ≡ k → sets (sets l b xs) k ys ≡ sets l b (xs ++ ys)
+  sets-behind l [] ys b k e = let q : k ≡ b = omega (arith, e) in ap (λ (j : ℕ). sets l j ys) q
+  sets-behind l (x ∷ xs) ys b k e = sets-behind (set l b x) xs ys (suc b) k (omega (arith, e))
+
   -- a turn of any loop that writes the list xs into a run from place b on
   pub sets-next : (d d₀ xs : List A) (b i : ℕ) (v z : A) → i < length xs → getD xs i z ≡ v → d ≡ sets d₀ b (take i xs)
       → set d (b + i) v ≡ sets d₀ b (take (i + 1) xs)

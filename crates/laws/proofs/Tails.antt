@@ -4,7 +4,7 @@ use mathlib.Core.Path.{_≡_, refl, _∙_, ap}
 use mathlib.Core.List.{List, [], _∷_, _++_, append-nil}
 use native.Mathlib.Omega.{arith}
 use lib.ListN.{length, take, drop, set, length-drop, drop-of-length-le, take-append-drop}
-use lib.Seq.{sets, take-all, drop-drop, drop-set-add}
+use lib.Seq.{sets, take-all, drop-at, drop-drop, drop-set-add, length-take-le}
 use borrow.Rule.Slice.PartMut.{midOf, putMid, same-len-mid}
 use Rattle.laws.specs.Part.{part}
 use Rattle.laws.proofs.Sets.{part-before}
@@ -34,6 +34,12 @@ module _ {A : Type 0} (a : ℕ) (xs : List A) where
 
   pub tail-kept : (ys : List A) → length ys ≡ length tail → length (putTail ys) ≡ length xs
   tail-kept ys e = same-len-mid a (length xs - a) xs ys e
+
+  -- a tail that was lent comes back
+  pub tail-back : (ys : List A) → a ≤ length xs → drop a (putTail ys) ≡ ys
+  tail-back ys h =
+      let none : drop (length xs - a) (drop a xs) ≡ [] = drop-of-length-le (drop a xs) short in
+      drop-at (take a xs) (ys ++ drop (length xs - a) (drop a xs)) a (length-take-le a xs h) ∙ ap (λ (l : List A). ys ++ l) none ∙ append-nil ys
 
   pub tail-part : (k n : ℕ) → part k n tail ≡ part (a + k) n xs
   tail-part k n = ap (part k n) tail-is ∙ ap (take n) (drop-drop k a xs)

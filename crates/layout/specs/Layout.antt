@@ -57,7 +57,7 @@ abbrev pub rowStartsLength : ℕ
 rowStartsLength = 1025
 
 abbrev pub shapeLength : ℕ
-shapeLength = 19723
+shapeLength = 22795
 
 -- the shape run starts with the sentinel's code and the counts
 abbrev pub sentinelAt : ℕ
@@ -112,6 +112,9 @@ aggregatesAt = 19467
 abbrev pub virtualStoragesAt : ℕ
 virtualStoragesAt = 19531
 
+abbrev pub makersAt : ℕ
+makersAt = 19723
+
 -- how many words an entry of each has
 abbrev pub nodeWidth : ℕ
 nodeWidth = 2
@@ -127,6 +130,9 @@ aggregateWidth = 1
 
 abbrev pub virtualStorageWidth : ℕ
 virtualStorageWidth = 6
+
+abbrev pub makerWidth : ℕ
+makerWidth = 3
 
 -- the counts of a shape run
 abbrev pub sentinelIn : List ℕ → ℕ
@@ -212,6 +218,16 @@ periodEndMonth shape at = getD shape (at + 4) 0
 abbrev pub periodEndDay : List ℕ → ℕ → ℕ
 periodEndDay shape at = getD shape (at + 5) 0
 
+-- of a row's maker
+abbrev pub makerKind : List ℕ → ℕ → ℕ
+makerKind shape at = getD shape at 0
+
+abbrev pub makerIndex : List ℕ → ℕ → ℕ
+makerIndex shape at = getD shape (at + 1) 0
+
+abbrev pub makerSharedBy : List ℕ → ℕ → ℕ
+makerSharedBy shape at = getD shape (at + 2) 0
+
 -- ---- the build's work area
 
 -- a run of words: the elements' columns from 0, the row starts, then the shape run's words
@@ -236,8 +252,11 @@ aggregatesMadeAt = shapeMadeAt + aggregatesAt
 abbrev pub virtualStoragesMadeAt : ℕ
 virtualStoragesMadeAt = shapeMadeAt + virtualStoragesAt
 
+abbrev pub makersMadeAt : ℕ
+makersMadeAt = shapeMadeAt + makersAt
+
 abbrev pub wordsLength : ℕ
-wordsLength = 24844
+wordsLength = 27916
 
 -- a run of doubles: the rows' lower bounds from 0, their upper bounds, then the elements, with room for the row that is being gathered
 abbrev pub uppersMadeAt : ℕ
@@ -276,7 +295,8 @@ pub record Follows : Type 0 where
   pub nodeRows : nodeRowsAt ≡ edgesAt + edgeWidth * edgeCeiling
   pub aggregates : aggregatesAt ≡ nodeRowsAt + nodeRowWidth * nodeRowCeiling
   pub virtualStorages : virtualStoragesAt ≡ aggregatesAt + aggregateWidth * aggregateCeiling
-  pub shape : shapeLength ≡ virtualStoragesAt + virtualStorageWidth * virtualStorageCeiling
+  pub makers : makersAt ≡ virtualStoragesAt + virtualStorageWidth * virtualStorageCeiling
+  pub shape : shapeLength ≡ makersAt + makerWidth * rowCeiling
   pub starts-made : startsMadeAt ≡ elementCeiling
   pub shape-made : shapeMadeAt ≡ startsMadeAt + rowStartsLength
   pub words : wordsLength ≡ shapeMadeAt + shapeLength
@@ -301,6 +321,7 @@ follows =
       nodeRows = refl;
       aggregates = refl;
       virtualStorages = refl;
+      makers = refl;
       shape = refl;
       starts-made = refl;
       shape-made = refl;

@@ -66,8 +66,9 @@ pub const AGGREGATES_AT: usize = NODE_ROWS_AT + NODE_ROW_WIDTH * NODE_ROW_CEILIN
 
 pub const VIRTUAL_STORAGES_AT: usize = AGGREGATES_AT + AGGREGATE_WIDTH * AGGREGATE_CEILING;
 
-pub const SHAPE_LENGTH: usize = VIRTUAL_STORAGES_AT
-    + VIRTUAL_STORAGE_WIDTH * VIRTUAL_STORAGE_CEILING;
+pub const MAKERS_AT: usize = VIRTUAL_STORAGES_AT + VIRTUAL_STORAGE_WIDTH * VIRTUAL_STORAGE_CEILING;
+
+pub const SHAPE_LENGTH: usize = MAKERS_AT + MAKER_WIDTH * ROW_CEILING;
 
 // The words of an entry in each table. A node: kind, flag (1 constant).
 pub const NODE_WIDTH: usize = 2;
@@ -105,6 +106,24 @@ pub const PERIOD_START_DAY: usize = 3;
 pub const PERIOD_END_MONTH: usize = 4;
 
 pub const PERIOD_END_DAY: usize = 5;
+
+// A row's maker: kind, index, how many makers share the row. One entry for each row.
+pub const MAKER_WIDTH: usize = 3;
+
+pub const MAKER_INDEX: usize = 1;
+
+pub const MAKER_SHARED_BY: usize = 2;
+
+// The kinds of makers.
+pub const BY_MASS: u16 = 0;
+
+pub const BY_NODE: u16 = 1;
+
+pub const BY_AGGREGATE: u16 = 2;
+
+pub const BY_VIRTUAL_STORAGE: u16 = 3;
+
+pub const BY_EXCLUSIVITY: u16 = 4;
 
 // The build's work run of words: the elements' columns from 0, the row starts, then the shape run's words, with the offsets of the shape run.
 pub const STARTS_MADE_AT: usize = ELEMENT_CEILING;

@@ -3,6 +3,8 @@
 use libc::STDERR_FILENO;
 use libc::STDIN_FILENO;
 use libc::STDOUT_FILENO;
+use program_words::asks_help;
+use program_words::is_option;
 use pywr::Sentinel;
 
 fn write_usage(fd: i32) -> bool {
@@ -14,8 +16,7 @@ fn write_usage(fd: i32) -> bool {
 
 // Says what could not be done, and why.
 fn tell(what: &[u8]) {
-    program_streams::write_all(STDERR_FILENO, b"lister: ");
-    os::fail(what);
+    program_streams::tell(b"lister", what);
 }
 
 fn tell_unwritten(written: bool) {
@@ -25,9 +26,7 @@ fn tell_unwritten(written: bool) {
 }
 
 fn tell_unknown(option: &[u8]) {
-    program_streams::write_all(STDERR_FILENO, b"lister: unknown option ");
-    program_streams::write_all(STDERR_FILENO, option);
-    program_streams::write_all(STDERR_FILENO, b"\n");
+    program_streams::tell_word(b"lister", b"unknown option", option);
     write_usage(STDERR_FILENO);
 }
 
@@ -60,17 +59,6 @@ fn list_file(name: &[u8]) {
     }
     let n = read.bytes;
     list(&buffer[0..n]);
-}
-
-fn asks_help(word: &[u8]) -> bool {
-    check::same(word, b"--help") | check::same(word, b"-h")
-}
-
-fn is_option(word: &[u8]) -> bool {
-    if word.len() < 2 {
-        return false;
-    }
-    word[0] == b'-'
 }
 
 fn run(word: &[u8], count: usize) {

@@ -18,7 +18,7 @@ ghost use lib.ListN.{length};
 ghost use Rattle.layout.specs.Layout.{edgeColumnsIn, setsIn};
 ghost use Rattle.pywr.specs.Store.{Store};
 ghost use Rattle.listing_fields.specs.Fields.{PutWithin};
-ghost use Rattle.listing_lines.specs.Lines.{refusalLine, stepLine};
+ghost use Rattle.listing_lines.specs.Lines.{lineRoom, refusalLine, stepLine};
 ghost use Rattle.listing.specs.Listing.{columnsText, listedColumns, programmeText};
 
 // How many bytes a text has, and whether standard output took them all.
@@ -44,10 +44,10 @@ fn list_columns(
     col_obj_coef: &[f64],
     shape: &[u16],
 ) -> Listed
-    requires { ⌜ (128 ≤ length (now out)) × (from ≤ length (now out)) ⌝ }
+    requires { ⌜ (lineRoom ≤ length (now out)) × (from ≤ length (now out)) ⌝ }
     ensures { λ r. ⌜ ((s : Store) → s .colLower ≡ now («col_lower» .entry) → s .colUpper ≡ now («col_upper» .entry)
         → s .colObjCoef ≡ now («col_obj_coef» .entry) → s .shape ≡ now (shape .entry) → r .bytes ≡ length (columnsText s (listedColumns s)))
-        × (r .at ≤ length (now (out .entry))) × (r .bytes < 2 ^ 24) ⌝ }
+        × (r .at ≤ length (now (out .entry))) × (r .bytes < 2 ^ 25) ⌝ }
 {
     let end = listed_columns(shape, col_lower.len(), col_upper.len(), col_obj_coef.len());
     let mut at = from;
@@ -77,7 +77,7 @@ fn list(
     row_starts: &[u32],
     shape: &[u16],
 ) -> Output
-    requires { ⌜ 128 ≤ length (now out) ⌝ }
+    requires { ⌜ lineRoom ≤ length (now out) ⌝ }
     ensures { λ r. ⌜ r .bytes ≡ length (programmeText (record {
       colLower = now («col_lower» .entry);
       colUpper = now («col_upper» .entry);
@@ -150,8 +150,8 @@ pub fn list_programme(
 
 // Writes the line that stands at the front of the buffer when it returns, and answers its length.
 fn write_refusal(out: &mut [u8], number: usize, place: usize) -> Output
-    requires { ⌜ 128 ≤ length (now out) ⌝ }
-    ensures { λ r. ⌜ PutWithin 128 (refusalLine number place) (now (out .entry)) 0 (now (out .exit)) (r .bytes) ⌝ }
+    requires { ⌜ lineRoom ≤ length (now out) ⌝ }
+    ensures { λ r. ⌜ PutWithin lineRoom (refusalLine number place) (now (out .entry)) 0 (now (out .exit)) (r .bytes) ⌝ }
 {
     let end = listing_lines::put_refusal(out, 0, number, place);
     Output {
@@ -161,8 +161,8 @@ fn write_refusal(out: &mut [u8], number: usize, place: usize) -> Output
 }
 
 fn write_step(out: &mut [u8], k: usize) -> Output
-    requires { ⌜ 128 ≤ length (now out) ⌝ }
-    ensures { λ r. ⌜ PutWithin 128 (stepLine k) (now (out .entry)) 0 (now (out .exit)) (r .bytes) ⌝ }
+    requires { ⌜ lineRoom ≤ length (now out) ⌝ }
+    ensures { λ r. ⌜ PutWithin lineRoom (stepLine k) (now (out .entry)) 0 (now (out .exit)) (r .bytes) ⌝ }
 {
     let end = listing_lines::put_step(out, 0, k);
     Output {

@@ -7,12 +7,12 @@ use lib.Dec.{ltb}
 use lib.ListN.{length}
 use Rattle.pywr.specs.Rows.{Element}
 use Rattle.pywr.specs.Store.{Store, rowCount, rowEntry}
-use Rattle.listing_lines.specs.Lines.{elementLine}
+use Rattle.listing_lines.specs.Lines.{lineRoom, elementLine}
 use Rattle.listing_stored.specs.Stored.{rowText}
 
--- where the next line goes in a buffer of so many bytes: at its front where fewer than 128 are left
+-- where the next line goes in a buffer of so many bytes: at its front where fewer than `lineRoom` are left
 unfoldable pub lineAt : ℕ → ℕ → ℕ
-lineAt room at = cond (ltb (room - at) 128) 0 at
+lineAt room at = cond (ltb (room - at) lineRoom) 0 at
 
 unfoldable pub elementText : Element → List ℕ
 elementText e = elementLine (e .column) (e .value)

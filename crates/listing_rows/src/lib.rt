@@ -4,6 +4,7 @@
 // write failed, nothing more is written, and errno says why.
 use layout::FIXED_COUNT_AT;
 use layout::VARYING_COUNT_AT;
+use listing_lines::LINE_ROOM;
 use listing_stored::put_stored_row;
 use listing_stored::word;
 use widths::wide16;
@@ -15,6 +16,7 @@ ghost use lib.ListN.{length, getD};
 ghost use lib.Seq.{slice};
 ghost use Rattle.layout.specs.Layout.{varyingIn, fixedIn};
 ghost use Rattle.pywr.specs.Store.{Store, elementsOf};
+ghost use Rattle.listing_lines.specs.Lines.{lineRoom};
 ghost use Rattle.listing_rows.specs.Rows.{lineAt, elementsText, rowLines, rowsText, listedRows};
 
 // Where the next line goes, how many bytes were put, and whether all writes succeeded.
@@ -47,12 +49,12 @@ pub fn write_out(out: &[u8], end: usize, written: bool) -> bool
     false
 }
 
-// Room for a line: writes out what there is where fewer than 128 bytes are left. Answers where the line goes.
+// Room for a line: where fewer than LINE_ROOM bytes are left, writes out what there is. Answers where the line goes.
 pub fn spare(out: &[u8], at: usize, written: bool) -> Room
-    requires { ⌜ (128 ≤ length (now out)) × (at ≤ length (now out)) ⌝ }
-    ensures { λ r. ⌜ (r .at ≡ lineAt (length (now (out .entry))) at) × (r .at + 128 ≤ length (now (out .entry))) × (written ≡ false → r .written ≡ false) ⌝ }
+    requires { ⌜ (lineRoom ≤ length (now out)) × (at ≤ length (now out)) ⌝ }
+    ensures { λ r. ⌜ (r .at ≡ lineAt (length (now (out .entry))) at) × (r .at + lineRoom ≤ length (now (out .entry))) × (written ≡ false → r .written ≡ false) ⌝ }
 {
-    if out.len() - at < 128 {
+    if out.len() - at < LINE_ROOM {
         return Room {
             at: 0,
             written: write_out(out, at, written),
@@ -70,9 +72,9 @@ fn list_elements(
     first: usize,
     end: usize,
 ) -> Listed
-    requires { ⌜ (128 ≤ length (now out)) × (from ≤ length (now out)) × (end ≤ length (now columns)) × (end ≤ length (now elements)) × (first ≤ end) × (end < 2 ^ 32) ⌝ }
+    requires { ⌜ (lineRoom ≤ length (now out)) × (from ≤ length (now out)) × (end ≤ length (now columns)) × (end ≤ length (now elements)) × (first ≤ end) × (end < 2 ^ 32) ⌝ }
     ensures { λ r. ⌜ (r .bytes ≡ length (elementsText (elementsOf (slice first end (now (columns .entry))) (slice first end (now (elements .entry))))))
-        × (r .at ≤ length (now (out .entry))) × (r .bytes ≤ 128 * (end - first)) × («so_far» ≡ false → r .written ≡ false) ⌝ }
+        × (r .at ≤ length (now (out .entry))) × (r .bytes ≤ lineRoom * (end - first)) × («so_far» ≡ false → r .written ≡ false) ⌝ }
 {
     let mut at = from;
     let mut written = so_far;
@@ -110,10 +112,10 @@ fn list_row(
     shape: &[u16],
     row: usize,
 ) -> Listed
-    requires { ⌜ (at + 128 ≤ length (now out)) × (row < length (now «row_lower»)) × (row < length (now «row_upper»)) × (row + 1 < length (now «row_starts»)) ⌝ }
+    requires { ⌜ (at + lineRoom ≤ length (now out)) × (row < length (now «row_lower»)) × (row < length (now «row_upper»)) × (row + 1 < length (now «row_starts»)) × (row < 2 ^ 32) ⌝ }
     ensures { λ r. ⌜ ((s : Store) → s .rowLower ≡ now («row_lower» .entry) → s .rowUpper ≡ now («row_upper» .entry) → s .elements ≡ now (elements .entry)
         → s .columns ≡ now (columns .entry) → s .rowStarts ≡ now («row_starts» .entry) → s .shape ≡ now (shape .entry) → r .bytes ≡ length (rowLines s row))
-        × (r .at ≤ length (now (out .entry))) × (r .bytes ≤ 2 ^ 39) × («so_far» ≡ false → r .written ≡ false) ⌝ }
+        × (r .at ≤ length (now (out .entry))) × (r .bytes ≤ 2 ^ 40) × («so_far» ≡ false → r .written ≡ false) ⌝ }
 {
     let known = least(columns.len(), elements.len());
     let last = start_within(row_starts, row + 1, known);
@@ -151,7 +153,7 @@ pub fn list_rows(
     row_starts: &[u32],
     shape: &[u16],
 ) -> Listed
-    requires { ⌜ (128 ≤ length (now out)) × (from ≤ length (now out)) ⌝ }
+    requires { ⌜ (lineRoom ≤ length (now out)) × (from ≤ length (now out)) ⌝ }
     ensures { λ r. ⌜ ((s : Store) → s .rowLower ≡ now («row_lower» .entry) → s .rowUpper ≡ now («row_upper» .entry) → s .elements ≡ now (elements .entry)
         → s .columns ≡ now (columns .entry) → s .rowStarts ≡ now («row_starts» .entry) → s .shape ≡ now (shape .entry) → r .bytes ≡ length (rowsText s (listedRows s)))
         × (r .at ≤ length (now (out .entry))) × (r .bytes < 2 ^ 57) × («so_far» ≡ false → r .written ≡ false) ⌝ }

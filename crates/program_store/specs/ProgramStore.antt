@@ -11,10 +11,11 @@ use Rattle.pywr.specs.declared.Answer.{Answer}
 use Rattle.pywr.specs.declared.Answer.the-variants.{Accepted, Refused}
 use Rattle.pywr.specs.Answers.{answerOf}
 use Rattle.pywr.specs.Numbers.{zero64}
-use Rattle.pywr.specs.Store.{Store}
+use Rattle.pywr.specs.Store.{Store, rowCount}
 use Rattle.pywr.specs.Calls.{buildAnswer, buildStore, stepAnswer, stepStore}
 use Rattle.listing_lines.specs.Lines.{refusalLine}
 use Rattle.listing.specs.Listing.{programmeText}
+use Rattle.listing_makers.specs.Makers.{makersText, makerText}
 use Rattle.program_store.specs.declared.Runs.{Runs}
 
 abbrev pub storeOf : Runs → Store
@@ -54,3 +55,13 @@ pub record Stepped (file : List ℕ) (old : Store) (r : Answer) (new : Store) : 
 abbrev pub answerText : Answer → Store → List ℕ
 answerText Accepted s = programmeText s
 answerText (Refused number place) s = refusalLine number place
+
+-- what is said of the rows' makers after a call: of all rows, or the line of the refusal
+abbrev pub makersAnswerText : Answer → Store → List ℕ
+makersAnswerText Accepted s = makersText s (rowCount s)
+makersAnswerText (Refused number place) s = refusalLine number place
+
+-- and of one row
+abbrev pub makerAnswerText : Answer → Store → ℕ → List ℕ
+makerAnswerText Accepted s row = makerText s row
+makerAnswerText (Refused number place) s row = refusalLine number place

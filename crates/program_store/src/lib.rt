@@ -1,4 +1,4 @@
-// The nine runs of a store as one value, for a program that holds one store: the build, the step and the listing over it.
+// The nine runs of a store as one value, for a program that holds one store: the build, the step, the listing and the rows' makers over it.
 use layout::COLUMN_CEILING;
 use layout::ELEMENT_CEILING;
 use layout::NUMBERS_LENGTH;
@@ -13,8 +13,10 @@ use pywr::Sentinel;
 ghost use mathlib.Core.Path.{_≡_};
 ghost use lib.ListN.{length};
 ghost use Rattle.pywr.specs.Cases.{blank};
+ghost use Rattle.pywr.specs.Store.{rowCount};
 ghost use Rattle.listing.specs.Listing.{programmeText};
-ghost use Rattle.program_store.specs.ProgramStore.{storeOf, Built, Stepped, answerText};
+ghost use Rattle.listing_makers.specs.Makers.{makersText, makerText};
+ghost use Rattle.program_store.specs.ProgramStore.{storeOf, Built, Stepped, answerText, makersAnswerText, makerAnswerText};
 
 pub struct Runs {
     pub col_lower: [f64; COLUMN_CEILING],
@@ -168,5 +170,39 @@ pub fn list_answer(answer: Answer, runs: Runs) -> Output
     match answer {
         Answer::Refused(number, place) => listing::list_refusal(number, place),
         Answer::Accepted => list(runs),
+    }
+}
+
+fn name_rows(runs: Runs) -> Output
+    ensures { λ r. ⌜ r .bytes ≡ length (makersText (storeOf runs) (rowCount (storeOf runs))) ⌝ }
+{
+    let shape = runs.shape;
+    listing_makers::list_makers(&shape)
+}
+
+fn name_row(runs: Runs, row: usize) -> Output
+    ensures { λ r. ⌜ r .bytes ≡ length (makerText (storeOf runs) row) ⌝ }
+{
+    let shape = runs.shape;
+    listing_makers::list_maker(&shape, row)
+}
+
+// Names every row by its maker after a call, or says the refusal.
+pub fn name_answer(answer: Answer, runs: Runs) -> Output
+    ensures { λ r. ⌜ r .bytes ≡ length (makersAnswerText answer (storeOf runs)) ⌝ }
+{
+    match answer {
+        Answer::Refused(number, place) => listing::list_refusal(number, place),
+        Answer::Accepted => name_rows(runs),
+    }
+}
+
+// Names one row by its maker after a call, or says the refusal: of the call, or of a row that is not there.
+pub fn name_row_answer(answer: Answer, runs: Runs, row: usize) -> Output
+    ensures { λ r. ⌜ r .bytes ≡ length (makerAnswerText answer (storeOf runs) row) ⌝ }
+{
+    match answer {
+        Answer::Refused(number, place) => listing::list_refusal(number, place),
+        Answer::Accepted => name_row(runs, row),
     }
 }

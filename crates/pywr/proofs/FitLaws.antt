@@ -31,6 +31,7 @@ use Rattle.pywr.proofs.ColumnLaws.{put-length, new-length}
 use Rattle.pywr.proofs.AmountLaws.{pipes-length}
 use Rattle.pywr.proofs.JoinLaws.{AllFit, add-fit, add-on-fit, RowsFit, Placed, JoinKept, joins-kept, placed-stays}
 use Rattle.pywr.proofs.RowsBack.{Typed}
+use Rattle.pywr.proofs.MakerLaws.{makers-count}
 use Rattle.pywr.proofs.Represents.{ProgrammeFits}
 use Rattle.pywr.proofs.VaryingLaws.{Continuous, node-places}
 use Rattle.pywr.proofs.MassLaws.{Every}
@@ -249,6 +250,9 @@ unfolding elementCount
 elements-append [] f = sym (zero-add (elementCount f))
 elements-append (r ∷ v) f = let ih = elements-append v f in omega arith
 
+pub idle : Plan
+idle = record { amount = λ e. 0; on = λ s. false }
+
 -- ---- what the build joins
 
 pub record Asked (w : Sentinel) (net : Network) (plan : Plan) (joined : List (List Element)) : Type 0 where
@@ -352,6 +356,8 @@ programme-fits w net plan good fewAsks under =
             nodeRows = let h = placed-few (requestsFrom (columnMap net) 0 (net .nodes)) (forNodes w net plan .places) in le-trans h fewAsks;
             aggregates = subst (λ (k : ℕ). k ≤ 64) (sym (aggregates-length w net plan)) na;
             virtualStorages = let h = virtual-storages-few (net .virtualStorages) (forVirtualStorages w net plan .places) in omega arith;
+            rows = b;
+            makers = makers-count w net;
           };
       columns = subst (λ (k : ℕ). k ≤ 640) (sym cc′) (omega arith);
       rows = let l = length-append (p .varying) (p .fixed) in omega arith;

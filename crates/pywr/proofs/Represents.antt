@@ -16,9 +16,9 @@ use Rattle.pywr.specs.declared.Sentinel.the-variants.{Infinity, Largest}
 use Rattle.pywr.specs.Numbers.{zero64}
 use Rattle.pywr.specs.Programme.{Column, Row, Programme, Built}
 use Rattle.pywr.specs.Build.{elementCount}
-use Rattle.pywr.specs.Store.{Store, sentinelOf, entries, nodeEntry, edgeEntry, nodeRowEntry, virtualStorageEntry, shapeOf, rowEntry, columnEntry, programmeIn}
+use Rattle.pywr.specs.Store.{Store, sentinelOf, entries, nodeEntry, edgeEntry, nodeRowEntry, virtualStorageEntry, makerEntry, makersIn, shapeOf, rowEntry, columnEntry, programmeIn}
 use Rattle.pywr.specs.Written.{sentinelWord, integerColumns, countWords, shapeAfter, startsFrom, columnsIn, valuesIn, lowerOf, upperOf, rowsOf, builtStore, steppedStore}
-use Rattle.pywr.proofs.StoreLaws.{Holds, holds-left, holds-right, holds-before, sets-holds, TablesFit, count-is, shape-back}
+use Rattle.pywr.proofs.StoreLaws.{Holds, holds-left, holds-right, holds-before, sets-holds, TablesFit, count-is, shape-back, makers-back}
 use Rattle.pywr.proofs.RowsBack.{rows-back, columns-back, Typed, held-head, held-tail, start-head, columns-length, values-length}
 
 -- ---- lists
@@ -76,6 +76,7 @@ starts-right run (x ∷ v) f r at h =
 
 pub record Represents (s : Store) (b : Built) : Type 0 where
   pub shape : shapeOf s ≡ b .shape
+  pub makers : makersIn s ≡ b .makers
   pub sentinel : sentinelOf (getD (s .shape) 0 0) ≡ b .programme .sentinel
   pub edgeColumns : getD (s .shape) 3 0 ≡ b .shape .edgeColumns
   pub columnCount : getD (s .shape) 3 0 + getD (s .shape) 4 0 ≡ length (b .programme .columns)
@@ -180,6 +181,7 @@ built-represents old b room fit =
     let ne = fit .elements in
     record {
       shape = shape-back old b (room .shape) (fit .tables);
+      makers = makers-back old b (room .shape) (fit .tables);
       sentinel = ap sentinelOf (at 0 (lit≤ tt)) ∙ sentinel-back (p .sentinel);
       edgeColumns = at 3 (lit≤ tt);
       columnCount = ap₂ (λ (x y : ℕ). x + y) (at 3 (lit≤ tt)) (at 4 (lit≤ tt)) ∙ fit .integers;
@@ -246,10 +248,10 @@ module _ (s : Store) (b : Built) (r : Represents s b) (v : List Row) (cols : Lis
     (uppers : map (λ (x : Column). x .upper) cols ≡ map (λ (x : Column). x .upper) (b .programme .columns))
     (types : Typed (b .shape .edgeColumns) 0 cols) where
   unfoldable pub next : Built
-  next = record { programme = record { sentinel = b .programme .sentinel; columns = cols; varying = v; fixed = b .programme .fixed }; shape = b .shape }
+  next = record { programme = record { sentinel = b .programme .sentinel; columns = cols; varying = v; fixed = b .programme .fixed }; shape = b .shape; makers = b .makers }
 
   pub step-represents : Represents (steppedStore s (next .programme)) next
-  unfolding steppedStore rowsOf next shapeOf nodeEntry edgeEntry nodeRowEntry virtualStorageEntry
+  unfolding steppedStore rowsOf next shapeOf nodeEntry edgeEntry nodeRowEntry virtualStorageEntry makersIn makerEntry
   step-represents =
       let p : Programme = b .programme in
       let old : List Row = p .varying in
@@ -259,6 +261,7 @@ module _ (s : Store) (b : Built) (r : Represents s b) (v : List Row) (cols : Lis
       let lv = length-append v f in
       record {
         shape = r .shape;
+        makers = r .makers;
         sentinel = r .sentinel;
         edgeColumns = r .edgeColumns;
         columnCount = r .columnCount ∙ sym length-cols;

@@ -92,7 +92,7 @@ module _ (shape : Shape) (f : StepFile) (p : Programme) where
 module _ (s : Store) (b : Built) (held : Represents s b) where
   -- what the store holds after an accepted step
   abbrev pub after : StepFile → Built
-  after f = record { programme = stepped (b .shape) f (b .programme); shape = b .shape }
+  after f = record { programme = stepped (b .shape) f (b .programme); shape = b .shape; makers = b .makers }
 
   written : (f : StepFile) → storeOfStep s (value f) ≡ steppedStore s (after f .programme)
   unfolding storeOfStep

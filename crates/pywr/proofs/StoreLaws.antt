@@ -8,11 +8,11 @@ use mathlib.Core.List.{List, [], _∷_, _++_, flatMap}
 use lib.ListN.{length, getD, set, length-set, length-append, List·getD-append}
 use lib.Seq.{sets, length-sets, getD-set-same, getD-set-other, getD-append-add}
 use lib.Dec.{eqb, lit≤}
-use Rattle.layout.specs.Layout.{aggregatesAt, edgesAt, nodeRowCeiling, nodeRowsAt, shapeLength, virtualStoragesAt}
+use Rattle.layout.specs.Layout.{aggregatesAt, edgesAt, makersAt, nodeRowCeiling, nodeRowsAt, shapeLength, virtualStoragesAt}
 use Rattle.pywr.specs.ColEdgeMap.{MappedEdge}
-use Rattle.pywr.specs.Programme.{NodeShape, RowType, continuous, binaryUpper, binaryLower, NodeRow, VirtualStorageShape, Built}
-use Rattle.pywr.specs.Store.{Store, rowTypeOf, entries, nodeEntry, edgeEntry, nodeRowEntry, virtualStorageEntry, shapeOf}
-use Rattle.pywr.specs.Written.{rowTypeWord, flagWord, nodeWords, edgeWords, nodeRowWords, virtualStorageWords, countWords, shapeAfter, builtStore}
+use Rattle.pywr.specs.Programme.{NodeShape, RowType, continuous, binaryUpper, binaryLower, NodeRow, VirtualStorageShape, Maker, Built}
+use Rattle.pywr.specs.Store.{Store, rowTypeOf, entries, nodeEntry, edgeEntry, nodeRowEntry, virtualStorageEntry, makerEntry, makersIn, shapeOf}
+use Rattle.pywr.specs.Written.{rowTypeWord, flagWord, nodeWords, edgeWords, nodeRowWords, virtualStorageWords, makerWords, countWords, shapeAfter, builtStore}
 
 -- ---- a run of words at an offset
 
@@ -142,12 +142,20 @@ module _ (s : Store) where
             record { always = (ap (λ (w : ℕ). eqb w 0) b ∙ period-back (x .period .always)) i; startMonth = c i; startDay = e i; endMonth = f i; endDay = g i };
       }
 
+  maker-reads : (at : ℕ) (x : Maker) → Holds 0 (s .shape) at (makerWords x) → makerEntry s at ≡ x
+  unfolding makerEntry makerWords
+  maker-reads at x h =
+      let a = first-word (s .shape) at (makerWords x) h (lit≤ tt) in
+      let b = word-at (s .shape) at (makerWords x) h 1 (lit≤ tt) in
+      let c = word-at (s .shape) at (makerWords x) h 2 (lit≤ tt) in
+      λ i. record { kind = a i; index = b i; sharedBy = c i }
+
   row-reads : (at x : ℕ) → Holds 0 (s .shape) at (x ∷ []) → getD (s .shape) at 0 ≡ x
   row-reads at x h = first-word (s .shape) at (x ∷ []) h (lit≤ tt)
 
 -- ---- the shape of a built store
 
-flat-length : {A : Type 0} (code : A → List ℕ) (words : ℕ) → ((x : A) → length (code x) ≡ words) → (xs : List A) → length (flatMap code xs) ≡ length xs * words
+pub flat-length : {A : Type 0} (code : A → List ℕ) (words : ℕ) → ((x : A) → length (code x) ≡ words) → (xs : List A) → length (flatMap code xs) ≡ length xs * words
 unfolding flatMap
 flat-length code words wide [] = sym (zero-mul words)
 flat-length code words wide (x ∷ xs) =
@@ -169,11 +177,15 @@ pub virtual-storage-wide : (x : VirtualStorageShape) → length (virtualStorageW
 unfolding virtualStorageWords
 virtual-storage-wide x = refl
 
+pub maker-wide : (x : Maker) → length (makerWords x) ≡ 3
+unfolding makerWords
+maker-wide x = refl
+
 counts-wide : (b : Built) → length (countWords b) ≡ 11
 unfolding countWords
 counts-wide b = refl
 
-singles : (xs : List ℕ) → flatMap (λ (x : ℕ). x ∷ []) xs ≡ xs
+pub singles : (xs : List ℕ) → flatMap (λ (x : ℕ). x ∷ []) xs ≡ xs
 unfolding flatMap
 singles [] = refl
 singles (x ∷ xs) = ap (λ (l : List ℕ). x ∷ l) (singles xs)
@@ -184,6 +196,8 @@ pub record TablesFit (b : Built) : Type 0 where
   pub nodeRows : length (b .shape .nodeRows) ≤ nodeRowCeiling
   pub aggregates : length (b .shape .aggregates) ≤ 64
   pub virtualStorages : length (b .shape .virtualStorages) ≤ 32
+  pub rows : length (b .programme .varying) + length (b .programme .fixed) ≤ 1024
+  pub makers : length (b .makers) ≡ length (b .programme .varying) + length (b .programme .fixed)
 
 module _ (b : Built) where
   abbrev nodeTable : List ℕ
@@ -197,6 +211,9 @@ module _ (b : Built) where
 
   abbrev virtualStorageTable : List ℕ
   virtualStorageTable = flatMap virtualStorageWords (b .shape .virtualStorages)
+
+  abbrev makerTable : List ℕ
+  makerTable = flatMap makerWords (b .makers)
 
   -- the run after each table
   abbrev r1 : List ℕ → List ℕ
@@ -214,6 +231,9 @@ module _ (b : Built) where
   abbrev r5 : List ℕ → List ℕ
   r5 old = sets (r4 old) aggregatesAt (b .shape .aggregates)
 
+  abbrev r6 : List ℕ → List ℕ
+  r6 old = sets (r5 old) virtualStoragesAt virtualStorageTable
+
 module _ (old : List ℕ) (b : Built) (room : shapeLength ≤ length old) (fit : TablesFit b) where
   l1 : length (r1 b old) ≡ length old
   l1 = length-sets old 0 (countWords b)
@@ -230,6 +250,9 @@ module _ (old : List ℕ) (b : Built) (room : shapeLength ≤ length old) (fit :
   l5 : length (r5 b old) ≡ length old
   l5 = length-sets (r4 b old) aggregatesAt (b .shape .aggregates) ∙ l4
 
+  l6 : length (r6 b old) ≡ length old
+  l6 = length-sets (r5 b old) virtualStoragesAt (virtualStorageTable b) ∙ l5
+
   n2 : 11 + length (nodeTable b) ≤ edgesAt
   n2 = let e = flat-length nodeWords 2 node-wide (b .shape .nodes) in let h = fit .nodes in omega arith
 
@@ -242,8 +265,11 @@ module _ (old : List ℕ) (b : Built) (room : shapeLength ≤ length old) (fit :
   n5 : aggregatesAt + length (b .shape .aggregates) ≤ virtualStoragesAt
   n5 = let h = fit .aggregates in omega arith
 
-  n6 : virtualStoragesAt + length (virtualStorageTable b) ≤ shapeLength
+  n6 : virtualStoragesAt + length (virtualStorageTable b) ≤ makersAt
   n6 = let e = flat-length virtualStorageWords 6 virtual-storage-wide (b .shape .virtualStorages) in let h = fit .virtualStorages in omega arith
+
+  n7 : makersAt + length (makerTable b) ≤ shapeLength
+  n7 = let e = flat-length makerWords 3 maker-wide (b .makers) in let h = fit .rows in let k = fit .makers in omega arith
 
   pub counts-held : Holds 0 (shapeAfter old b) 0 (countWords b)
   unfolding shapeAfter
@@ -254,7 +280,8 @@ module _ (old : List ℕ) (b : Built) (room : shapeLength ≤ length old) (fit :
       let d = holds-after 0 (pipeTable b) (countWords b) (r2 b old) 0 edgesAt (omega arith) c in
       let e = holds-after 0 (nodeRowTable b) (countWords b) (r3 b old) 0 nodeRowsAt (omega arith) d in
       let f = holds-after 0 (b .shape .aggregates) (countWords b) (r4 b old) 0 aggregatesAt (omega arith) e in
-      holds-after 0 (virtualStorageTable b) (countWords b) (r5 b old) 0 virtualStoragesAt (omega arith) f
+      let g = holds-after 0 (virtualStorageTable b) (countWords b) (r5 b old) 0 virtualStoragesAt (omega arith) f in
+      holds-after 0 (makerTable b) (countWords b) (r6 b old) 0 makersAt (omega arith) g
 
   pub nodes-held : Holds 0 (shapeAfter old b) 11 (nodeTable b)
   unfolding shapeAfter
@@ -264,7 +291,8 @@ module _ (old : List ℕ) (b : Built) (room : shapeLength ≤ length old) (fit :
       let d = holds-after 0 (pipeTable b) (nodeTable b) (r2 b old) 11 edgesAt n c in
       let e = holds-after 0 (nodeRowTable b) (nodeTable b) (r3 b old) 11 nodeRowsAt (omega arith) d in
       let f = holds-after 0 (b .shape .aggregates) (nodeTable b) (r4 b old) 11 aggregatesAt (omega arith) e in
-      holds-after 0 (virtualStorageTable b) (nodeTable b) (r5 b old) 11 virtualStoragesAt (omega arith) f
+      let g = holds-after 0 (virtualStorageTable b) (nodeTable b) (r5 b old) 11 virtualStoragesAt (omega arith) f in
+      holds-after 0 (makerTable b) (nodeTable b) (r6 b old) 11 makersAt (omega arith) g
 
   pub pipes-held : Holds 0 (shapeAfter old b) edgesAt (pipeTable b)
   unfolding shapeAfter
@@ -273,7 +301,8 @@ module _ (old : List ℕ) (b : Built) (room : shapeLength ≤ length old) (fit :
       let d = sets-holds 0 (pipeTable b) (r2 b old) edgesAt (let l = l2 in omega arith) in
       let e = holds-after 0 (nodeRowTable b) (pipeTable b) (r3 b old) edgesAt nodeRowsAt n d in
       let f = holds-after 0 (b .shape .aggregates) (pipeTable b) (r4 b old) edgesAt aggregatesAt (omega arith) e in
-      holds-after 0 (virtualStorageTable b) (pipeTable b) (r5 b old) edgesAt virtualStoragesAt (omega arith) f
+      let g = holds-after 0 (virtualStorageTable b) (pipeTable b) (r5 b old) edgesAt virtualStoragesAt (omega arith) f in
+      holds-after 0 (makerTable b) (pipeTable b) (r6 b old) edgesAt makersAt (omega arith) g
 
   pub nodeRows-held : Holds 0 (shapeAfter old b) nodeRowsAt (nodeRowTable b)
   unfolding shapeAfter
@@ -281,18 +310,27 @@ module _ (old : List ℕ) (b : Built) (room : shapeLength ≤ length old) (fit :
       let n = n4 in
       let e = sets-holds 0 (nodeRowTable b) (r3 b old) nodeRowsAt (let l = l3 in omega arith) in
       let f = holds-after 0 (b .shape .aggregates) (nodeRowTable b) (r4 b old) nodeRowsAt aggregatesAt n e in
-      holds-after 0 (virtualStorageTable b) (nodeRowTable b) (r5 b old) nodeRowsAt virtualStoragesAt (omega arith) f
+      let g = holds-after 0 (virtualStorageTable b) (nodeRowTable b) (r5 b old) nodeRowsAt virtualStoragesAt (omega arith) f in
+      holds-after 0 (makerTable b) (nodeRowTable b) (r6 b old) nodeRowsAt makersAt (omega arith) g
 
   pub aggregates-held : Holds 0 (shapeAfter old b) aggregatesAt (b .shape .aggregates)
   unfolding shapeAfter
   aggregates-held =
       let n = n5 in
       let f = sets-holds 0 (b .shape .aggregates) (r4 b old) aggregatesAt (let l = l4 in omega arith) in
-      holds-after 0 (virtualStorageTable b) (b .shape .aggregates) (r5 b old) aggregatesAt virtualStoragesAt n f
+      let g = holds-after 0 (virtualStorageTable b) (b .shape .aggregates) (r5 b old) aggregatesAt virtualStoragesAt n f in
+      holds-after 0 (makerTable b) (b .shape .aggregates) (r6 b old) aggregatesAt makersAt (omega arith) g
 
   pub virtual-storages-held : Holds 0 (shapeAfter old b) virtualStoragesAt (virtualStorageTable b)
   unfolding shapeAfter
-  virtual-storages-held = let n = n6 in sets-holds 0 (virtualStorageTable b) (r5 b old) virtualStoragesAt (let l = l5 in omega arith)
+  virtual-storages-held =
+      let n = n6 in
+      let g = sets-holds 0 (virtualStorageTable b) (r5 b old) virtualStoragesAt (let l = l5 in omega arith) in
+      holds-after 0 (makerTable b) (virtualStorageTable b) (r6 b old) virtualStoragesAt makersAt n g
+
+  pub makers-held : Holds 0 (shapeAfter old b) makersAt (makerTable b)
+  unfolding shapeAfter
+  makers-held = let n = n7 in sets-holds 0 (makerTable b) (r6 b old) makersAt (let l = l6 in omega arith)
 
 -- ---- what is read of a built store is what was built
 
@@ -324,3 +362,11 @@ module _ (old : Store) (b : Built) (room : shapeLength ≤ length (old .shape)) 
       ∙ entries-back 0 run (virtualStorageEntry s) 6 virtualStorageWords virtual-storage-wide (virtual-storage-reads s) (b .shape .virtualStorages)
       virtualStoragesAt (virtual-storages-held (old .shape) b room fit) in
       λ i. record { nodes = nodes i; mappedEdges = mappedEdges i; edgeColumns = count-is 3 (lit≤ tt) i; nodeRows = nodeRows i; aggregates = aggregates i; virtualStorages = virtualStorages i }
+
+  pub makers-back : makersIn (builtStore old b) ≡ b .makers
+  unfolding makersIn builtStore countWords
+  makers-back =
+      let s : Store = builtStore old b in
+      let run : List ℕ = shapeAfter (old .shape) b in
+      ap (entries (makerEntry s) 3 makersAt) (ap₂ (λ (m n : ℕ). m + n) (count-is 5 (lit≤ tt)) (count-is 6 (lit≤ tt)) ∙ sym (fit .makers))
+      ∙ entries-back 0 run (makerEntry s) 3 makerWords maker-wide (maker-reads s) (b .makers) makersAt (makers-held (old .shape) b room fit)

@@ -4,13 +4,13 @@ use mathlib.Core.Logic.{_⊎_, inl, inr}
 use Prim.Native.Nat.{ℕ, zero, suc, _+_, _<_, _≤_, suc-le-suc, zero-le}
 use native.Mathlib.Nat.{add-zero, zero-add, le-refl, le-trans}
 use native.Mathlib.Omega.{arith}
-use mathlib.Core.Bool.{Bool, true, false, not, _&&_, _||_}
+use mathlib.Core.Bool.{Bool, true, false, cond, not, _&&_, _||_}
 use mathlib.Core.List.{List, [], _∷_, _++_, map, flatMap, append-assoc, List·Memᴰ, List·Memᴰ·head, List·Memᴰ·tail}
 use mathlib.Core.Option.{Option, none, some}
 use lib.ListN.{length, getD, getElem?, length-append, length-map}
 use lib.Dec.{T, leb, ltb, eqb, le→leb, lt→ltb, lit≤}
 use lib.Ieee.Fits.{and-i, eq→eqb}
-use Rattle.layout.specs.Layout.{aggregatesAt, edgesAt, nodeRowCeiling, nodeRowsAt, virtualStoragesAt}
+use Rattle.layout.specs.Layout.{aggregatesAt, edgesAt, makersAt, nodeRowCeiling, nodeRowsAt, virtualStoragesAt}
 use Rattle.laws.proofs.Tests.{or-l, or-r}
 use Rattle.pywr.specs.declared.Sentinel.{Sentinel}
 use Rattle.pywr.specs.declared.Sentinel.the-variants.{Infinity, Largest}
@@ -18,28 +18,28 @@ use Rattle.pywr.specs.Network.{Node, Edge, VirtualStorage, Network, list
 use Rattle.pywr.specs.ColEdgeMap.{columns, MappedEdge, withColumns, mappedEdges}
 use Rattle.pywr.specs.ExclusiveSets.{exclusiveSets}
 use Rattle.pywr.specs.Rows.{Element, columnMap, aggregateRow, virtualStorageRow}
-use Rattle.pywr.specs.Programme.{Row, Programme, NodeShape, RowType, continuous, binaryUpper, binaryLower, NodeRow, VirtualStorageShape, Built}
+use Rattle.pywr.specs.Programme.{Row, Programme, NodeShape, RowType, continuous, binaryUpper, binaryLower, NodeRow, VirtualStorageShape, Built, byNode, byVirtualStorage, byExclusivity}
 use Rattle.pywr.specs.VaryingRows.{RowRequest, requestsFrom, freshRow}
 use Rattle.pywr.specs.FixedRows.{massRowsFrom, constantRowsFrom, exclusivityRows}
 use Rattle.pywr.specs.Build.{allColumns, nodeShape, placedNodeRows, placedVirtualStorages, requestedRow, assemble, programmeOf, elementCount, underCeilings}
 use Rattle.pywr.specs.Store.{Store, word, sentinelCode, nodeCount, edgeCount, edgeColumnCount, setCount, varyingCount, fixedCount}
 use Rattle.pywr.specs.Store.{elementsKept, nodeRowCount, aggregateCount, virtualStorageCount, rowCount, columnCount, startOf, columnsOfRow}
-use Rattle.pywr.specs.Misshapen.{countsFit, startsRise, columnsRise, rowColumnsRise, nodeFits, edgeFits, nodeRowFits, aggregateFits, virtualStorageFits, allEntries, wellShaped}
-use Rattle.pywr.specs.Written.{sentinelWord, rowTypeWord, flagWord, nodeWords, edgeWords, nodeRowWords, virtualStorageWords, countWords, shapeAfter, startsFrom, columnsIn, rowsOf, builtStore}
-use Rattle.pywr.specs.Plans.{Plan}
+use Rattle.pywr.specs.Misshapen.{countsFit, startsRise, columnsRise, rowColumnsRise, nodeFits, edgeFits, nodeRowFits, aggregateFits, virtualStorageFits, makersOfKind, makerFits, allEntries, wellShaped}
+use Rattle.pywr.specs.Written.{sentinelWord, rowTypeWord, flagWord, nodeWords, edgeWords, nodeRowWords, virtualStorageWords, makerWords, countWords, shapeAfter, startsFrom, columnsIn, rowsOf, builtStore}
 use Rattle.pywr.proofs.AmountLaws.{pipes-length}
 use Rattle.pywr.proofs.EvenLaws.{mapped-edge-of}
 use Rattle.pywr.proofs.MassLaws.{Every}
 use Rattle.pywr.proofs.StoreLaws.{Holds, holds-left, holds-right, word-at, first-word, node-wide, pipe-wide, nodeRow-wide}
-use Rattle.pywr.proofs.StoreLaws.{virtual-storage-wide, nodes-held, pipes-held, nodeRows-held, aggregates-held, virtual-storages-held, count-is}
+use Rattle.pywr.proofs.StoreLaws.{virtual-storage-wide, nodes-held, pipes-held, nodeRows-held, aggregates-held, virtual-storages-held, maker-wide, makers-held, count-is}
 use Rattle.pywr.proofs.RowsBack.{held-head, held-tail, start-head, part-is, columns-length}
 use Rattle.pywr.proofs.Represents.{Roomy, Represents, ProgrammeFits, built-represents}
 use Rattle.pywr.proofs.ListLaws.{AllMem, all-none, all-cons, all-append, all-map, every-mem, found-mem, mem-found, not-found, same-some, below-found, found-left, found-map}
 use Rattle.pywr.proofs.MembershipLaws.{mem-listed}
 use Rattle.pywr.proofs.ReadLaws.{Good, Sound, EdgeOk}
-use Rattle.pywr.proofs.FitLaws.{elements-append, columns-long, columns-most, forNodes, forAggregates, forVirtualStorages, integers-all, programme-fits}
+use Rattle.pywr.proofs.FitLaws.{idle, elements-append, columns-long, columns-most, forNodes, forAggregates, forVirtualStorages, integers-all, programme-fits}
 use Rattle.pywr.proofs.CountLaws.{sets-under, requests-few}
 use Rattle.pywr.proofs.ShapeLaws.{cols, Good-row, rising-test, aggregate-good, virtual-storage-good, masses-good, constants-good}
+use Rattle.pywr.proofs.MadeLaws.{makersFor, Made, makers-made}
 use Rattle.pywr.proofs.ShapeLaws.{actives-good, AskOk, requests-ok, Sits, sits-all, sits-stay, joins-all}
 
 -- ---- tests of entries
@@ -190,6 +190,9 @@ nine a b c d e f g h i ta tb tc td te tf tg th ti =
     (and-i (a && b && c && d && e && f) g
     (and-i (a && b && c && d && e) f (and-i (a && b && c && d) e (and-i (a && b && c) d (and-i (a && b) c (and-i a b ta tb) tc) td) te) tf) tg) th) ti
 
+ten : (a b c d e f g h i j : Bool) → T a → T b → T c → T d → T e → T f → T g → T h → T i → T j → T (a && b && c && d && e && f && g && h && i && j)
+ten a b c d e f g h i j ta tb tc td te tf tg th ti tj = and-i (a && b && c && d && e && f && g && h && i) j (nine a b c d e f g h i ta tb tc td te tf tg th ti) tj
+
 requests-rise : (net : Network) (sound : Sound net) → AllMem (Good-row net sound) (map requestedRow (requestsFrom (columnMap net) 0 (net .nodes)))
 unfolding requestedRow
 requests-rise net sound = all-map (Good-row net sound) requestedRow (requestsFrom (columnMap net) 0 (net .nodes))
@@ -212,9 +215,6 @@ unfolding programmeOf assemble columnMap
 built-pipes w net sound = pipes-ok net sound
 
 -- ---- the store of an accepted build
-
-pub idle : Plan
-idle = record { amount = λ e. 0; on = λ s. false }
 
 module _ (w : Sentinel) (net : Network) (sound : Sound net) (old : Store) (room : Roomy old) (under : T (underCeilings (columnMap net) (programmeOf w net .programme))) where
   abbrev b : Built
@@ -467,11 +467,37 @@ module _ (w : Sentinel) (net : Network) (sound : Sound net) (old : Store) (room 
       (virtual-storages-under (length joined) (net .virtualStorages) (forVirtualStorages w net idle .places) (places-under joined _ _ sitsV))
       (virtual-storages-held (old .shape) b (room .shape) (fits .tables)))
 
+  -- a kind's limit in the store is that in the shape
+  limit-is : (kind : ℕ) → makersOfKind (builtStore old (programmeOf w net)) kind ≡ makersFor (programmeOf w net .shape) kind
+  unfolding makersOfKind
+  limit-is kind =
+      let nodes : nodeCount store ≡ length (b .shape .nodes) = c1 ∙ sym (shapes-long w net) in
+      λ i. cond (leb kind byNode) (nodes i) (cond (eqb kind byVirtualStorage) (c10 i) (c9 i))
+
+  makers-ok : T (allEntries (makerFits store) 3 makersAt (rowCount store))
+  unfolding builtStore makerFits makerWords
+  makers-ok =
+      subst (λ (n : ℕ). T (allEntries (makerFits store) 3 makersAt n)) (fits .tables .makers ∙ sym (ap₂ (λ (x y : ℕ). x + y) c5′ c6))
+      (table-all (shapeAfter (old .shape) b) (makerFits store) 3 makerWords (Made (b .shape)) maker-wide
+      (λ at x k h.
+      let first : word store at ≡ x .kind = first-word (shapeAfter (old .shape) b) at (makerWords x) h (lit≤ tt) in
+      let second : word store (at + 1) ≡ x .index = word-at (shapeAfter (old .shape) b) at (makerWords x) h 1 (lit≤ tt) in
+      let third : word store (at + 2) ≡ x .sharedBy = word-at (shapeAfter (old .shape) b) at (makerWords x) h 2 (lit≤ tt) in
+      let limit : makersOfKind store (word store at) ≡ makersFor (b .shape) (x .kind) = ap (makersOfKind store) first ∙ limit-is (x .kind) in
+      let p : Bool = leb (word store at) byExclusivity in
+      let q : Bool = ltb (word store (at + 1)) (makersOfKind store (word store at)) in
+      and-i (p && q) (leb 1 (word store (at + 2)))
+      (and-i p q (leb-is (word store at) (x .kind) byExclusivity first (k .range .kind-most))
+      (ltb-is (word store (at + 1)) (x .index) (makersOfKind store (word store at)) (makersFor (b .shape) (x .kind)) second limit (k .range .index-under)))
+      (le→leb 1 (word store (at + 2)) (subst (λ (n : ℕ). 1 ≤ n) (sym third) (k .shared))))
+      (b .makers) makersAt (makers-made w net sound) (makers-held (old .shape) b (room .shape) (fits .tables)))
+
   pub shaped : T (wellShaped (builtStore old (programmeOf w net)))
   unfolding wellShaped
   shaped =
-      nine (countsFit store) (leb (sentinelCode store) 1) (eqb (startOf store 0) 0 && startsRise store 0 (rowCount store))
+      ten (countsFit store) (leb (sentinelCode store) 1) (eqb (startOf store 0) 0 && startsRise store 0 (rowCount store))
       (allEntries (rowColumnsRise store) 1 0 (rowCount store)) (allEntries (nodeFits store) 2 11 (nodeCount store))
       (allEntries (edgeFits store) 3 edgesAt (edgeCount store)) (allEntries (nodeRowFits store) 4 nodeRowsAt (nodeRowCount store))
       (allEntries (aggregateFits store) 1 aggregatesAt (aggregateCount store)) (allEntries (virtualStorageFits store) 6 virtualStoragesAt (virtualStorageCount store))
-      counts-ok (leb-is (sentinelCode store) (sentinelWord w) 1 c0 (sentinel-most w)) starts-ok rows-ok nodes-ok edges-ok nodeRows-ok aggregates-ok virtual-storages-ok
+      (allEntries (makerFits store) 3 makersAt (rowCount store))
+      counts-ok (leb-is (sentinelCode store) (sentinelWord w) 1 c0 (sentinel-most w)) starts-ok rows-ok nodes-ok edges-ok nodeRows-ok aggregates-ok virtual-storages-ok makers-ok

@@ -12,9 +12,10 @@ use Rattle.pywr.specs.Network.{Node, VirtualStorage, Network}
 use Rattle.pywr.specs.NetworkFile.{parseNetwork}
 use Rattle.pywr.specs.Rows.{Element, ColumnMap, columnMap, aggregateRow, virtualStorageRow}
 use Rattle.pywr.specs.VariableRows.{addVariableRows, Joined}
-use Rattle.pywr.specs.Programme.{Column, Row, Programme, NodeShape, NodeRow, VirtualStorageShape, Built}
+use Rattle.pywr.specs.Programme.{Column, Row, Programme, NodeShape, NodeRow, VirtualStorageShape, Shape, Built}
 use Rattle.pywr.specs.VaryingRows.{RowRequest, requestsFrom, freshRow}
 use Rattle.pywr.specs.FixedRows.{massRowsFrom, constantRowsFrom, exclusivityRows}
+use Rattle.pywr.specs.Makers.{askers, varyingMakers, fixedMakers}
 
 -- "edges, lower 0, upper the high sentinel; then one 0..1 integer column per distinct exclusive set"
 unfoldable pub edgeColumn : Sentinel → Column
@@ -51,6 +52,15 @@ assemble s net mapping =
     let forNodes : Joined = addVariableRows (map requestedRow requests) (record { rows = []; places = [] }) in
     let forAggregates : Joined = addVariableRows (map (aggregateRow mapping) (net .aggregates)) (record { rows = forNodes .rows; places = [] }) in
     let forVirtualStorages : Joined = addVariableRows (map (virtualStorageRow mapping) (net .virtualStorages)) (record { rows = forAggregates .rows; places = [] }) in
+    let shape : Shape =
+    record {
+      nodes = map nodeShape (net .nodes);
+      mappedEdges = mapping .mappedEdges;
+      edgeColumns = mapping .edgeColumns;
+      nodeRows = placedNodeRows requests (forNodes .places);
+      aggregates = forAggregates .places;
+      virtualStorages = placedVirtualStorages (net .virtualStorages) (forVirtualStorages .places);
+    } in
     record {
       programme =
           record {
@@ -59,15 +69,8 @@ assemble s net mapping =
             varying = map (freshRow s) (forVirtualStorages .rows);
             fixed = massRowsFrom mapping 0 (net .nodes) ++ constantRowsFrom s mapping 0 (net .nodes) ++ exclusivityRows mapping (net .aggregates);
           };
-      shape =
-          record {
-            nodes = map nodeShape (net .nodes);
-            mappedEdges = mapping .mappedEdges;
-            edgeColumns = mapping .edgeColumns;
-            nodeRows = placedNodeRows requests (forNodes .places);
-            aggregates = forAggregates .places;
-            virtualStorages = placedVirtualStorages (net .virtualStorages) (forVirtualStorages .places);
-          };
+      shape = shape;
+      makers = varyingMakers (askers shape) 0 (length (forVirtualStorages .rows)) ++ fixedMakers s mapping net;
     }
 
 unfoldable pub programmeOf : Sentinel → Network → Built

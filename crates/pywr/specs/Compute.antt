@@ -16,6 +16,7 @@ use Rattle.pywr.specs.Rows.{addNodes, addSetsOf, aggregateRow, addParts,
 use Rattle.pywr.specs.VariableRows.{sameRow, position, addVariableRows, addVariableRow}
 use Rattle.pywr.specs.VaryingRows.{exclusiveRequests, requestsBySets, requestsFrom, freshRow}
 use Rattle.pywr.specs.FixedRows.{massRowsFrom, upperCoefficient, lowerCoefficient, exclusiveRows, constantRows, constantRowsFrom, exclusivityRows}
+use Rattle.pywr.specs.Makers.{askersByNodes, askersInTurn, askers, sharersOf, firstOf, makerOf, varyingMakers, madeBy, madeInTurn, massMakers, constantMakers, exclusivityMakers, fixedMakers}
 use Rattle.pywr.specs.Build.{edgeColumn, setColumn, allColumns, nodeShape, placedNodeRows, placedVirtualStorages}
 use Rattle.pywr.specs.Build.{requestedRow, assemble, programmeOf, elementCount, underCeilings, build}
 use Rattle.pywr.specs.Interval.{tighten, sentinels, intervalOf, storageBounds, virtualBounds}
@@ -27,9 +28,9 @@ use Rattle.pywr.specs.Costs.{outgoingCost, incomingCost, edgeCost, kindA
 use Rattle.pywr.specs.Step.{adjust, withBounds, applyRowBounds, setCoefficient, withCoefficient, applyInterval, applyNodeRows}
 use Rattle.pywr.specs.Step.{applyIntervals, rowOf, periodOf, stepRows, periods, withCosts, stepped}
 use Rattle.pywr.specs.Store.{storeHasRoom, sentinelOf, rowTypeOf, entries, nodeEntry, edgeEntry, nodeRowEntry}
-use Rattle.pywr.specs.Store.{virtualStorageEntry, shapeOf, elementsOf, columnsOfRow, rowEntry, columnEntry, programmeIn}
-use Rattle.pywr.specs.Misshapen.{countsFit, startsRise, columnsRise, rowColumnsRise, nodeFits, edgeFits, nodeRowFits, aggregateFits, virtualStorageFits, allEntries, wellShaped}
-use Rattle.pywr.specs.Written.{sentinelWord, rowTypeWord, flagWord, nodeWords, edgeWords, nodeRowWords, virtualStorageWords, integerColumns, countWords}
+use Rattle.pywr.specs.Store.{virtualStorageEntry, makerEntry, makersIn, rowMaker, shapeOf, elementsOf, columnsOfRow, rowEntry, columnEntry, programmeIn}
+use Rattle.pywr.specs.Misshapen.{countsFit, startsRise, columnsRise, rowColumnsRise, nodeFits, edgeFits, nodeRowFits, aggregateFits, virtualStorageFits, makersOfKind, makerFits, allEntries, wellShaped}
+use Rattle.pywr.specs.Written.{sentinelWord, rowTypeWord, flagWord, nodeWords, edgeWords, nodeRowWords, virtualStorageWords, makerWords, integerColumns, countWords}
 use Rattle.pywr.specs.Written.{shapeAfter, startsFrom, columnsIn, valuesIn, lowerOf, upperOf, rowsOf, builtStore, steppedStore}
 use Rattle.pywr.specs.Calls.{cleared, buildRoom, buildAnswer, storeOfBuild, buildStore, buildWords, buildNumbers, stepRoom, stepRead}
 use Rattle.pywr.specs.Calls.{stepIntervals, stepAnswer, storeOfStep, stepStore, stepWork, isAccepted, rowAnswer, partOf, rowPart}
@@ -62,7 +63,8 @@ unfolding columnAt put putNew addSimpleEdge addEqualEdges single sharesWith plac
     nodeRow massRow addNodes addSetsOf aggregateRow addParts virtualStorageRow upperRow lowerRow addActive exclusivityRow sameRow position
     addVariableRow addVariableRows exclusiveRequests requestsBySets requestsFrom freshRow massRowsFrom upperCoefficient lowerCoefficient exclusiveRows
     constantRows constantRowsFrom exclusivityRows edgeColumn setColumn allColumns nodeShape placedNodeRows placedVirtualStorages requestedRow assemble
-    programmeOf elementCount underCeilings build
+    programmeOf elementCount underCeilings build askersByNodes askersInTurn askers sharersOf firstOf makerOf varyingMakers madeBy madeInTurn massMakers
+    constantMakers exclusivityMakers fixedMakers
 building = 0
 
 -- step files and steps
@@ -76,9 +78,9 @@ stepping = 0
 
 -- stores and calls
 unfoldable pub storing : ℕ
-unfolding flatMap storeHasRoom sentinelOf rowTypeOf entries nodeEntry edgeEntry nodeRowEntry virtualStorageEntry shapeOf elementsOf columnsOfRow
+unfolding flatMap storeHasRoom sentinelOf rowTypeOf entries nodeEntry edgeEntry nodeRowEntry virtualStorageEntry makerEntry makersIn rowMaker shapeOf elementsOf columnsOfRow
     rowEntry columnEntry programmeIn countsFit startsRise columnsRise rowColumnsRise nodeFits edgeFits nodeRowFits aggregateFits virtualStorageFits
-    allEntries wellShaped sentinelWord rowTypeWord flagWord nodeWords edgeWords nodeRowWords virtualStorageWords integerColumns countWords shapeAfter
+    makersOfKind makerFits allEntries wellShaped sentinelWord rowTypeWord flagWord nodeWords edgeWords nodeRowWords virtualStorageWords makerWords integerColumns countWords shapeAfter
     startsFrom columnsIn valuesIn lowerOf upperOf rowsOf builtStore steppedStore cleared buildRoom buildAnswer storeOfBuild buildStore buildWords
     buildNumbers stepRoom stepRead stepIntervals stepAnswer storeOfStep stepStore stepWork isAccepted rowAnswer partOf rowPart
 storing = 0

@@ -12,6 +12,7 @@ pub mod VariableRows
 pub mod Programme
 pub mod VaryingRows
 pub mod FixedRows
+pub mod Makers
 pub mod Build
 pub mod Interval
 pub mod Period

@@ -1,4 +1,4 @@
--- A programme: its columns and rows; and its shape, what the store keeps beside it for the steps. Assumes nothing.
+-- A programme: its columns and rows; its shape, what the store keeps beside it for the steps; and who made its rows. Assumes nothing.
 use Prim.Native.Nat.{ℕ}
 use mathlib.Core.List.{List}
 use mathlib.Core.Bool.{Bool}
@@ -58,6 +58,33 @@ pub record Shape : Type 0 where
   pub aggregates : List ℕ
   pub virtualStorages : List VirtualStorageShape
 
+-- ---- who made a row
+
+-- document 02, L5: "kind (mass, node, aggregate, virtual storage, exclusivity)", "kinds 0 to 4 in that order"
+abbrev pub byMass : ℕ
+byMass = 0
+
+abbrev pub byNode : ℕ
+byNode = 1
+
+abbrev pub byAggregate : ℕ
+byAggregate = 2
+
+abbrev pub byVirtualStorage : ℕ
+byVirtualStorage = 3
+
+abbrev pub byExclusivity : ℕ
+byExclusivity = 4
+
+-- "its first maker's kind .. and index, and how many makers share it". The index is a node's where the kind is mass or node, an aggregate's where it is
+-- aggregate or exclusivity, and a virtual storage's where it is virtual storage
+pub record Maker : Type 0 where
+  pub kind : ℕ
+  pub index : ℕ
+  pub sharedBy : ℕ
+
+-- `makers` has one for each row, the varying rows' first; see `Makers`
 pub record Built : Type 0 where
   pub programme : Programme
   pub shape : Shape
+  pub makers : List Maker

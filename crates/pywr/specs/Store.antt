@@ -6,8 +6,8 @@
 --   elements                             f64   row r's from row_starts[r] up to row_starts[r + 1]
 --   columns                              u16   the column of each element
 --   row_starts                           u32   where each row starts, and last the element count
---   shape                                u16   the eleven counts below, then the tables
-use Prim.Native.Nat.{ℕ, zero, suc, _+_}
+--   shape                                u16   the eleven counts below, then the tables, the rows' makers last
+use Prim.Native.Nat.{ℕ, zero, suc, _+_, _*_}
 use mathlib.Core.List.{List, [], _∷_}
 use mathlib.Core.Bool.{Bool, _&&_}
 use lib.ListN.{length, getD}
@@ -18,13 +18,14 @@ use Rattle.layout.specs.Layout.{columnCeiling, rowCeiling, elementCeiling, rowS
 use Rattle.layout.specs.Layout.{virtualStorageWidth, sentinelIn, nodesIn, edgesIn, edgeColumnsIn, setsIn, varyingIn, fixedIn, elementsIn}
 use Rattle.layout.specs.Layout.{nodeRowsIn, aggregatesIn, virtualStoragesIn, nodeKind, nodeFlag, edgeFrom, edgeTo, mappedColumn, nodeRowNode}
 use Rattle.layout.specs.Layout.{nodeRowRow, nodeRowType, nodeRowSet, entryRow, periodFlag, periodStartMonth, periodStartDay, periodEndMonth, periodEndDay}
+use Rattle.layout.specs.Layout.{makersAt, makerWidth, makerKind, makerIndex, makerSharedBy}
 pub use Rattle.layout.specs.Layout.{nodesAt, edgesAt, nodeRowsAt, aggregatesAt, virtualStoragesAt}
 use Rattle.pywr.specs.declared.Sentinel.{Sentinel}
 use Rattle.pywr.specs.declared.Sentinel.the-variants.{Infinity, Largest}
 use Rattle.pywr.specs.Numbers.{zero64}
 use Rattle.pywr.specs.ColEdgeMap.{MappedEdge}
 use Rattle.pywr.specs.Rows.{Element, element}
-use Rattle.pywr.specs.Programme.{Column, Row, Programme, NodeShape, RowType, continuous, binaryUpper, binaryLower, NodeRow, VirtualStorageShape, Shape}
+use Rattle.pywr.specs.Programme.{Column, Row, Programme, NodeShape, RowType, continuous, binaryUpper, binaryLower, NodeRow, VirtualStorageShape, Shape, Maker}
 
 pub record Store : Type 0 where
   pub colLower : List Float
@@ -149,6 +150,17 @@ shapeOf s =
       aggregates = entries (word s) aggregateWidth aggregatesAt (aggregateCount s);
       virtualStorages = entries (virtualStorageEntry s) virtualStorageWidth virtualStoragesAt (virtualStorageCount s);
     }
+
+unfoldable pub makerEntry : Store → ℕ → Maker
+makerEntry s at = record { kind = makerKind (s .shape) at; index = makerIndex (s .shape) at; sharedBy = makerSharedBy (s .shape) at }
+
+-- who made each row
+unfoldable pub makersIn : Store → List Maker
+makersIn s = entries (makerEntry s) makerWidth makersAt (rowCount s)
+
+-- who made this row
+unfoldable pub rowMaker : Store → ℕ → Maker
+rowMaker s r = makerEntry s (makersAt + makerWidth * r)
 
 unfoldable pub elementsOf : List ℕ → List Float → List Element
 elementsOf [] xs = []

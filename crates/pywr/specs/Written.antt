@@ -5,12 +5,12 @@ use mathlib.Core.Bool.{Bool, true, false, cond, not}
 use lib.ListN.{length}
 use lib.Seq.{sets}
 use lib.Ieee.{Float}
-use Rattle.layout.specs.Layout.{nodesAt, edgesAt, nodeRowsAt, aggregatesAt, virtualStoragesAt}
+use Rattle.layout.specs.Layout.{nodesAt, edgesAt, nodeRowsAt, aggregatesAt, virtualStoragesAt, makersAt}
 use Rattle.pywr.specs.declared.Sentinel.{Sentinel}
 use Rattle.pywr.specs.declared.Sentinel.the-variants.{Infinity, Largest}
 use Rattle.pywr.specs.ColEdgeMap.{MappedEdge}
 use Rattle.pywr.specs.Rows.{Element}
-use Rattle.pywr.specs.Programme.{Column, Row, Programme, NodeShape, RowType, continuous, binaryUpper, binaryLower, NodeRow, VirtualStorageShape, Built}
+use Rattle.pywr.specs.Programme.{Column, Row, Programme, NodeShape, RowType, continuous, binaryUpper, binaryLower, NodeRow, VirtualStorageShape, Maker, Built}
 use Rattle.pywr.specs.Build.{elementCount}
 use Rattle.pywr.specs.Store.{Store}
 
@@ -46,6 +46,9 @@ virtualStorageWords v =
     ∷ v .period .endDay
     ∷ []
 
+unfoldable pub makerWords : Maker → List ℕ
+makerWords m = m .kind ∷ m .index ∷ m .sharedBy ∷ []
+
 unfoldable pub integerColumns : List Column → ℕ
 integerColumns [] = 0
 integerColumns (c ∷ cs) = cond (c .integer) (suc (integerColumns cs)) (integerColumns cs)
@@ -72,7 +75,8 @@ shapeAfter old b =
     let edges : List ℕ = sets nodes edgesAt (flatMap edgeWords (b .shape .mappedEdges)) in
     let nodeRows : List ℕ = sets edges nodeRowsAt (flatMap nodeRowWords (b .shape .nodeRows)) in
     let aggregates : List ℕ = sets nodeRows aggregatesAt (b .shape .aggregates) in
-    sets aggregates virtualStoragesAt (flatMap virtualStorageWords (b .shape .virtualStorages))
+    let virtualStorages : List ℕ = sets aggregates virtualStoragesAt (flatMap virtualStorageWords (b .shape .virtualStorages)) in
+    sets virtualStorages makersAt (flatMap makerWords (b .makers))
 
 -- the starts of the rows and, last, the element count
 unfoldable pub startsFrom : ℕ → List Row → List ℕ

@@ -6,6 +6,8 @@ use libc::STDERR_FILENO;
 use libc::STDOUT_FILENO;
 use program_store::Runs;
 use program_streams::FileRead;
+use program_words::asks_help;
+use program_words::is_option;
 use pywr::Answer;
 use pywr::Sentinel;
 ghost use mathlib.Core.Path.{_≡_};
@@ -21,8 +23,7 @@ fn write_usage(fd: i32) -> bool {
 
 // Says what could not be done, and why.
 fn tell(what: &[u8]) {
-    program_streams::write_all(STDERR_FILENO, b"stepper: ");
-    os::fail(what);
+    program_streams::tell(b"stepper", what);
 }
 
 fn tell_unwritten(written: bool) {
@@ -32,9 +33,7 @@ fn tell_unwritten(written: bool) {
 }
 
 fn tell_unknown(option: &[u8]) {
-    program_streams::write_all(STDERR_FILENO, b"stepper: unknown option ");
-    program_streams::write_all(STDERR_FILENO, option);
-    program_streams::write_all(STDERR_FILENO, b"\n");
+    program_streams::tell_word(b"stepper", b"unknown option", option);
     write_usage(STDERR_FILENO);
 }
 
@@ -136,17 +135,6 @@ fn run(network: usize, end: usize, sentinel: Sentinel)
     }
     let listed = program_store::list_answer(answer, runs);
     tell_unwritten(listed.written);
-}
-
-fn asks_help(word: &[u8]) -> bool {
-    check::same(word, b"--help") | check::same(word, b"-h")
-}
-
-fn is_option(word: &[u8]) -> bool {
-    if word.len() < 2 {
-        return false;
-    }
-    word[0] == b'-'
 }
 
 // Whether the word in the network's place names a file; what else it asks is done.

@@ -7,11 +7,11 @@ use lib.ListN.{length, getD}
 use lib.Dec.{leb, eqb, leb→le}
 use lib.Ieee.Fits.{and-l, and-r}
 use borrow.Author.Tests.{not-false}
-use Rattle.layout.specs.Layout.{nodeRowCeiling, rowStartsLength, shapeLength}
+use Rattle.layout.specs.Layout.{makersAt, nodeRowCeiling, rowStartsLength, shapeLength}
 use Rattle.laws.proofs.Tests.{of-true, to-true}
 use Rattle.pywr.specs.Store.{Store, storeHasRoom, sentinelCode, nodeCount, edgeCount, edgeColumnCount, setCount, rowCount, elementsKept}
 use Rattle.pywr.specs.Store.{nodeRowCount, aggregateCount, virtualStorageCount, nodesAt, edgesAt, nodeRowsAt, aggregatesAt, virtualStoragesAt, startOf}
-use Rattle.pywr.specs.Misshapen.{countsFit, startsRise, rowColumnsRise, nodeFits, edgeFits, nodeRowFits, aggregateFits, virtualStorageFits, allEntries, wellShaped}
+use Rattle.pywr.specs.Misshapen.{countsFit, startsRise, rowColumnsRise, nodeFits, edgeFits, nodeRowFits, aggregateFits, virtualStorageFits, makerFits, allEntries, wellShaped}
 use Rattle.pywr.proofs.Represents.{Roomy}
 use Rattle.pywr.proofs.DemandThree.{roomy-parts}
 use Rattle.store_shape.proofs.Entries.{ofShape}
@@ -104,6 +104,7 @@ pub record Shaped (s : Store) : Type 0 where
   pub node-rows : allEntries (nodeRowFits s) 4 nodeRowsAt (nodeRowCount s) ≡ true
   pub aggregates : allEntries (aggregateFits s) 1 aggregatesAt (aggregateCount s) ≡ true
   pub virtualStorages : allEntries (virtualStorageFits s) 6 virtualStoragesAt (virtualStorageCount s) ≡ true
+  pub makers : allEntries (makerFits s) 3 makersAt (rowCount s) ≡ true
 
 pub shaped : (s : Store) → wellShaped s ≡ true → Shaped s
 unfolding wellShaped
@@ -117,7 +118,9 @@ shaped s q =
     let g : Bool = allEntries (nodeRowFits s) 4 nodeRowsAt (nodeRowCount s) in
     let h : Bool = allEntries (aggregateFits s) 1 aggregatesAt (aggregateCount s) in
     let i : Bool = allEntries (virtualStorageFits s) 6 virtualStoragesAt (virtualStorageCount s) in
-    let h9 = of-true (a && b && c && d && e && f && g && h && i) q in
+    let j : Bool = allEntries (makerFits s) 3 makersAt (rowCount s) in
+    let h10 = of-true (a && b && c && d && e && f && g && h && i && j) q in
+    let h9 = and-l (a && b && c && d && e && f && g && h && i) j h10 in
     let h8 = and-l (a && b && c && d && e && f && g && h) i h9 in
     let h7 = and-l (a && b && c && d && e && f && g) h h8 in
     let h6 = and-l (a && b && c && d && e && f) g h7 in
@@ -135,4 +138,5 @@ shaped s q =
       node-rows = to-true g (and-r (a && b && c && d && e && f) g h7);
       aggregates = to-true h (and-r (a && b && c && d && e && f && g) h h8);
       virtualStorages = to-true i (and-r (a && b && c && d && e && f && g && h) i h9);
+      makers = to-true j (and-r (a && b && c && d && e && f && g && h && i) j h10);
     }

@@ -12,6 +12,7 @@ use store_rows::starts_rise;
 use store_shape::aggregates_fit;
 use store_shape::counts_fit;
 use store_shape::edges_fit;
+use store_shape::makers_fit;
 use store_shape::nodes_fit;
 use store_shape::row_count;
 use store_shape::virtual_storages_fit;
@@ -66,6 +67,7 @@ pub fn well_shaped(columns: &[u16], row_starts: &[u32], shape: &[u16]) -> bool
         & node_rows_fit(columns, row_starts, shape)
         & aggregates_fit(shape)
         & virtual_storages_fit(shape)
+        & makers_fit(shape)
 }
 
 // The answer to reading a row: where its columns stand, or 16, 17 or 18.

@@ -1,15 +1,13 @@
 -- A loop that tests the entries of a table one after another and looks at all of them. Assumes nothing.
-use mathlib.Core.Path.{_≡_, refl, sym, ap, _∙_}
-use Prim.Native.Nat.{ℕ, zero, suc, _+_, _*_, _-_, _≤_, _<_, zero-le}
+use mathlib.Core.Path.{_≡_, refl, sym, _∙_}
+use Prim.Native.Nat.{ℕ, suc, _+_, _*_, _-_, _≤_, _<_, zero-le}
 use native.Mathlib.Nat.{add-zero, add-assoc, mul-zero, mul-add, mul-one, sub-zero, sub-eq-zero-of-le}
 use native.Mathlib.Omega.{arith}
 use mathlib.Core.Bool.{Bool, true, false, _&&_, and-true}
 use mathlib.Core.List.{List, []}
-use lib.Ieee.Fits.{and-l, and-r}
-use Rattle.laws.proofs.Tests.{of-true, to-true}
 use Rattle.pywr.specs.Store.{Store}
 use Rattle.pywr.specs.Misshapen.{allEntries}
-use Rattle.store_shape.proofs.EntryLaws.{first-entry, next-entry}
+pub use Rattle.pywr.proofs.EntryLaws.{entry-passes}
 
 -- a store of which only the shape run is read
 abbrev pub ofShape : List ℕ → Store
@@ -50,13 +48,3 @@ module _ {test : ℕ → Bool} {words first count at i : ℕ} (h : Tested test w
 
   pub tested-fail : test at ≡ false → false ≡ allEntries test words first count
   tested-fail e = sym (tested-more h lt .so-far ∙ rw e)
-
--- what a table that passed tells of each of its entries
-pub entry-passes : (test : ℕ → Bool) (words count at : ℕ) → allEntries test words at count ≡ true → (i : ℕ) → i < count → test (at + words * i) ≡ true
-unfolding allEntries
-entry-passes test words zero at e i lt = absurd (omega arith)
-entry-passes test words (suc count) at e zero lt =
-    ap test (sym (first-entry words at)) ∙ to-true (test at) (and-l (test at) (allEntries test words (at + words) count) (of-true (test at && allEntries test words (at + words) count) e))
-entry-passes test words (suc count) at e (suc i) lt =
-    let rest = and-r (test at) (allEntries test words (at + words) count) (of-true (test at && allEntries test words (at + words) count) e) in
-    ap test (sym (next-entry words at i)) ∙ entry-passes test words count (at + words) (to-true (allEntries test words (at + words) count) rest) i (omega arith)

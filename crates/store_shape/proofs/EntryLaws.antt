@@ -1,18 +1,11 @@
 -- The entries of a table by number. Assumes nothing.
 use mathlib.Core.Path.{_≡_, refl, sym, ap, ap₂, _∙_}
 use Prim.Native.Nat.{ℕ, zero, suc, _+_, _*_, _<_}
-use native.Mathlib.Nat.{add-zero, mul-zero, mul-suc, add-assoc, add-comm}
 use native.Mathlib.Omega.{arith}
 use mathlib.Core.List.{List, _∷_, map}
 use lib.ListN.{length, getD}
 use Rattle.pywr.specs.Store.{entries}
-
--- where the first entry stands, and entry k of those behind it
-pub first-entry : (words at : ℕ) → at ≡ at + words * 0
-first-entry words at = rw (mul-zero, add-zero)
-
-pub next-entry : (words at k : ℕ) → at + words + words * k ≡ at + words * suc k
-next-entry words at k = rw (mul-suc, add-comm (words * k) words) (add-assoc at words (words * k))
+pub use Rattle.pywr.proofs.EntryLaws.{first-entry, next-entry}
 
 module _ {A : Type 0} where
   pub entries-length : (entry : ℕ → A) (words at count : ℕ) → length (entries entry words at count) ≡ count

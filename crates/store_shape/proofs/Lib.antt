@@ -1,3 +1,4 @@
 pub mod EntryLaws
+mod ThreeWords
 pub mod Entries
 pub mod SentinelLaws

@@ -3,6 +3,7 @@ use layout::AGGREGATE_CEILING;
 use layout::AGGREGATE_COUNT_AT;
 use layout::AGGREGATE_WIDTH;
 use layout::AGGREGATES_AT;
+use layout::BY_EXCLUSIVITY;
 use layout::EDGE_CEILING;
 use layout::EDGE_COLUMN_COUNT_AT;
 use layout::EDGE_COUNT_AT;
@@ -12,6 +13,10 @@ use layout::EDGES_AT;
 use layout::ELEMENT_CEILING;
 use layout::ELEMENT_COUNT_AT;
 use layout::FIXED_COUNT_AT;
+use layout::MAKER_INDEX;
+use layout::MAKER_SHARED_BY;
+use layout::MAKER_WIDTH;
+use layout::MAKERS_AT;
 use layout::MAPPED_COLUMN;
 use layout::NODE_CEILING;
 use layout::NODE_COUNT_AT;
@@ -34,10 +39,11 @@ use pywr::Sentinel;
 use widths::wide16;
 ghost use mathlib.Core.Path.{_≡_};
 ghost use Prim.Native.Nat.{_+_, _≤_, _<_};
+ghost use mathlib.Core.List.{[], _∷_};
 ghost use lib.ListN.{length};
-ghost use Rattle.layout.specs.Layout.{nodeCeiling, edgeCeiling, aggregateCeiling, virtualStorageCeiling, shapeLength, nodesAt, edgesAt, aggregatesAt, virtualStoragesAt, nodeWidth, edgeWidth, aggregateWidth, virtualStorageWidth, sentinelIn, nodesIn, edgesIn, varyingIn, fixedIn, aggregatesIn, virtualStoragesIn};
-ghost use Rattle.pywr.specs.Store.{Store, sentinelOf, nodeCount, edgeCount, aggregateCount, virtualStorageCount};
-ghost use Rattle.pywr.specs.Misshapen.{countsFit, nodeFits, edgeFits, aggregateFits, virtualStorageFits, allEntries};
+ghost use Rattle.layout.specs.Layout.{nodeCeiling, edgeCeiling, aggregateCeiling, virtualStorageCeiling, rowCeiling, shapeLength, nodesAt, edgesAt, aggregatesAt, virtualStoragesAt, makersAt, nodeWidth, edgeWidth, aggregateWidth, virtualStorageWidth, makerWidth, sentinelIn, nodesIn, edgesIn, varyingIn, fixedIn, aggregatesIn, virtualStoragesIn};
+ghost use Rattle.pywr.specs.Store.{Store, sentinelOf, nodeCount, edgeCount, edgeColumnCount, aggregateCount, virtualStorageCount, rowCount};
+ghost use Rattle.pywr.specs.Misshapen.{countsFit, nodeFits, edgeFits, aggregateFits, virtualStorageFits, makerFits, allEntries};
 
 // The ceilings in the width of the words.
 const NODE_CEILING_WORD: u16 = NODE_CEILING as u16;
@@ -53,6 +59,9 @@ const NODE_ROW_CEILING_WORD: u16 = NODE_ROW_CEILING as u16;
 const AGGREGATE_CEILING_WORD: u16 = AGGREGATE_CEILING as u16;
 
 const VIRTUAL_STORAGE_CEILING_WORD: u16 = VIRTUAL_STORAGE_CEILING as u16;
+
+// How many kinds of makers there are.
+const KINDS: usize = 5;
 
 // The sentinel that the store keeps.
 pub fn kept_sentinel(shape: &[u16]) -> Sentinel
@@ -108,6 +117,20 @@ pub fn nodes_fit(shape: &[u16]) -> bool
 }
 
 // An edge: two nodes and a column.
+fn edge_fits(shape: &[u16], at: usize, nodes: u16, columns: u16) -> bool
+    requires { ⌜ at + edgeWidth ≤ length (now shape) ⌝ }
+    ensures { λ r. ⌜ ((s : Store) → s .shape ≡ now (shape .entry) → nodes ≡ nodeCount s → columns ≡ edgeColumnCount s → r ≡ edgeFits s at) ⌝ }
+{
+    if nodes <= shape[at] {
+        return false;
+    }
+    if nodes <= shape[at + EDGE_TO] {
+        return false;
+    }
+    shape[at + MAPPED_COLUMN] < columns
+}
+
+// The tables of three words are left at the first entry that fails: a vector of their entries would have to be put together word by word.
 pub fn edges_fit(shape: &[u16]) -> bool
     requires { ⌜ (shapeLength ≤ length (now shape)) × (edgesIn (now shape) ≤ edgeCeiling) ⌝ }
     ensures { λ r. ⌜ ((s : Store) → s .shape ≡ now (shape .entry) → r ≡ allEntries (edgeFits s) edgeWidth edgesAt (edgeCount s)) ⌝ }
@@ -115,18 +138,17 @@ pub fn edges_fit(shape: &[u16]) -> bool
     let nodes = shape[NODE_COUNT_AT];
     let columns = shape[EDGE_COLUMN_COUNT_AT];
     let edges = wide16(shape[EDGE_COUNT_AT]);
-    let mut good = true;
     let mut at: usize = EDGES_AT;
     let mut i: usize = 0;
     while i < edges {
-        good = good
-            & ((shape[at] < nodes)
-                & (shape[at + EDGE_TO] < nodes)
-                & (shape[at + MAPPED_COLUMN] < columns));
-        at += EDGE_WIDTH;
-        i += 1;
+        if edge_fits(shape, at, nodes, columns) {
+            at += EDGE_WIDTH;
+            i += 1;
+        } else {
+            return false;
+        }
     }
-    good
+    true
 }
 
 // An aggregate: a varying row.
@@ -163,4 +185,43 @@ pub fn virtual_storages_fit(shape: &[u16]) -> bool
         i += 1;
     }
     good
+}
+
+// A row's maker: a kind, one of that kind's makers, and how many share the row. `makers` has how many can make a row of each kind.
+fn maker_fits(shape: &[u16], at: usize, makers: &[u16; KINDS]) -> bool
+    requires { ⌜ at + makerWidth ≤ length (now shape) ⌝ }
+    ensures { λ r. ⌜ ((s : Store) → s .shape ≡ now (shape .entry)
+        → now (makers .entry) ≡ nodeCount s ∷ nodeCount s ∷ aggregateCount s ∷ virtualStorageCount s ∷ aggregateCount s ∷ [] → r ≡ makerFits s at) ⌝ }
+{
+    let kind = shape[at];
+    if BY_EXCLUSIVITY < kind {
+        return false;
+    }
+    if makers[wide16(kind)] <= shape[at + MAKER_INDEX] {
+        return false;
+    }
+    1 <= shape[at + MAKER_SHARED_BY]
+}
+
+// The makers of all rows.
+pub fn makers_fit(shape: &[u16]) -> bool
+    requires { ⌜ (shapeLength ≤ length (now shape)) × (varyingIn (now shape) + fixedIn (now shape) ≤ rowCeiling) ⌝ }
+    ensures { λ r. ⌜ ((s : Store) → s .shape ≡ now (shape .entry) → r ≡ allEntries (makerFits s) makerWidth makersAt (rowCount s)) ⌝ }
+{
+    let nodes = shape[NODE_COUNT_AT];
+    let aggregates = shape[AGGREGATE_COUNT_AT];
+    let virtual_storages = shape[VIRTUAL_STORAGE_COUNT_AT];
+    let makers: [u16; KINDS] = [nodes, nodes, aggregates, virtual_storages, aggregates];
+    let rows = row_count(shape);
+    let mut at: usize = MAKERS_AT;
+    let mut i: usize = 0;
+    while i < rows {
+        if maker_fits(shape, at, &makers) {
+            at += MAKER_WIDTH;
+            i += 1;
+        } else {
+            return false;
+        }
+    }
+    true
 }

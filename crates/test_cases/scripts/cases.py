@@ -10,6 +10,7 @@ sys.path.append(str(FOLDER.parent.parent / "examples"))  # the records of networ
 
 from build_cases import CASES
 from commands import build, commands, counted, expected, title
+from maker_cases import makers
 from step_cases import steps
 
 MARK = "# reference"
@@ -38,6 +39,7 @@ def sample_of(data):  # from the title that starts with the mark
 
 builds()
 steps()
+makers()
 stdin, stdout = FOLDER / "stdin", FOLDER / "stdout"
 lines = stdout.read_text().splitlines(keepends=True)
 kept = next((k for k, line in enumerate(lines) if line.startswith(MARK)), len(lines))

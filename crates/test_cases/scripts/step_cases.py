@@ -5,7 +5,7 @@ import struct
 
 from commands import build, change, clear, listed, step, title
 from make import INPUT, LINK, OUTPUT, STORAGE, aggregate, edge, node, virtual_storage
-from steps import DAYS_IN, LARGEST, aggregate_step, date, node_step, storage_step
+from steps import AGGREGATE, DAYS_IN, EXCLUSIVITY, LARGEST, MASS, NODE, VIRTUAL_STORAGE, aggregate_step, by, date, node_step, storage_step
 
 INF, NAN = math.inf, math.nan
 
@@ -28,7 +28,7 @@ def pair(first=(0.0, 0.0, 9.0), second=(0.0, 0.0, 9.0), day=(1, 1), days=1.0, mo
 
 
 def pair_listed(low, high, cost=0.0, sentinel=INF):
-    listed(1, [cost], [(low, high, {0: 1.0})], [], sentinel)
+    listed(1, [cost], [(low, high, {0: 1.0}, by(NODE, 0, 2))], [], sentinel)
 
 
 def intervals():
@@ -112,10 +112,10 @@ def crossed():
 def constant():
     title("# a constant node's min and max are not read: NaN, and lower over upper")
     build(node(INPUT, (0.0, 5.0)) + node(OUTPUT) + edge(0, 1))
-    fixed = [(0.0, 5.0, {0: 1.0})]
+    fixed = [(0.0, 5.0, {0: 1.0}, by(NODE, 0))]
     for low, high, upper in ((NAN, NAN, 6.0), (3.0, 2.0, 7.0), (INF, -INF, 8.0)):
         step(date(1, 1, 1.0) + node_step(1.0, low, high, NAN) + node_step(0.0, 2.0, upper))
-        listed(1, [1.0], [(2.0, upper, {0: 1.0})], fixed)
+        listed(1, [1.0], [(2.0, upper, {0: 1.0}, by(NODE, 1))], fixed)
     step(date(1, 1, 1.0) + node_step(NAN, 0.0, 5.0) + node_step(0.0, 2.0, 9.0), "N 13 12")
 
 
@@ -127,7 +127,8 @@ def volumes():
         return date(1, 1, days) + node_step(0.0, 0.0, 9.0) + node_step(0.0, low, high, volume) + node_step(0.0, 0.0, 9.0)
 
     def volumes_listed(low, high):
-        listed(2, [0.0, 0.0], [(0.0, 9.0, {0: 1.0}), (low, high, {0: 1.0, 1: -1.0}), (0.0, 9.0, {1: 1.0})], [])
+        rows = [(0.0, 9.0, {0: 1.0}, by(NODE, 0)), (low, high, {0: 1.0, 1: -1.0}, by(NODE, 1)), (0.0, 9.0, {1: 1.0}, by(NODE, 2))]
+        listed(2, [0.0, 0.0], rows, [])
 
     title("# storage of volume 30, range 10 to 100, in 2 days: [-10, 35]; under its range; empty range; rounded quotients; the largest numbers")
     build(node(INPUT) + node(STORAGE) + node(OUTPUT) + edge(0, 1) + edge(1, 2))
@@ -161,8 +162,8 @@ def costs():
     def file(first, link, storage):
         return date(1, 1, 1.0) + node_step(first, 0.0, 9.0) + node_step(link, 0.0, 9.0) + node_step(storage, 0.0, 6.0, 3.0)
 
-    varying = [(0.0, 9.0, {0: 1.0}), (0.0, 9.0, {1: 1.0}), (-3.0, 3.0, {1: 1.0, 2: -1.0})]
-    mass = [(0.0, 0.0, {0: 1.0, 1: -1.0, 2: 1.0})]
+    varying = [(0.0, 9.0, {0: 1.0}, by(NODE, 0)), (0.0, 9.0, {1: 1.0}, by(NODE, 1)), (-3.0, 3.0, {1: 1.0, 2: -1.0}, by(NODE, 2))]
+    mass = [(0.0, 0.0, {0: 1.0, 1: -1.0, 2: 1.0}, by(MASS, 1))]
     step(file(7.0, 3.0, 4.0))
     listed(3, [8.5, 5.5, -2.5], varying, mass)
     step(file(0.0, 0.0, 0.0))
@@ -170,10 +171,11 @@ def costs():
     title("# three edges of one column: their costs add in edge order from 0.0, each sum rounded")
     build(node(INPUT) + node(LINK) + node(LINK) + node(OUTPUT) + edge(0, 1) + edge(1, 2) + edge(2, 3))
     bounds = [0.0, 9.0]
+    row = (*bounds, {0: 1.0}, by(NODE, 0, 4))
     step(date(1, 1, 1.0) + b"".join(node_step(c, *bounds) for c in (1e12, 0.0001, 0.0, -1e12)))
-    listed(1, [((1e12 + 0.00005) + (0.00005 + 0.0)) + (0.0 - 1e12)], [(0.0, 9.0, {0: 1.0})], [])
+    listed(1, [((1e12 + 0.00005) + (0.00005 + 0.0)) + (0.0 - 1e12)], [row], [])
     step(date(1, 1, 1.0) + b"".join(node_step(c, *bounds) for c in (0.1, 0.2, 0.4, 0.7)))
-    listed(1, [((0.1 + 0.1) + (0.1 + 0.2)) + (0.2 + 0.7)], [(0.0, 9.0, {0: 1.0})], [])
+    listed(1, [((0.1 + 0.1) + (0.1 + 0.2)) + (0.2 + 0.7)], [row], [])
 
 
 # ---- virtual storages: always, 11-01 to 02-15, 03-10 to 03-05, 06-01 to 09-30, told apart by their factors
@@ -188,8 +190,8 @@ def periods():
 
     def periods_listed(active, low=-4.0, high=6.0, sentinel=INF):
         bounds = [(low, high) if on == "1" else (-sentinel, sentinel) for on in active]
-        rows = [(*b, {0: -(2.0**i)}) for i, b in enumerate(bounds)]
-        listed(1, [0.0], [(0.0, 9.0, {0: 1.0}), *rows], [], sentinel)
+        rows = [(*b, {0: -(2.0**i)}, by(VIRTUAL_STORAGE, i)) for i, b in enumerate(bounds)]
+        listed(1, [0.0], [(0.0, 9.0, {0: 1.0}, by(NODE, 0, 2)), *rows], [], sentinel)
 
     title("# periods: 11-01 to 02-15 has 12-31 and 02-15, not 02-16; 03-10 to 03-05 has 03-05, not 03-07; ends are included")
     build(network)
@@ -232,7 +234,7 @@ def periods():
     title("# two virtual storages of one row: [-4, 6] and [-5, 5] give [-4, 5]")
     build(PAIR + virtual_storage([(0, 1.0)]) * 2)
     step(pair(more=storage_step(0.0, 10.0, 4.0) + storage_step(0.0, 10.0, 5.0)))
-    listed(1, [0.0], [(0.0, 9.0, {0: 1.0}), (-4.0, 5.0, {0: -1.0})], [])
+    listed(1, [0.0], [(0.0, 9.0, {0: 1.0}, by(NODE, 0, 2)), (-4.0, 5.0, {0: -1.0}, by(VIRTUAL_STORAGE, 0, 2))], [])
 
 
 # ---- an input; an output that is an exclusive set; an aggregate, whose row is the input's; a virtual storage from 04-01 to 09-30
@@ -247,8 +249,9 @@ def small(first=(0.0, 0.0, 9.0), second=(0.0, 0.0, 9.0), group=(0.0, 9.0), volum
 
 def small_listed(low, high, lower, upper, cost=0.0, licence=(-4.0, 6.0), sentinel=INF, fresh=False):  # the coefficients are minus `lower`, and `upper`
     wide = (0.0, sentinel) if fresh else (-sentinel, sentinel)
-    rows = [(low, high, {0: 1.0}), (*wide, {0: -1.0, 1: upper}), (*wide, {0: 1.0, 1: -lower}), (*licence, {0: -1.0})]
-    listed(1, [cost, 0.0], rows, [(0.0, 1.0, {1: 1.0})], sentinel)
+    rows = [(low, high, {0: 1.0}, by(NODE, 0, 2))]
+    rows += [(*wide, {0: -1.0, 1: upper}, by(NODE, 1)), (*wide, {0: 1.0, 1: -lower}, by(NODE, 1)), (*licence, {0: -1.0}, by(VIRTUAL_STORAGE, 0))]
+    listed(1, [cost, 0.0], rows, [(0.0, 1.0, {1: 1.0}, by(EXCLUSIVITY, 0))], sentinel)
 
 
 def exclusive():
@@ -274,8 +277,8 @@ def exclusive():
     build(PAIR + aggregate([[0, 1]], (0, 1)))
     for first, second in (((2.0, 5.0), (3.0, 7.0)), ((3.0, 7.0), (2.0, 5.0))):
         step(pair((0.0, *first), (0.0, *second), more=aggregate_step(1.0, 8.0)))
-        rows = [(-INF, INF, {0: -1.0, 1: second[1]}), (-INF, INF, {0: 1.0, 1: -second[0]}), (1.0, 8.0, {0: 2.0})]
-        listed(1, [0.0, 0.0], rows, [(0.0, 1.0, {1: 1.0})])
+        upper, lower = (-INF, INF, {0: -1.0, 1: second[1]}, by(NODE, 0, 2)), (-INF, INF, {0: 1.0, 1: -second[0]}, by(NODE, 0, 2))
+        listed(1, [0.0, 0.0], [upper, lower, (1.0, 8.0, {0: 2.0}, by(AGGREGATE, 0))], [(0.0, 1.0, {1: 1.0}, by(EXCLUSIVITY, 0))])
 
 
 def marks():
@@ -306,7 +309,8 @@ def marks():
     step(head + nodes + groups * 64 + stores * 31 + storage_step(0.0, 10.0, after(1e12)), "N 13 10674")
     step(head + nodes + groups * 64 + stores * 32 + b"\0", "N 12 10700")
     step(head + nodes + groups * 64 + stores * 32)
-    listed(1, [0.0], [(1.0, 8.0, {0: 1.0}), (0.0, 9.0, {}), (-4.0 / 366.0, 6.0 / 366.0, {0: -1.0})], [])
+    rows = [(1.0, 8.0, {0: 1.0}, by(NODE, 0, 66)), (0.0, 9.0, {}, by(NODE, 2, 254)), (-4.0 / 366.0, 6.0 / 366.0, {0: -1.0}, by(VIRTUAL_STORAGE, 0, 32))]
+    listed(1, [0.0], rows, [])
 
 
 def step_lists():

@@ -15,6 +15,10 @@ use layout::EDGES_AT;
 use layout::ELEMENT_CEILING;
 use layout::ELEMENT_COUNT_AT;
 use layout::FIXED_COUNT_AT;
+use layout::MAKER_INDEX;
+use layout::MAKER_SHARED_BY;
+use layout::MAKER_WIDTH;
+use layout::MAKERS_AT;
 use layout::MAPPED_COLUMN;
 use layout::NODE_CEILING;
 use layout::NODE_COUNT_AT;
@@ -49,6 +53,15 @@ const SECOND_NODE: usize = NODES_AT + NODE_WIDTH;
 
 const SECOND_NODE_ROW: usize = NODE_ROWS_AT + NODE_ROW_WIDTH;
 
+// The makers of rows 1 to 3, and the words behind them, of a row that is not there.
+const SECOND_MAKER: usize = MAKERS_AT + MAKER_WIDTH;
+
+const THIRD_MAKER: usize = SECOND_MAKER + MAKER_WIDTH;
+
+const FOURTH_MAKER: usize = THIRD_MAKER + MAKER_WIDTH;
+
+const FIFTH_MAKER: usize = FOURTH_MAKER + MAKER_WIDTH;
+
 // Two nodes with an edge, one edge column and one set. Varying rows: 0 with column 0, and 1 with columns 0 and 1, the set's.
 // Fixed rows: 2 with column 0, and 3 with none.
 fn small_columns() -> [u16; ELEMENT_CEILING]
@@ -70,8 +83,9 @@ fn small_starts() -> [u32; ROW_STARTS_LENGTH]
     starts
 }
 
-// Node 0 has row 0 and, as a binary upper row, row 1. The aggregate and the virtual storage, which has a period, have row 0.
-fn small_shape() -> [u16; SHAPE_LENGTH]
+// Node 0 has row 0 and, as a binary upper row, row 1. The aggregate and the virtual storage, which has a period, have row 0. Row 2 is node 1's mass row;
+// row 3 has this maker.
+fn shape_with(kind: u16, index: u16, shared_by: u16) -> [u16; SHAPE_LENGTH]
     ensures { λ r. ⌜ shapeLength ≡ length r ⌝ }
 {
     let mut shape = [0u16; SHAPE_LENGTH];
@@ -95,7 +109,23 @@ fn small_shape() -> [u16; SHAPE_LENGTH]
     shape[VIRTUAL_STORAGES_AT + PERIOD_START_DAY] = 1;
     shape[VIRTUAL_STORAGES_AT + PERIOD_END_MONTH] = 9;
     shape[VIRTUAL_STORAGES_AT + PERIOD_END_DAY] = 30;
+    shape[MAKERS_AT] = 1;
+    shape[MAKERS_AT + MAKER_SHARED_BY] = 3;
+    shape[SECOND_MAKER] = 1;
+    shape[SECOND_MAKER + MAKER_SHARED_BY] = 1;
+    shape[THIRD_MAKER + MAKER_INDEX] = 1;
+    shape[THIRD_MAKER + MAKER_SHARED_BY] = 1;
+    shape[FOURTH_MAKER] = kind;
+    shape[FOURTH_MAKER + MAKER_INDEX] = index;
+    shape[FOURTH_MAKER + MAKER_SHARED_BY] = shared_by;
     shape
+}
+
+// Row 3 is the aggregate's exclusivity row.
+fn small_shape() -> [u16; SHAPE_LENGTH]
+    ensures { λ r. ⌜ shapeLength ≡ length r ⌝ }
+{
+    shape_with(4, 0, 1)
 }
 
 // The run, or the run without its last element.
@@ -179,6 +209,18 @@ fn short_run(k: usize) {
     io::write_all(1, b"short");
     print_number(k);
     read(&columns, &starts, &shape, 4, k);
+}
+
+// The same with another maker of row 3.
+fn maker(kind: u16, index: u16, shared_by: u16) {
+    let columns = small_columns();
+    let starts = small_starts();
+    let shape = shape_with(kind, index, shared_by);
+    io::write_all(1, b"maker");
+    print_number(kind as usize);
+    print_number(index as usize);
+    print_number(shared_by as usize);
+    read(&columns, &starts, &shape, 0, 9);
 }
 
 fn shape_word(at: usize, word: u16) {
@@ -285,6 +327,43 @@ fn node_rows() {
     shape_word(NODE_ROWS_AT + NODE_ROW_SET, 1);
 }
 
+// Of the first, the third and the last row's maker each word out of range; what stands behind the last is not read.
+fn maker_words() {
+    shape_word(MAKERS_AT, 5);
+    shape_word(MAKERS_AT + MAKER_INDEX, 1);
+    shape_word(MAKERS_AT + MAKER_INDEX, 2);
+    shape_word(MAKERS_AT + MAKER_SHARED_BY, 0);
+    shape_word(THIRD_MAKER, 5);
+    shape_word(THIRD_MAKER + MAKER_INDEX, 2);
+    shape_word(THIRD_MAKER + MAKER_SHARED_BY, 0);
+    shape_word(FOURTH_MAKER, 65535);
+    shape_word(FOURTH_MAKER + MAKER_INDEX, 1);
+    shape_word(FOURTH_MAKER + MAKER_SHARED_BY, 0);
+    shape_word(FOURTH_MAKER + MAKER_SHARED_BY, 65535);
+    shape_word(FIFTH_MAKER, 5);
+    shape_word(FIFTH_MAKER + MAKER_INDEX, 65535);
+}
+
+// Each kind with its last index and the one behind it, of two nodes, one aggregate and one virtual storage; shared by none; no such kind.
+fn makers() {
+    maker(0, 1, 1);
+    maker(0, 2, 1);
+    maker(0, 1, 0);
+    maker(1, 1, 1);
+    maker(1, 2, 1);
+    maker(1, 1, 0);
+    maker(2, 0, 1);
+    maker(2, 1, 1);
+    maker(2, 0, 0);
+    maker(3, 0, 1);
+    maker(3, 1, 1);
+    maker(3, 0, 0);
+    maker(4, 0, 1);
+    maker(4, 1, 1);
+    maker(4, 0, 0);
+    maker(5, 0, 1);
+}
+
 // Not from 0; falling; not ending at the element count; row 2 empty and row 3 not; row 2 with columns 1, 0; row 1 with columns 0, 0, 1.
 fn row_starts() {
     row_start(0, 1);
@@ -310,6 +389,8 @@ fn main() {
     counts();
     tables();
     node_rows();
+    maker_words();
+    makers();
     row_starts();
     columns();
 }

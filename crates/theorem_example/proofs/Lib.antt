@@ -1,3 +1,4 @@
 pub mod WorkedExample
 pub mod UncrossedExample
 pub mod EdgeExample
+pub mod MakerExample

@@ -1,1 +1,1 @@
-// The worked example of docs/DEMAND-3.md, and virtual storages whose volume is out of its range, computed from the definitions. No code.
+// The worked example of docs/DEMAND-3.md, virtual storages whose volume is out of its range, and rows' makers, computed from the definitions. No code.

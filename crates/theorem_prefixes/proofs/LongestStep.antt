@@ -1,16 +1,17 @@
 -- A step file for 256 nodes, 64 aggregates and 32 virtual storages is read to its end, so that no fewer bytes decide the answer. Assumes nothing.
 use mathlib.Core.Path.{_≡_, refl, sym, ap, _∙_}
 use Prim.Native.Nat.{ℕ, zero, suc, _+_, _*_, _-_, _<_, _≤_}
+use native.Mathlib.Nat.{mul-suc}
 use native.Mathlib.Omega.{arith}
 use mathlib.Core.Bool.{Bool, true, false, cond, not, _&&_, _||_}
 use mathlib.Core.List.{List, [], _∷_, _++_, append-assoc}
 use mathlib.Core.Option.{Option, none, some}
-use lib.ListN.{length, getD, take, drop, replicate, length-append, length-replicate}
+use lib.ListN.{length, getD, take, drop, replicate, length-append, length-replicate, List·getD-append}
 use lib.Seq.{take-append-le, getD-append-add}
-use lib.Dec.{leb, eqb, leb→le, nleb→lt}
+use lib.Dec.{leb, eqb, leb→le, nleb→lt, lit≤}
 use lib.Ieee.{Float}
 use borrow.Author.Tests.{le-leb, lt-leb, eq-eqb}
-use Rattle.layout.specs.Layout.{aggregatesAt, edgesAt, nodeRowsAt, rowStartsLength, shapeLength, stepWorkLength, virtualStoragesAt}
+use Rattle.layout.specs.Layout.{aggregatesAt, edgesAt, makersAt, nodeRowsAt, rowStartsLength, shapeLength, stepWorkLength, virtualStoragesAt}
 use Rattle.laws.proofs.Tests.{by-cases}
 use Rattle.pywr.specs.declared.Interval.{Interval}
 use Rattle.pywr.specs.declared.NodeBounds.{NodeBounds}
@@ -23,7 +24,7 @@ use Rattle.pywr.specs.StepFile.{NodeStep, StepFile, expectMark, daysIn, readDat
 use Rattle.pywr.specs.StepFile.{readNodeStep, readNodeSteps, readAggregateStep, readAggregateSteps, readVirtualStorageStep, readVirtualStorageSteps, readStep}
 use Rattle.pywr.specs.StepIntervals.{Intervals, firstCrossed, unless, ordered}
 use Rattle.pywr.specs.Store.{Store, storeHasRoom, word, nodeEntry, virtualStorageEntry, shapeOf, columnsOfRow}
-use Rattle.pywr.specs.Misshapen.{countsFit, startsRise, columnsRise, rowColumnsRise, nodeFits, edgeFits, nodeRowFits, aggregateFits, virtualStorageFits, allEntries, wellShaped}
+use Rattle.pywr.specs.Misshapen.{countsFit, startsRise, columnsRise, rowColumnsRise, nodeFits, edgeFits, nodeRowFits, aggregateFits, virtualStorageFits, makersOfKind, makerFits, allEntries, wellShaped}
 use Rattle.pywr.specs.Calls.{stepRoom, stepRead, stepAnswer}
 use Rattle.pywr.specs.Compute.{computing}
 use Rattle.store_shape.proofs.EntryLaws.{entries-length}
@@ -239,6 +240,10 @@ zeros-at (suc n) (suc i) = zeros-at n i
 abbrev counts : List ℕ
 counts = 0 ∷ 256 ∷ 0 ∷ 0 ∷ 0 ∷ 1 ∷ 0 ∷ 0 ∷ 0 ∷ 64 ∷ 32 ∷ []
 
+-- zeros up to the count of row 0's makers, which is 1
+abbrev rest : List ℕ
+rest = zeros 19714 ++ (1 ∷ zeros 3069)
+
 unfoldable doubles : ℕ → List Float
 doubles n = replicate n zero64
 
@@ -257,17 +262,30 @@ wide =
       elements = doubles 4096;
       columns = zeros 4096;
       rowStarts = zeros rowStartsLength;
-      shape = counts ++ zeros 19712;
+      shape = counts ++ rest;
     }
 
-word-zero : (at : ℕ) → 11 ≤ at → word wide at ≡ 0
-word-zero at h =
-    ap (word wide) (let k : at ≡ 11 + (at - 11) = omega arith in k) ∙ getD-append-add counts (zeros 19712) (at - 11) 0 ∙ zeros-at 19712 (at - 11)
+word-zero : (at : ℕ) → 11 ≤ at → at < makersAt + 2 → word wide at ≡ 0
+word-zero at h k =
+    ap (word wide) (let e : at ≡ 11 + (at - 11) = omega arith in e)
+    ∙ getD-append-add counts rest (at - 11) 0
+    ∙ List·getD-append (zeros 19714) (1 ∷ zeros 3069) 0 (at - 11) (let l = zeros-length 19714 in omega arith)
+    ∙ zeros-at 19714 (at - 11)
 
-entries-pass : (test : ℕ → Bool) → ((at : ℕ) → 11 ≤ at → test at ≡ true) → (words at count : ℕ) → 11 ≤ at → allEntries test words at count ≡ true
+shared-by-one : word wide (makersAt + 2) ≡ 1
+shared-by-one =
+    getD-append-add counts rest 19714 0
+    ∙ ap (λ (n : ℕ). getD rest n 0) (let l = zeros-length 19714 in let e : 19714 ≡ length (zeros 19714) + 0 = omega arith in e)
+    ∙ getD-append-add (zeros 19714) (1 ∷ zeros 3069) 0 0
+
+-- a table before the makers'
+entries-pass : (test : ℕ → Bool) → ((at : ℕ) → 11 ≤ at → at < makersAt → test at ≡ true) → (words at count : ℕ) → 11 ≤ at → at + suc words * count ≤ makersAt
+    → allEntries test (suc words) at count ≡ true
 unfolding allEntries
-entries-pass test all words at zero h = refl
-entries-pass test all words at (suc count) h = both-true (test at) _ (all at h) (entries-pass test all words (at + words) count (omega arith))
+entries-pass test all words at zero h k = refl
+entries-pass test all words at (suc count) h k =
+    let e = mul-suc (suc words) count in
+    both-true (test at) _ (all at h (omega arith)) (entries-pass test all words (at + suc words) count (omega arith) (omega arith))
 
 first-start : getD (zeros rowStartsLength) 0 0 ≡ 0
 first-start = zeros-at rowStartsLength 0
@@ -287,17 +305,21 @@ none-pass : (test : ℕ → Bool) (words at : ℕ) → allEntries test words at 
 unfolding allEntries
 none-pass test words at = refl
 
-node-fits : (at : ℕ) → 11 ≤ at → nodeFits wide at ≡ true
+node-fits : (at : ℕ) → 11 ≤ at → at < makersAt → nodeFits wide at ≡ true
 unfolding nodeFits
-node-fits at h = rw (word-zero at h, word-zero (at + 1) (omega arith))
+node-fits at h k = rw (word-zero at h (omega arith), word-zero (at + 1) (omega arith) (omega arith))
 
-aggregate-fits : (at : ℕ) → 11 ≤ at → aggregateFits wide at ≡ true
+aggregate-fits : (at : ℕ) → 11 ≤ at → at < makersAt → aggregateFits wide at ≡ true
 unfolding aggregateFits
-aggregate-fits at h = rw (word-zero at h)
+aggregate-fits at h k = rw (word-zero at h (omega arith))
 
-virtual-storage-fits : (at : ℕ) → 11 ≤ at → virtualStorageFits wide at ≡ true
+virtual-storage-fits : (at : ℕ) → 11 ≤ at → at < makersAt → virtualStorageFits wide at ≡ true
 unfolding virtualStorageFits
-virtual-storage-fits at h = rw (word-zero at h, word-zero (at + 1) (omega arith))
+virtual-storage-fits at h k = rw (word-zero at h (omega arith), word-zero (at + 1) (omega arith) (omega arith))
+
+makers-pass : allEntries (makerFits wide) 3 makersAt 1 ≡ true
+unfolding allEntries makerFits makersOfKind
+makers-pass = rw (word-zero makersAt (lit≤ tt) (lit≤ tt), word-zero (makersAt + 1) (lit≤ tt) (lit≤ tt), shared-by-one)
 
 wide-shaped : wellShaped wide ≡ true
 unfolding wellShaped countsFit
@@ -305,13 +327,14 @@ wide-shaped =
     rw (
       starts-pass,
       rows-pass,
-      entries-pass (nodeFits wide) node-fits 2 11 256 (omega arith),
+      entries-pass (nodeFits wide) node-fits 1 11 256 (omega arith) (omega arith),
       none-pass (edgeFits wide) 3 edgesAt,
       none-pass
           (nodeRowFits wide) 4 nodeRowsAt,
-      entries-pass (aggregateFits wide) aggregate-fits 1 aggregatesAt 64 (omega arith),
+      entries-pass (aggregateFits wide) aggregate-fits 0 aggregatesAt 64 (omega arith) (omega arith),
       entries-pass (virtualStorageFits wide)
-          virtual-storage-fits 6 virtualStoragesAt 32 (omega arith),
+          virtual-storage-fits 5 virtualStoragesAt 32 (omega arith) (omega arith),
+      makers-pass,
     )
 
 long-enough : {A : Type 0} (n : ℕ) (l : List A) → length l ≡ n → leb n (length l) ≡ true
@@ -328,7 +351,7 @@ wide-room =
       long-enough 4096 (zeros 4096) (zeros-length 4096),
       long-enough rowStartsLength (zeros rowStartsLength)
           (zeros-length rowStartsLength),
-      long-enough shapeLength (counts ++ zeros 19712) (let k = zeros-length 19712 in omega arith),
+      long-enough shapeLength (counts ++ rest) (let k = zeros-length 19714 in let l = zeros-length 3069 in let m = length-append (zeros 19714) (1 ∷ zeros 3069) in omega arith),
       long-enough stepWorkLength
           (doubles stepWorkLength) (doubles-length stepWorkLength),
     )

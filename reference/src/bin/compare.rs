@@ -1,21 +1,24 @@
 //! compare [PORT] [--from INDEX] [--out DIR] SEED COUNT: cases INDEX up to INDEX + COUNT of SEED, the port beside the reference.
-//! compare [PORT] --case FILE: one case that was written out. PORT is `--library` (with the feature `library`) or `--lister PROGRAM`;
-//! without it the reference runs alone.
+//! compare [PORT] --case FILE: one case that was written out. PORT is `--library` (with the feature `library`), `--lister PROGRAM` or
+//! `--namer PROGRAM`; without it the reference runs alone.
 use pywr_reference::comparison::{self, Tally};
 use pywr_reference::generate::{self, Case};
 use pywr_reference::port::Port;
-use pywr_reference::{case_file, port_lister::Lister};
+use pywr_reference::{case_file, port_lister::Lister, port_namer::Namer};
 use std::panic::{AssertUnwindSafe, catch_unwind};
 use std::time::{Duration, Instant};
 
 const MOST_FAILURES: u64 = 20;
-const USAGE: &str = "compare [--library | --lister PROGRAM] [--from INDEX] [--out DIR] SEED COUNT
-compare [--library | --lister PROGRAM] --case FILE";
+/// A run of so many networks must have tried everything that the port has to try.
+const LONG_RUN: u64 = 1000;
+const USAGE: &str = "compare [--library | --lister PROGRAM | --namer PROGRAM] [--from INDEX] [--out DIR] SEED COUNT
+compare [--library | --lister PROGRAM | --namer PROGRAM] --case FILE";
 
 #[derive(Default)]
 struct Arguments {
     library: bool,
     lister: Option<String>,
+    namer: Option<String>,
     case: Option<String>,
     out: String,
     from: u64,
@@ -29,6 +32,7 @@ fn arguments() -> Option<Arguments> {
         match word.as_str() {
             "--library" => read.library = true,
             "--lister" => read.lister = Some(words.next()?),
+            "--namer" => read.namer = Some(words.next()?),
             "--case" => read.case = Some(words.next()?),
             "--out" => read.out = words.next()?,
             "--from" => read.from = words.next()?.parse().ok()?,
@@ -44,10 +48,7 @@ fn main() {
         eprintln!("{USAGE}");
         std::process::exit(2);
     };
-    let mut port: Option<Box<dyn Port>> = arguments.lister.as_ref().map(|program| Box::new(Lister::new(program.into())) as _);
-    if arguments.library {
-        port = Some(library());
-    }
+    let mut port = port(&arguments);
     let mut tally = Tally::default();
     let failures = match &arguments.case {
         Some(path) => replay(path, &mut port, &mut tally),
@@ -56,15 +57,35 @@ fn main() {
     println!("networks {}, compared {}; {}", tally.builds.total(), tally.builds_compared, tally.builds.text());
     println!("steps {}, compared {}; {}", tally.steps.total(), tally.steps_compared, tally.steps.text());
     let compared = port.as_deref().is_none_or(|port| all_compared(port, &tally));
-    if let Some(report) = port.and_then(|port| port.report()) {
-        println!("{report}");
-    }
+    let tried = port.as_deref().is_none_or(|port| tell_tried(port, tally.builds.total()));
     println!("the Rust's own 15, retired: {}", tally.retired());
     println!("differences {failures}");
     if !compared {
         println!("not everything that was run was compared, or nothing was run");
     }
-    std::process::exit((failures > 0 || tally.retired() > 0 || !compared) as i32);
+    drop(port);
+    std::process::exit((failures > 0 || tally.retired() > 0 || !compared || !tried) as i32);
+}
+
+fn port(arguments: &Arguments) -> Option<Box<dyn Port>> {
+    match (&arguments.lister, &arguments.namer) {
+        _ if arguments.library => Some(library()),
+        (Some(program), _) => Some(Box::new(Lister::new(program.into()))),
+        (_, Some(program)) => Some(Box::new(Namer::new(program.into()))),
+        _ => None,
+    }
+}
+
+/// What the port has tried of its own; whether a long run has tried all of it.
+fn tell_tried(port: &dyn Port, networks: u64) -> bool {
+    if let Some(report) = port.report() {
+        println!("{report}");
+    }
+    let untried = port.untried().filter(|_| networks >= LONG_RUN);
+    if let Some(untried) = &untried {
+        println!("never tried: {untried}");
+    }
+    untried.is_none()
 }
 
 /// With a port, a run that compares nothing has found nothing out.
@@ -123,9 +144,10 @@ fn run(arguments: &Arguments, port: &mut Option<Box<dyn Port>>, tally: &mut Tall
 
 fn write_out(arguments: &Arguments, index: u64, case: &Case, difference: &str) {
     let path = format!("{}/{}-{index}.case", arguments.out, arguments.numbers[0]);
-    let port = match (&arguments.lister, arguments.library) {
-        (_, true) => " --library".into(),
+    let port = match (&arguments.lister, &arguments.namer) {
+        _ if arguments.library => " --library".into(),
         (Some(program), _) => format!(" --lister {program}"),
+        (_, Some(program)) => format!(" --namer {program}"),
         _ => String::new(),
     };
     let replay = format!("compare{port} --case {path}");

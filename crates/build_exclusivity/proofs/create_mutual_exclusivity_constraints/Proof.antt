@@ -1,16 +1,18 @@
 -- `build_exclusivity::create_mutual_exclusivity_constraints` meets its contract: the rows of the first i aggregates are held. Assumes nothing.
 use mathlib.Core.Path.{_≡_, refl, _∙_}
-use Prim.Native.Nat.{_-_}
+use Prim.Native.Nat.{_-_, _≤_}
 use native.Mathlib.Omega.{arith}
 use lib.ListN.{length}
 use Rattle.pywr.specs.Rows.{columnMap}
 use Rattle.network_edge.specs.Edge.{edgePlace}
 use Rattle.network_laws.specs.NetworkAt.{networkAt}
 use Rattle.build_node_row.specs.Tables.{networkOf}
-use Rattle.build_append.proofs.AddingRows.{adding-holding}
+use Rattle.layout.specs.Layout.{shapeMadeAt, wordsLength}
+use Rattle.laws.proofs.Tails.{tail-kept, tail-length}
+use Rattle.build_makers.proofs.Making.{making-holding}
 use Rattle.build_exclusivity.specs.ExclusivityRow.{MapOf}
 use Rattle.build_exclusivity.proofs.KnownSets.{aggregate-inside, aggregate-starts, known-sets, map-of}
-use Rattle.build_exclusivity.proofs.ExclusivityRows.{AddingAggregates, aggregates-first, aggregate-more, aggregate-over, aggregates-done}
+use Rattle.build_exclusivity.proofs.ExclusivityRows.{AddingAggregates, aggregates-first, aggregate-more, aggregate-over, aggregate-rise, aggregates-done}
 use borrow.Author.Needs.{needs}
 use Rattle.build_exclusivity.proofs.create_mutual_exclusivity_constraints.Statement.{statement}
 use Rattle.build_exclusivity.proofs.create_mutual_exclusivity_constraints.Tie as tie
@@ -44,6 +46,18 @@ to-loop c =
     let after-add-exclusivity-row = to-add-exclusivity-row (c .before .before) in
     let in-loop = to-in-loop after-add-exclusivity-row in
     in-loop .before
+
+abbrev to-slice-known4 : tie.After-known-told Inv-loop μ-loop → tie.After-slice-known4 Inv-loop μ-loop
+to-slice-known4 c =
+    c .before .before .before
+
+abbrev to-put-makers : tie.After-aggregate-end Inv-loop μ-loop → tie.After-put-makers Inv-loop μ-loop
+to-put-makers c =
+    c .before .before .before
+
+abbrev to-known-told : tie.After-put-makers Inv-loop μ-loop → tie.After-known-told Inv-loop μ-loop
+to-known-told c =
+    c .before .before .before
 
 -- the column map of the network
 map-is : (c : tie.Start Inv-loop μ-loop) → MapOf (c .args .s .now) (c .args .set-at .now) (c .args .sets) (c .args .edge-columns) (columnMap (networkOf (c .args .s .now) (c .args .c)))
@@ -79,7 +93,7 @@ add-exclusivity-row-requires c κs =
       aggregate-starts _ _ _ _ _ _ (p .0) _ (in-loop .loop-test .taken) _ (adding at-loop .stands),
       known-sets _ _ _ _ _ _ (p .0) _ (in-loop .loop-test .taken) _ (adding at-loop .stands) _ _ (p .1) (p .2),
       record { words-room = omega (arith, l .1, p .5 .words-room); numbers-room = omega (arith, l .2, p .5 .numbers-room) },
-      adding-holding _ _ _ _ _ _ (l .0 .adding _ (map-is (start)) (p .6 .rows) (p .6 .held)),
+      making-holding _ _ _ _ _ _ _ _ (l .0 .making _ (map-is (start)) (p .6 .rows) (p .6 .makers) (p .6 .held)),
     )
 
 same-length : tie.Need-same-length Inv-loop μ-loop
@@ -97,27 +111,58 @@ returns c =
     let in-loop = to-in-loop after-add-exclusivity-row in
     let at-loop = in-loop .before in
     let start = to-start at-loop in
-    aggregate-over _ _ _ _ _ _ _ _ _ _ _ _ (adding at-loop) (in-loop .loop-test .taken) _ _ _ (after-add-exclusivity-row .add-exclusivity-row .ensures)
+    aggregate-over _ _ _ _ _ _ _ _ _ _ _ _ (adding at-loop) (in-loop .loop-test .taken) _ refl _ _ _ (after-add-exclusivity-row .add-exclusivity-row .ensures)
     (c .enum-told .given .1) _ (map-is (start))
+
+-- the words after the row are long enough
+room : (c : tie.After-known-told Inv-loop μ-loop) → wordsLength ≤ length (to-add-exclusivity-row (to-slice-known4 c) .add-exclusivity-row .last .1 .1 .1 .1 .1 .0)
+room c =
+    let after-add-exclusivity-row = to-add-exclusivity-row (to-slice-known4 c) in
+    let at-loop = to-in-loop after-add-exclusivity-row .before in
+    omega (arith, after-add-exclusivity-row .add-exclusivity-row .kept .1 .1 .1 .1 .1 .0, at-loop .loop .inv .1, to-start at-loop .pre .5 .words-room)
+
+part-put-makers : tie.Need-part-put-makers-start Inv-loop μ-loop
+part-put-makers c =
+    omega (arith, room c)
+
+narrow16-requires : tie.Need-narrow16-requires Inv-loop μ-loop
+narrow16-requires c κs =
+    let after-add-exclusivity-row = to-add-exclusivity-row (to-slice-known4 (c .before)) in
+    let in-loop = to-in-loop after-add-exclusivity-row in
+    omega (arith, in-loop .loop-test .taken, to-start (in-loop .before) .pre .0 .few-aggregates)
+
+put-makers-requires : tie.Need-put-makers-requires Inv-loop μ-loop
+put-makers-requires c κs =
+    let after-known-told = c .before .before in
+    let after-add-exclusivity-row = to-add-exclusivity-row (to-slice-known4 after-known-told) in
+    let in-loop = to-in-loop after-add-exclusivity-row in
+    let at-loop = in-loop .before in
+    let start = to-start at-loop in
+    let h = start .pre .6 in
+    let rise = aggregate-rise _ _ _ _ _ _ _ _ _ _ _ _ (at-loop .loop .inv .0) (in-loop .loop-test .taken) _ (c .narrow16 .ensures) _ _ _
+    (after-add-exclusivity-row .add-exclusivity-row .ensures) _ (after-known-told .before .r .given .1) _ (map-is start) (h .rows) (h .makers) (h .held) in
+    (rise .0, rise .1, omega (arith, room after-known-told, tail-length shapeMadeAt (after-add-exclusivity-row .add-exclusivity-row .last .1 .1 .1 .1 .1 .0)))
 
 aggregate-end-requires : tie.Need-aggregate-end-requires Inv-loop μ-loop
 aggregate-end-requires c κs =
-    let in-loop = to-in-loop (to-add-exclusivity-row (c .before .before .before)) in
+    let after-put-makers = c .before .before in
+    let in-loop = to-in-loop (to-add-exclusivity-row (to-slice-known4 (to-known-told after-put-makers))) in
     let at-loop = in-loop .before in
     let start = to-start at-loop in
     aggregate-inside _ _ _ _ _ _ (start .pre .0) _ (in-loop .loop-test .taken) _ (adding at-loop .stands)
 
 loop-again : tie.Need-loop-again Inv-loop μ-loop
 loop-again c =
-    let at-match-keys2 = c .before .before .before in
-    let after-slice-known3 = at-match-keys2 .before .before .before in
-    let after-add-exclusivity-row = after-slice-known3 .before .before in
-    let after-add-exclusivity-row-arg = after-add-exclusivity-row .before .before .before in
-    let in-loop = after-add-exclusivity-row-arg .before in
-    let at-loop = in-loop .before in (
-      rw (c .aggregate-end .ensures) (aggregate-more _ _ _ _ _ _ _ _ _ _ _ _ (at-loop .loop .inv .0) (in-loop .loop-test .taken) _ _ _
-          (after-add-exclusivity-row .add-exclusivity-row .ensures) _ (c .before .before .r .given .1)),
-      after-add-exclusivity-row .add-exclusivity-row .kept .1 .1 .1 .1 .1 .0 ∙ at-loop .loop .inv .1,
+    let after-put-makers = to-put-makers c in
+    let after-known-told = to-known-told after-put-makers in
+    let after-add-exclusivity-row = to-add-exclusivity-row (to-slice-known4 after-known-told) in
+    let in-loop = to-in-loop after-add-exclusivity-row in
+    let at-loop = in-loop .before in
+    let words₁ = after-add-exclusivity-row .add-exclusivity-row .last .1 .1 .1 .1 .1 .0 in (
+      rw (c .aggregate-end .ensures) (aggregate-more _ _ _ _ _ _ _ _ _ _ _ _ (at-loop .loop .inv .0) (in-loop .loop-test .taken) _ (after-put-makers .before .narrow16 .ensures) _ _ _
+          (after-add-exclusivity-row .add-exclusivity-row .ensures) _ (after-known-told .before .r .given .1) _ (room after-known-told) (after-put-makers .put-makers .ensures)),
+      tail-kept shapeMadeAt words₁ (after-put-makers .put-makers .last .0) (after-put-makers .put-makers .kept .0)
+          ∙ after-add-exclusivity-row .add-exclusivity-row .kept .1 .1 .1 .1 .1 .0 ∙ at-loop .loop .inv .1,
       after-add-exclusivity-row .add-exclusivity-row .kept .1 .1 .1 .1 .1 .1 .0 ∙ at-loop .loop .inv .2,
     )
 
@@ -149,6 +194,11 @@ create-mutual-exclusivity-constraints-spec =
     same-length-2
     returns
     (λ c. search needs)
+    part-put-makers
+    part-put-makers
+    (λ c. search needs)
+    narrow16-requires
+    put-makers-requires
     aggregate-end-requires
     (λ c. search needs)
     (λ c. search needs)

@@ -4,22 +4,26 @@ use Prim.Native.Nat.{_-_, _≤_}
 use native.Mathlib.Omega.{arith}
 use mathlib.Core.List.{List, _++_}
 use lib.ListN.{length, drop}
+use Rattle.layout.specs.Layout.{shapeMadeAt, wordsLength}
+use Rattle.laws.proofs.Tails.{tail-kept, tail-length}
 use Rattle.pywr.specs.Rows.{columnMap}
 use Rattle.pywr.specs.FixedRows.{massRowsFrom}
-use Rattle.pywr.specs.Programme.{Row}
-use Rattle.build_append.specs.LpBuilder.{RowsHeld}
+use Rattle.pywr.specs.Programme.{Row, Maker, byMass}
+use Rattle.pywr.specs.Makers.{massMakers}
+use Rattle.pywr.proofs.MakerLaws.{masses-in-turn}
 use Rattle.build_node_row.specs.Tables.{networkOf}
-use Rattle.build_append.proofs.AddingRows.{Adding, adding-first, adding-holding}
-use Rattle.build_append.proofs.NodeFixedRows.{node-more, node-over, nodes-done}
-use Rattle.build_mass.proofs.MassRows.{by-node}
+use Rattle.build_makers.specs.MadeRows.{MadeHeld}
+use Rattle.build_makers.proofs.Making.{Making, making-first, making-holding}
+use Rattle.build_makers.proofs.NodeMakers.{node-more, node-over, node-rise, nodes-done}
 use borrow.Author.Needs.{needs}
 use Rattle.build_mass.proofs.create_mass_balance_constraints.Statement.{statement}
 use Rattle.build_mass.proofs.create_mass_balance_constraints.Tie as tie
 
 abbrev Inv-loop : tie.InvT-loop
 Inv-loop s c first-in next-in first-out next-out edge-to-col words₀ numbers₀ columns₀ nodes filled₀ i₀ words numbers columns filled i =
-    (i ≤ nodes) × ((rows : List Row) → RowsHeld rows words₀ numbers₀ filled₀
-    → Adding (rows ++ massRowsFrom (columnMap (networkOf s c)) 0 (networkOf s c .nodes)) (massRowsFrom (columnMap (networkOf s c)) i (drop i (networkOf s c .nodes))) words₀ words numbers filled)
+    (i ≤ nodes) × ((rows : List Row) (makers : List Maker) → MadeHeld rows makers words₀ numbers₀ filled₀
+    → Making (rows ++ massRowsFrom (columnMap (networkOf s c)) 0 (networkOf s c .nodes)) (massRowsFrom (columnMap (networkOf s c)) i (drop i (networkOf s c .nodes)))
+    (makers ++ massMakers (columnMap (networkOf s c)) 0 (networkOf s c .nodes)) (massMakers (columnMap (networkOf s c)) i (drop i (networkOf s c .nodes))) words₀ words numbers filled)
     × (length words ≡ length words₀) × (length numbers ≡ length numbers₀)
 
 abbrev μ-loop : tie.MeasureT-loop
@@ -41,21 +45,22 @@ to-add-mass-row c =
     let after-words = c .before .before .before in
     after-words .before
 
-abbrev to-loop : tie.After-slice-known4 Inv-loop μ-loop → tie.At-loop Inv-loop μ-loop
-to-loop c =
-    let after-add-mass-row = to-add-mass-row c in
-    let after-narrow16 = to-narrow16 after-add-mass-row in
-    after-narrow16 .before .before
-
-abbrev to-in-loop : tie.After-known-told Inv-loop μ-loop → tie.In-loop Inv-loop μ-loop
+abbrev to-in-loop : tie.After-add-mass-row Inv-loop μ-loop → tie.In-loop Inv-loop μ-loop
 to-in-loop c =
-    let after-add-mass-row = to-add-mass-row (c .before .before .before) in
-    let after-narrow16 = to-narrow16 after-add-mass-row in
-    after-narrow16 .before
+    to-narrow16 c .before
+
+abbrev to-slice-known4 : tie.After-known-told Inv-loop μ-loop → tie.After-slice-known4 Inv-loop μ-loop
+to-slice-known4 c =
+    c .before .before .before
+
+abbrev to-known-told : tie.After-slice-known5 Inv-loop μ-loop → tie.After-known-told Inv-loop μ-loop
+to-known-told c =
+    let after-put-makers = c .before .before in
+    after-put-makers .before .before
 
 loop-holds : tie.Need-loop-holds Inv-loop μ-loop
 loop-holds c =
-    (search needs, (λ rows h. adding-first rows _ _ _ _ h), refl, refl)
+    (search needs, (λ rows makers h. making-first rows _ makers _ _ _ _ h), refl, refl)
 
 narrow16-requires : tie.Need-narrow16-requires Inv-loop μ-loop
 narrow16-requires c κs =
@@ -75,37 +80,70 @@ add-mass-row-requires c κs =
         numbers-room = omega
             (arith, l .3, start .pre .1 .numbers-room);
       },
-      adding-holding _ _ _ _ _ _ (l .1 (start .pre .2 .rows) (start .pre .2 .held)),
+      making-holding _ _ _ _ _ _ _ _ (l .1 (start .pre .2 .rows) (start .pre .2 .makers) (start .pre .2 .held)),
     )
 
 same-length : tie.Need-same-length Inv-loop μ-loop
 same-length c =
-    to-add-mass-row (c .before .before) .add-mass-row .kept .1 .1 .1 .1 .1 .1 .1 .1 .0 ∙ to-loop (c .before .before) .loop .inv .2
+    let after-add-mass-row = to-add-mass-row (c .before .before) in
+    after-add-mass-row .add-mass-row .kept .1 .1 .1 .1 .1 .1 .1 .1 .0 ∙ to-in-loop after-add-mass-row .before .loop .inv .2
 
 same-length-2 : tie.Need-same-length-2 Inv-loop μ-loop
 same-length-2 c =
-    to-add-mass-row (c .before .before) .add-mass-row .kept .1 .1 .1 .1 .1 .1 .1 .1 .1 .0 ∙ to-loop (c .before .before) .loop .inv .3
+    let after-add-mass-row = to-add-mass-row (c .before .before) in
+    after-add-mass-row .add-mass-row .kept .1 .1 .1 .1 .1 .1 .1 .1 .1 .0 ∙ to-in-loop after-add-mass-row .before .loop .inv .3
 
 returns : tie.Need-returns Inv-loop μ-loop
+unfolding massMakers
 returns c =
     let after-add-mass-row = to-add-mass-row (c .before .before) in
     let after-narrow16 = to-narrow16 after-add-mass-row in
     let in-loop = after-narrow16 .before in
     let at-loop = in-loop .before in
+    λ rows makers h. node-over byMass (massRowsFrom _) (masses-in-turn _) _ _ _ _ _ _ _ _ _ _ _ _ (at-loop .loop .inv .1 rows makers h)
+    (in-loop .loop-test .taken) _ (after-narrow16 .narrow16 .ensures) _ _ _ (after-add-mass-row .add-mass-row .ensures) (c .enum-told .given .1)
+
+-- the words after the rows are long enough
+room : (c : tie.After-known-told Inv-loop μ-loop) → wordsLength ≤ length (to-add-mass-row (to-slice-known4 c) .add-mass-row .last .1 .1 .1 .1 .1 .1 .1 .1 .0)
+room c =
+    let after-add-mass-row = to-add-mass-row (to-slice-known4 c) in
+    let at-loop = to-in-loop after-add-mass-row .before in
+    omega (arith, after-add-mass-row .add-mass-row .kept .1 .1 .1 .1 .1 .1 .1 .1 .0, at-loop .loop .inv .2, to-start at-loop .pre .1 .words-room)
+
+put-makers-requires : tie.Need-put-makers-requires Inv-loop μ-loop
+unfolding massMakers
+put-makers-requires c κs =
+    let after-known-told = c .before in
+    let after-add-mass-row = to-add-mass-row (to-slice-known4 after-known-told) in
+    let after-narrow16 = to-narrow16 after-add-mass-row in
+    let in-loop = after-narrow16 .before in
+    let at-loop = in-loop .before in
     let start = to-start at-loop in
-    λ rows h. node-over (massRowsFrom (columnMap (networkOf (start .args .s .now) (start .args .c)))) (by-node _) _ _ _ _ _ _ _ _ _ _ _
-    (at-loop .loop .inv .1 rows h) (in-loop .loop-test .taken) _ (after-narrow16 .narrow16 .ensures) _ _ _ (after-add-mass-row .add-mass-row .ensures) (c .enum-told .given .1)
+    let h = start .pre .2 in
+    let rise = node-rise byMass (massRowsFrom _) (masses-in-turn _) _ _ _ _ _ _ _ _ _ _ _ _ (at-loop .loop .inv .1 (h .rows) (h .makers) (h .held))
+    (in-loop .loop-test .taken) _ (after-narrow16 .narrow16 .ensures) _ _ _ (after-add-mass-row .add-mass-row .ensures) _ (after-known-told .before .r .given .1) in
+    (rise .0, rise .1, omega (arith, room after-known-told, tail-length shapeMadeAt (after-add-mass-row .add-mass-row .last .1 .1 .1 .1 .1 .1 .1 .1 .0)))
+
+part-put-makers : tie.Need-part-put-makers-start Inv-loop μ-loop
+part-put-makers c =
+    omega (arith, room c)
 
 loop-again : tie.Need-loop-again Inv-loop μ-loop
+unfolding massMakers
 loop-again c =
-    let after-add-mass-row = to-add-mass-row (c .before .before .before) in
-    let at-loop = to-loop (c .before .before .before) in
-    let start = to-start at-loop in (
-      omega (arith, to-in-loop c .loop-test .taken),
-      (λ rows h. node-more (massRowsFrom (columnMap (networkOf (start .args .s .now) (start .args .c)))) (by-node _) _ _ _ _ _ _ _ _ _ _ _
-          (at-loop .loop .inv .1 rows h) (to-in-loop c .loop-test .taken) _ (to-narrow16 (to-add-mass-row (c .before .before .before)) .narrow16 .ensures) _ _ _
-          (after-add-mass-row .add-mass-row .ensures) _ (c .before .r .given .1)),
-      after-add-mass-row .add-mass-row .kept .1 .1 .1 .1 .1 .1 .1 .1 .0 ∙ at-loop .loop .inv .2,
+    let after-put-makers = c .before .before in
+    let after-known-told = to-known-told c in
+    let after-add-mass-row = to-add-mass-row (to-slice-known4 after-known-told) in
+    let after-narrow16 = to-narrow16 after-add-mass-row in
+    let in-loop = after-narrow16 .before in
+    let at-loop = in-loop .before in
+    let words₁ = after-add-mass-row .add-mass-row .last .1 .1 .1 .1 .1 .1 .1 .1 .0 in (
+      omega (arith, in-loop .loop-test .taken),
+      (λ rows makers h. node-more byMass (massRowsFrom _) (masses-in-turn _) _ _ _ _ _ _ _ _ _ _ _ _ (at-loop .loop .inv .1 rows makers h)
+          (in-loop .loop-test .taken) _ (after-narrow16 .narrow16 .ensures) _ _ _ (after-add-mass-row .add-mass-row .ensures) _ (after-known-told .before .r .given .1)
+          _ (room after-known-told) (after-put-makers .put-makers .ensures)),
+      tail-kept shapeMadeAt words₁ (after-put-makers .put-makers .last .0) (after-put-makers .put-makers .kept .0)
+          ∙ after-add-mass-row .add-mass-row .kept .1 .1 .1 .1 .1 .1 .1 .1 .0 ∙ at-loop .loop .inv .2,
       after-add-mass-row .add-mass-row .kept .1 .1 .1 .1 .1 .1 .1 .1 .1 .0 ∙ at-loop .loop .inv .3,
     )
 
@@ -118,10 +156,10 @@ same-length-4 c =
     c .before .loop .inv .3
 
 returns-2 : tie.Need-returns-2 Inv-loop μ-loop
+unfolding massMakers
 returns-2 c =
     let at-loop = c .before in
-    let start = to-start at-loop in
-    λ rows h. nodes-done (massRowsFrom (columnMap (networkOf (start .args .s .now) (start .args .c)))) (by-node _) _ _ _ _ _ _ _ _ _ _ _ (at-loop .loop .inv .1 rows h) (c .loop-test .left)
+    λ rows makers h. nodes-done byMass (massRowsFrom _) (masses-in-turn _) _ _ _ _ _ _ _ _ _ _ _ _ (at-loop .loop .inv .1 rows makers h) (c .loop-test .left)
 
 pub create-mass-balance-constraints-spec : {M : Type 1} → statement M
 create-mass-balance-constraints-spec =
@@ -137,6 +175,10 @@ create-mass-balance-constraints-spec =
     same-length-2
     returns
     (λ c. search needs)
+    part-put-makers
+    part-put-makers
+    (λ c. search needs)
+    put-makers-requires
     (λ c. search needs)
     (λ c. search needs)
     loop-again

@@ -6,6 +6,7 @@ use native.Mathlib.Omega.{arith}
 use lib.ListN.{length}
 use borrow.Author.Needs.{needs}
 use Rattle.pywr.specs.Store.{Store}
+use Rattle.listing_lines.specs.Lines.{lineRoom}
 use Rattle.listing.specs.Listing.{columnsText}
 use Rattle.listing.proofs.ListingLaws.{columns-none, columns-more, columns-listed}
 use Rattle.listing.proofs.list_columns.Statement.{statement}
@@ -16,7 +17,7 @@ Inv-loop out₀ from col-lower col-upper col-obj-coef shape end at₀ written₀
     (at ≤ length out)
     × (length out ≡ length out₀)
     × (i ≤ end)
-    × (bytes ≤ 128 * i)
+    × (bytes ≤ lineRoom * i)
     × ((s : Store) → s .colLower ≡ col-lower → s .colUpper ≡ col-upper → s .colObjCoef ≡ col-obj-coef → s .shape ≡ shape → bytes ≡ length (columnsText s i))
 
 abbrev μ-loop : tie.MeasureT-loop

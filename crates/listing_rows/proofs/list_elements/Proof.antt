@@ -5,13 +5,14 @@ use Prim.Native.Nat.{_+_, _*_, _-_, _≤_}
 use native.Mathlib.Omega.{arith}
 use lib.ListN.{length}
 use borrow.Author.Needs.{needs}
+use Rattle.listing_lines.specs.Lines.{lineRoom}
 use Rattle.listing_rows.proofs.ElementLaws.{bytesFrom, bytes-none, bytes-more}
 use Rattle.listing_rows.proofs.list_elements.Statement.{statement}
 use Rattle.listing_rows.proofs.list_elements.Tie as tie
 
 abbrev Inv-loop : tie.InvT-loop
 Inv-loop out₀ from so-far columns elements first end at₀ written₀ bytes₀ i₀ out at written bytes i =
-    (at ≤ length out) × (length out ≡ length out₀) × (first ≤ i) × (i ≤ end) × (bytes ≤ 128 * (i - first))
+    (at ≤ length out) × (length out ≡ length out₀) × (first ≤ i) × (i ≤ end) × (bytes ≤ lineRoom * (i - first))
     × (bytes + bytesFrom columns elements i end ≡ bytesFrom columns elements first end) × (so-far ≡ false → written ≡ false)
 
 abbrev μ-loop : tie.MeasureT-loop

@@ -16,7 +16,7 @@ Inv-loop out₀ from so-far row-lower row-upper elements columns row-starts shap
     (at ≤ length out)
     × (length out ≡ length out₀)
     × (i ≤ end)
-    × (bytes ≤ 549755813888 * i)
+    × (bytes ≤ 1099511627776 * i)
     × (
     (s : Store) → s .rowLower ≡ row-lower → s .rowUpper ≡ row-upper → s .elements ≡ elements → s .columns ≡ columns → s .rowStarts ≡ row-starts → s .shape ≡ shape
     → bytes ≡ length (rowsText s i)

@@ -26,6 +26,11 @@ to-else1 c =
     let after-starts-rise = c .before .before .before in
     after-starts-rise .before
 
+abbrev to-nodes-fit : tie.After-virtual-storages-fit → tie.After-nodes-fit
+to-nodes-fit c =
+    let after-node-rows-fit = c .before .before in
+    after-node-rows-fit .before .before
+
 abbrev start : tie.Else1 → tie.Start
 start c = to-start c
 
@@ -89,10 +94,16 @@ virtual-storages-fit-requires : tie.Need-virtual-storages-fit-requires
 virtual-storages-fit-requires c κs =
     (to-start (to-else1 (c .before .before .before)) .pre .2, counts (to-else1 (c .before .before .before)) .virtualStorages)
 
+makers-fit-requires : tie.Need-makers-fit-requires
+makers-fit-requires c κs =
+    let else1 = to-else1 (to-nodes-fit c) in
+    (to-start else1 .pre .2, counts else1 .rows)
+
 returns-3 : tie.Need-returns-3
 unfolding wellShaped
 returns-3 c =
-    let after-aggregates-fit = c .before in
+    let after-virtual-storages-fit = c .before in
+    let after-aggregates-fit = after-virtual-storages-fit .before in
     let after-node-rows-fit = after-aggregates-fit .before in
     let after-edges-fit = after-node-rows-fit .before in
     let after-nodes-fit = after-edges-fit .before in
@@ -112,7 +123,8 @@ returns-3 c =
       after-edges-fit .edges-fit .ensures s es,
       after-node-rows-fit .node-rows-fit .ensures s ec er es,
       after-aggregates-fit .aggregates-fit .ensures s es,
-      c .virtual-storages-fit .ensures s es,
+      after-virtual-storages-fit .virtual-storages-fit .ensures s es,
+      c .makers-fit .ensures s es,
     )
 
 pub well-shaped-spec : {M : Type 1} → statement M
@@ -130,4 +142,5 @@ well-shaped-spec =
     node-rows-fit-requires
     aggregates-fit-requires
     virtual-storages-fit-requires
+    makers-fit-requires
     returns-3)

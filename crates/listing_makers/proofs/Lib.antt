@@ -1,0 +1,2 @@
+pub mod MakerLineLaws
+pub mod Example
