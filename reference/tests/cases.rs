@@ -80,7 +80,7 @@ fn hand_made_cases() {
     let list = CaseList::read(&case_list::folder()).unwrap().hand_made().unwrap();
     let checked = check(&list);
     assert!(checked.builds[0] == checked.builds[1] && checked.builds[1] > 50, "{checked:?}");
-    assert!(5 * checked.steps[1] > 3 * checked.steps[0] && checked.steps[1] > 200, "{checked:?}");
+    assert!(3 * checked.steps[1] > 2 * checked.steps[0] && checked.steps[1] > 200, "{checked:?}");
     assert!(3 * checked.listings[1] > 2 * checked.listings[0] && checked.listings[1] > 60, "{checked:?}");
 }
 

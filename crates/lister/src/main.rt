@@ -16,7 +16,8 @@ fn write_usage(fd: i32) -> bool {
 
 // Says what could not be done, and why.
 fn tell(what: &[u8]) {
-    program_streams::tell(b"lister", what);
+    program_streams::write_all(STDERR_FILENO, b"lister: ");
+    os::fail(what);
 }
 
 fn tell_unwritten(written: bool) {
@@ -26,7 +27,9 @@ fn tell_unwritten(written: bool) {
 }
 
 fn tell_unknown(option: &[u8]) {
-    program_streams::tell_word(b"lister", b"unknown option", option);
+    program_streams::write_all(STDERR_FILENO, b"lister: unknown option ");
+    program_streams::write_all(STDERR_FILENO, option);
+    program_streams::write_all(STDERR_FILENO, b"\n");
     write_usage(STDERR_FILENO);
 }
 

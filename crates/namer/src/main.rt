@@ -27,7 +27,8 @@ fn write_usage(fd: i32) -> bool {
 
 // Says what could not be done, and why.
 fn tell(what: &[u8]) {
-    program_streams::tell(b"namer", what);
+    program_streams::write_all(STDERR_FILENO, b"namer: ");
+    os::fail(what);
 }
 
 fn tell_unwritten(written: bool) {
@@ -37,7 +38,11 @@ fn tell_unwritten(written: bool) {
 }
 
 fn tell_word(wrong: &[u8], word: &[u8]) {
-    program_streams::tell_word(b"namer", wrong, word);
+    program_streams::write_all(STDERR_FILENO, b"namer: ");
+    program_streams::write_all(STDERR_FILENO, wrong);
+    program_streams::write_all(STDERR_FILENO, b" ");
+    program_streams::write_all(STDERR_FILENO, word);
+    program_streams::write_all(STDERR_FILENO, b"\n");
     write_usage(STDERR_FILENO);
 }
 

@@ -1,6 +1,5 @@
 // Bytes written whole, and files read whole: a call that moves a part is followed by one for the rest, one that a signal
-// interrupts is made again, and a failure is told apart from the end of a file. After a failure errno says why, and `tell` tells it.
-use libc::STDERR_FILENO;
+// interrupts is made again, and a failure is told apart from the end of a file. After a failure errno says why, and `os::fail` tells it.
 ghost use mathlib.Core.Path.{_≡_};
 ghost use mathlib.Core.Bool.{true};
 ghost use Prim.Native.Nat.{_≤_};
@@ -39,23 +38,6 @@ pub fn write_all(fd: i32, bytes: &[u8]) -> bool
         }
     }
     true
-}
-
-// Says on standard error what a program could not do, and why.
-pub fn tell(program: &[u8], what: &[u8]) {
-    write_all(STDERR_FILENO, program);
-    write_all(STDERR_FILENO, b": ");
-    os::fail(what);
-}
-
-// Says on standard error what is wrong with a word that a program was started with.
-pub fn tell_word(program: &[u8], wrong: &[u8], word: &[u8]) {
-    write_all(STDERR_FILENO, program);
-    write_all(STDERR_FILENO, b": ");
-    write_all(STDERR_FILENO, wrong);
-    write_all(STDERR_FILENO, b" ");
-    write_all(STDERR_FILENO, word);
-    write_all(STDERR_FILENO, b"\n");
 }
 
 // Whether a file could be read, and how many bytes of the buffer it takes.

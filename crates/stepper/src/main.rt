@@ -23,7 +23,8 @@ fn write_usage(fd: i32) -> bool {
 
 // Says what could not be done, and why.
 fn tell(what: &[u8]) {
-    program_streams::tell(b"stepper", what);
+    program_streams::write_all(STDERR_FILENO, b"stepper: ");
+    os::fail(what);
 }
 
 fn tell_unwritten(written: bool) {
@@ -33,7 +34,9 @@ fn tell_unwritten(written: bool) {
 }
 
 fn tell_unknown(option: &[u8]) {
-    program_streams::tell_word(b"stepper", b"unknown option", option);
+    program_streams::write_all(STDERR_FILENO, b"stepper: unknown option ");
+    program_streams::write_all(STDERR_FILENO, option);
+    program_streams::write_all(STDERR_FILENO, b"\n");
     write_usage(STDERR_FILENO);
 }
 

@@ -84,6 +84,11 @@ def kept():
     all_listed()
     step(STEP)
     all_stepped()
+    step(date(13, 1, 1.0) + STEP[12:], "N 13 0")
+    step(STEP[:12] + node_step(0.0, 3.0, 2.0) + STEP[46:], "N 14 0")
+    step(STEP + b"\0", "N 12 %d" % len(STEP))
+    step(STEP)
+    all_stepped()
     title("# a smaller build leaves the words of the rows behind its own: those of row 1 are still node 1's, and of row 10 aggregate 1's")
     fresh(PAIR, 1, 0, [({0: 1.0}, by(NODE, 0, 2))], [])
     for row in (1, 10):
