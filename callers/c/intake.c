@@ -1,5 +1,5 @@
-/* intake NETWORK: builds examples/intake.network, runs steps on it and prints what they leave. It exits with 1 where the network is refused
- * or its file cannot be read, with 2 where it is called otherwise. */
+/* intake NETWORK: builds examples/intake.network, prints who made each row, runs steps on it and prints what they leave. It exits with 1 where the
+ * network is refused or its file cannot be read, with 2 where it is called otherwise. */
 #include "pywr.h"
 
 #include <errno.h>

@@ -10,15 +10,16 @@ static void print_maker(const char *what, PywrMaker maker)
 
 int main(void)
 {
-    static uint16_t shape[PYWR_SHAPE];
+    /* A run may be longer than it must be: what lies behind the table of makers is none. */
+    static uint16_t shape[PYWR_SHAPE + PYWR_MAKER_WIDTH];
+    for (unsigned k = 0; k < PYWR_MAKER_WIDTH * (PYWR_ROWS + 1); k++)
+        shape[PYWR_MAKERS_AT + k] = (uint16_t)(k + 1);
     for (unsigned kind = 0; kind <= 5; kind++)
         printf("%u|%s\n", kind, pywr_maker_text((uint16_t)kind));
 
-    print_maker("never built, row 0", pywr_row_maker(shape, PYWR_SHAPE, 0));
+    print_maker("of no rows, row 0", pywr_row_maker(shape, PYWR_SHAPE, 0));
     shape[PYWR_VARYING_ROW_COUNT] = 1;
     shape[PYWR_FIXED_ROW_COUNT] = 1;
-    for (uint16_t k = 0; k < 3 * PYWR_MAKER_WIDTH; k++)
-        shape[PYWR_MAKERS_AT + k] = k + 1;
     print_maker("of two rows, row 0", pywr_row_maker(shape, PYWR_SHAPE, 0));
     print_maker("of two rows, row 1", pywr_row_maker(shape, PYWR_SHAPE, 1));
     print_maker("of two rows, row 2", pywr_row_maker(shape, PYWR_SHAPE, 2));
@@ -26,6 +27,6 @@ int main(void)
     print_maker("a shape one short, row 0", pywr_row_maker(shape, PYWR_SHAPE - 1, 0));
     shape[PYWR_FIXED_ROW_COUNT] = 65535;
     print_maker("of more rows than there can be, row 1023", pywr_row_maker(shape, PYWR_SHAPE, 1023));
-    print_maker("of more rows than there can be, row 1024", pywr_row_maker(shape, PYWR_SHAPE, 1024));
+    print_maker("of more rows than there can be, row 1024", pywr_row_maker(shape, PYWR_SHAPE + PYWR_MAKER_WIDTH, 1024));
     return 0;
 }

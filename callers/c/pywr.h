@@ -82,7 +82,7 @@ typedef struct {
 
 /* Who made a row: its first maker, and how many makers share it. One that asked for the row twice counts twice. The index counts the network
  * file's nodes, aggregates or virtual storages, from 0. */
-typedef struct pywr_maker {
+typedef struct {
     uint16_t kind, index, shared_by;
 } PywrMaker;
 

@@ -25,10 +25,6 @@ impl Tried {
         self.0[kind][fault as usize] += 1;
     }
 
-    pub fn total(&self) -> u64 {
-        self.0.iter().flatten().sum()
-    }
-
     pub fn text(&self) -> String {
         let kinds = KIND_TEXTS.iter().zip(&self.0).map(|(kind, counts)| format!("; {kind}: {counts:?}"));
         format!(

@@ -87,7 +87,7 @@ impl Library {
         Ok(())
     }
 
-    /// A word of the store's shape, row starts or columns is changed: 17 exactly where document 01 says so.
+    /// A word of the store's shape, row starts or columns is changed: 17 exactly where documents 01 and 02 say so.
     fn damaged(&mut self, step: &[u8]) -> Checked {
         let mut store = self.store.clone();
         // Every third fault is in a maker.

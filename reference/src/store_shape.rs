@@ -1,4 +1,4 @@
-//! Refusal 17 of document 01, with the makers of document 02's L5, asked of a store laid out as the repository's README says.
+//! Refusal 17 of document 01, with the makers of document 02's L5, asked of a store laid out as docs/FORMATS.md says.
 use crate::makers;
 use pywr::Store;
 

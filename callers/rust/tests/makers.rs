@@ -1,5 +1,5 @@
 //! Who made each row, and the words of the kinds, which the C header has too.
-use pywr::{BUILD_NUMBERS, BUILD_WORDS, Maker, MakerKind, STEP_WORK, Sentinel, Store};
+use pywr::{BUILD_NUMBERS, BUILD_WORDS, Maker, MakerKind, ROWS, SHAPE, STEP_WORK, Sentinel, Store};
 
 /// What the C program `makers` prints; callers/c/Makefile holds it to this.
 const TABLE: &str = include_str!("../../c/makers.out");
@@ -88,7 +88,14 @@ fn what_is_no_maker() {
     assert_eq!([store.maker(1), store.maker(2), store.maker(usize::MAX)], [None; 3]);
     store.shape.truncate(19725);
     assert_eq!(store.maker(0), None);
-    let mut store = store_of([[1, 0, 1]; 2]);
-    store.shape.fill(u16::MAX);
-    assert_eq!(store.maker(1024), None);
+}
+
+/// A run may be longer than it must be: what lies behind the table of makers is none, whatever the counts say.
+#[test]
+fn no_maker_behind_the_table() {
+    let mut store = Store::new();
+    store.shape = vec![1; SHAPE + 3];
+    (store.shape[5], store.shape[6]) = (u16::MAX, u16::MAX);
+    assert_eq!(store.maker(ROWS - 1), Some(Maker { kind: MakerKind::Node, index: 1, shared_by: 1 }));
+    assert_eq!(store.maker(ROWS), None);
 }

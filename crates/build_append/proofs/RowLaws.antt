@@ -1,6 +1,6 @@
 -- Lists of rows with one row more, a gathered row's columns and factors, and parts of a run. Assumes nothing.
 use mathlib.Core.Path.{_≡_, refl, sym, ap, ap₂, _∙_}
-use Prim.Native.Nat.{ℕ, zero, suc, _+_, _≤_}
+use Prim.Native.Nat.{ℕ, zero, suc, _+_, _-_, _≤_}
 use native.Mathlib.Nat.{add-zero}
 use native.Mathlib.Omega.{arith}
 use mathlib.Core.Bool.{Bool, true, false, _&&_}
@@ -28,6 +28,12 @@ module _ {A : Type 0} where
   -- runs that agree up to b have the same parts there
   pub part-agrees : (a n b : ℕ) (l l′ : List A) → a + n ≤ b → take b l′ ≡ take b l → part a n l′ ≡ part a n l
   part-agrees a n b l l′ h e = sym (part-take a n b l′ h) ∙ ap (part a n) e ∙ part-take a n b l h
+
+  -- runs that agree from b on have the same parts there
+  pub part-behind : (a n b : ℕ) (l l′ : List A) → b ≤ a → drop b l′ ≡ drop b l → part a n l′ ≡ part a n l
+  part-behind a n b l l′ h e =
+      let q : b + (a - b) ≡ a = omega arith in
+      rw (← q, ← (drop-drop (a - b) b l′), ← (drop-drop (a - b) b l), e)
 
   -- a part and the part behind it
   pub part-more : (l xs ys : List A) (at m b n k : ℕ) → at + m ≡ b → m + n ≡ k → part at m l ≡ xs → part b n l ≡ ys → part at k l ≡ xs ++ ys

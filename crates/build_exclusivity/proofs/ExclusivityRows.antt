@@ -4,8 +4,8 @@ use Prim.Native.Nat.{ℕ, _+_, _*_, _-_, _<_, _≤_}
 use native.Mathlib.Nat.{sub-zero}
 use native.Mathlib.Numerals.{add-one}
 use native.Mathlib.Omega.{arith}
-use mathlib.Core.Bool.{true, false, cond}
-use mathlib.Core.List.{List, [], _∷_, _++_, flatMap, append-nil}
+use mathlib.Core.Bool.{true, false}
+use mathlib.Core.List.{List, [], _∷_, _++_, flatMap}
 use lib.ListN.{length, drop, replicate}
 use lib.Seq.{sets}
 use lib.Ieee.{Float}
@@ -19,6 +19,7 @@ use Rattle.pywr.specs.FixedRows.{exclusivityRows}
 use Rattle.pywr.specs.Programme.{Row, Maker, byExclusivity}
 use Rattle.pywr.specs.Makers.{madeBy, madeInTurn, exclusivityMakers}
 use Rattle.pywr.specs.Written.{makerWords}
+use Rattle.pywr.proofs.MakerLaws.{exclusivities-in-turn}
 use Rattle.fields.specs.Records.{recordsAt, recordsEnd}
 use Rattle.fields.proofs.RecordLaws.{end-more, records-left, records-over}
 use Rattle.network_aggregate.specs.AggregatedNode.{aggregateAt, aggregateEnd}
@@ -40,14 +41,6 @@ module _ (map : ColumnMap) (a : Aggregate) where
   one : a .exclusive ≡ true → exclusivityRows map (a ∷ []) ≡ record { lower = double (a .minActive); upper = double (a .maxActive); elements = exclusivityRow map a } ∷ []
   unfolding exclusivityRows
   one x = rw x
-
-  -- the rows of the first aggregate
-  abbrev ofFirst : List Row
-  ofFirst = cond (a .exclusive) (record { lower = double (a .minActive); upper = double (a .maxActive); elements = exclusivityRow map a } ∷ []) []
-
-  split : (rest : List Aggregate) → exclusivityRows map (a ∷ rest) ≡ exclusivityRows map (a ∷ []) ++ exclusivityRows map rest
-  unfolding exclusivityRows
-  split rest = rw (append-nil ofFirst)
 
   pub no-exclusivity-row : a .exclusive ≡ false → (words : List ℕ) (numbers : List Float) (f : Filled) → Adds (exclusivityRows map (a ∷ [])) words numbers f (Done f) words numbers
   no-exclusivity-row x words numbers f = rw (none x) (adds-none words numbers f)
@@ -117,7 +110,7 @@ module _ (file : List ℕ) (MapIs : ColumnMap → Type 0) (start count : ℕ) (w
       here map m rows makers held = rw q
           (rw (
             records-left (aggregateEnd file) count i at lt (aggregateAt file),
-            split map (aggregateAt file at) others,
+            exclusivities-in-turn map .split i (aggregateAt file at) others,
             next-makers map i (aggregateAt file at) others,
           ) at (h .making map m rows makers held))
 

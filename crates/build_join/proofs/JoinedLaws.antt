@@ -7,7 +7,7 @@ use native.Mathlib.Omega.{arith}
 use mathlib.Core.Bool.{Bool, true, false, cond}
 use mathlib.Core.List.{List, [], _∷_, _++_, map, map-append, append-nil, append-assoc}
 use lib.ListN.{length, getD, take, drop, length-append, length-map, take-append-drop}
-use lib.Seq.{sets, take-all, drop-drop, length-take-le}
+use lib.Seq.{sets, take-all, length-take-le}
 use lib.Dec.{ltb}
 use lib.Ieee.{Float}
 use Rattle.layout.specs.Layout.{shapeMadeAt}
@@ -27,7 +27,7 @@ use Rattle.build_join.specs.declared.VariableRow.{VariableRow}
 use Rattle.build_join.specs.declared.VariableRow.the-variants.{At}
 use Rattle.build_append.specs.LpBuilder.{RowsHeld, withinCeilings}
 use Rattle.build_join.specs.VariableRow.{AfterVariableRow}
-use Rattle.build_append.proofs.RowLaws.{part-more}
+use Rattle.build_append.proofs.RowLaws.{part-behind, part-more}
 use Rattle.build_append.proofs.RowsHeldLaws.{held-agrees, over-more}
 use Rattle.build_join.specs.JoinedRows.{joined, AfterVariableRows}
 
@@ -90,13 +90,6 @@ module _ (s : Sentinel) (asked rows : List (List Element)) where
 
 -- ---- parts of the words
 
--- what stays from 5,121 on stays in each part there
-part-kept : (words words′ : List ℕ) (a n : ℕ) → shapeMadeAt ≤ a → drop shapeMadeAt words′ ≡ drop shapeMadeAt words → part a n words′ ≡ part a n words
-part-kept words words′ a n h e =
-    let q : shapeMadeAt + (a - shapeMadeAt) ≡ a = omega arith in
-    let at : (l : List ℕ) → part a n l ≡ take n (drop (a - shapeMadeAt) (drop shapeMadeAt l)) = λ l. ap (take n) (ap (λ (k : ℕ). drop k l) (sym q) ∙ sym (drop-drop (a - shapeMadeAt) shapeMadeAt l)) in
-    at words′ ∙ ap (λ (l : List ℕ). take n (drop (a - shapeMadeAt) l)) e ∙ sym (at words)
-
 held-sets : (rows : List Row) (words : List ℕ) (numbers : List Float) (f : Filled) (b : ℕ) (vs : List ℕ) → shapeMadeAt ≤ b → RowsHeld rows words numbers f → RowsHeld rows (sets words b vs) numbers f
 held-sets rows words numbers f b vs hb h = held-agrees rows words (sets words b vs) numbers numbers f h (part-before words vs b 0 shapeMadeAt (omega arith)) refl
 
@@ -141,7 +134,7 @@ module _ (s : Sentinel) (asked : List (List Element)) (at width : ℕ) (table : 
           held = λ g q. absurd (let z : _≡_ {A = ℕ} 0 1 = cc in omega arith);
           placed = λ g q. absurd (let z : _≡_ {A = ℕ} 0 1 = cc in omega arith);
           full = λ q. over-later s asked rows (i + 1) (rw rows-are at (after .full e));
-          kept = part-kept words words′ shapeMadeAt (at - shapeMadeAt) (omega arith) (after .kept) ∙ a .kept;
+          kept = part-behind shapeMadeAt (at - shapeMadeAt) shapeMadeAt words words′ (omega arith) (after .kept) ∙ a .kept;
         }
 
     module _ (k : ℕ) (g : Filled) (e : r ≡ At k g) where
@@ -166,9 +159,9 @@ module _ (s : Sentinel) (asked : List (List Element)) (at width : ℕ) (table : 
             held = held-sets (map (freshRow s) (joined (take (i + 1) asked) rows .rows)) words′ numbers′ g b entry (omega arith) (rw rows-are at (after .held k g e));
             placed =
                 part-more (sets words′ b entry) (table (joined (take i asked) rows .places)) entry at (width * i) b width (width * (i + 1)) (sym eb) (rw (add-one, mul-suc))
-                (part-before words′ entry b at (width * i) (omega arith) ∙ part-kept words words′ at (width * i) behind (after .kept) ∙ a .placed)
+                (part-before words′ entry b at (width * i) (omega arith) ∙ part-behind at (width * i) shapeMadeAt words words′ behind (after .kept) ∙ a .placed)
                 (part-same words′ entry b width wide room)
                 ∙ sym (more (joined (take i asked) rows .places) (so-far-places s asked rows i (omega arith)))
                 ∙ ap table (sym places-are);
-            kept = part-before words′ entry b shapeMadeAt (at - shapeMadeAt) (omega arith) ∙ part-kept words words′ shapeMadeAt (at - shapeMadeAt) (omega arith) (after .kept) ∙ a .kept;
+            kept = part-before words′ entry b shapeMadeAt (at - shapeMadeAt) (omega arith) ∙ part-behind shapeMadeAt (at - shapeMadeAt) shapeMadeAt words words′ (omega arith) (after .kept) ∙ a .kept;
           })

@@ -3,7 +3,7 @@ use mathlib.Core.Path.{_≡_, refl, sym, ap, _∙_}
 use Prim.Native.Nat.{ℕ, suc, _+_, _*_, _-_, _<_, _≤_}
 use native.Mathlib.Omega.{arith}
 use mathlib.Core.List.{List, [], _∷_, _++_, flatMap}
-use lib.ListN.{length, set, replicate, length-append, length-replicate}
+use lib.ListN.{length, set, replicate, length-replicate}
 use lib.Seq.{sets, length-sets}
 use Rattle.layout.specs.Layout.{makersAt}
 use Rattle.laws.proofs.Runs.{flat-snoc, replicate-more}
@@ -11,7 +11,7 @@ use Rattle.laws.proofs.Sets.{sets-behind}
 use Rattle.pywr.specs.Programme.{Row, Maker}
 use Rattle.pywr.specs.Makers.{madeBy}
 use Rattle.pywr.specs.Written.{makerWords}
-use Rattle.pywr.proofs.StoreLaws.{maker-wide}
+use Rattle.pywr.proofs.StoreLaws.{maker-wide, flat-length}
 
 -- three words stored one behind the other
 pub three-words : (l : List ℕ) (at a b c : ℕ) → set (set (set l at a) (at + 1) b) (at + 2) c ≡ sets l at (a ∷ b ∷ c ∷ [])
@@ -21,9 +21,7 @@ three-words l at a b c =
     rw (one, two)
 
 pub table-length : (ms : List Maker) → length (flatMap makerWords ms) ≡ 3 * length ms
-unfolding flatMap
-table-length [] = refl
-table-length (m ∷ ms) = let ih = table-length ms in omega (arith, ih, maker-wide m, length-append (makerWords m) (flatMap makerWords ms))
+table-length ms = omega (arith, flat-length makerWords 3 maker-wide ms)
 
 -- rows of one maker: as many entries as rows
 pub made-by : (kind index : ℕ) (rows : List Row) → madeBy kind index rows ≡ replicate (length rows) (record { kind = kind; index = index; sharedBy = 1 })

@@ -3,8 +3,8 @@ use mathlib.Core.Path.{_≡_, refl, sym, ap, _∙_, subst}
 use Prim.Native.Nat.{ℕ, _+_, _*_, _-_, _≤_}
 use native.Mathlib.Omega.{arith}
 use mathlib.Core.List.{List, [], _++_, flatMap, append-assoc, append-nil}
-use lib.ListN.{length, take, drop, replicate, length-append, length-replicate}
-use lib.Seq.{sets, drop-drop}
+use lib.ListN.{length, take, replicate, length-append}
+use lib.Seq.{sets}
 use lib.Ieee.{Float}
 use Rattle.layout.specs.Layout.{makersAt, makersMadeAt, shapeMadeAt, wordsLength}
 use Rattle.laws.specs.Part.{part}
@@ -14,12 +14,13 @@ use Rattle.laws.proofs.Tails.{tail, putTail, tail-written}
 use Rattle.pywr.specs.Programme.{Row, Maker}
 use Rattle.pywr.specs.Makers.{madeBy}
 use Rattle.pywr.specs.Written.{makerWords}
+use Rattle.pywr.proofs.MakerLaws.{made-length}
 use Rattle.build_append.specs.LpBuilder.{RowsHeld, Holding, withinCeilings, AfterRows}
 use Rattle.build_append.specs.declared.Filled.{Filled}
 use Rattle.build_append.specs.declared.RowsAdded.{RowsAdded}
 use Rattle.build_append.specs.declared.RowsAdded.the-variants.{Done, Full}
 use Rattle.build_append.proofs.AddingRows.{Adds}
-use Rattle.build_append.proofs.RowLaws.{part-more}
+use Rattle.build_append.proofs.RowLaws.{part-behind, part-more}
 use Rattle.build_append.proofs.RowsHeldLaws.{held-agrees, held-few, over-more}
 use Rattle.build_makers.specs.MadeRows.{MadeHeld, AfterMade}
 use Rattle.build_makers.proofs.Entries.{table-length, made-by}
@@ -42,10 +43,6 @@ pub making-first : (rows all : List Row) (makers theirs : List Maker) (words : L
 making-first rows all makers theirs words numbers f h =
     record { rows = rows; theirs = makers; whole-is = refl; makers-is = refl; held = h; kept = refl }
 
--- what stays from 5,121 on stays in each part there
-pub kept-part : (words words′ : List ℕ) (k n : ℕ) → drop shapeMadeAt words′ ≡ drop shapeMadeAt words → part (shapeMadeAt + k) n words′ ≡ part (shapeMadeAt + k) n words
-kept-part words words′ k n e = ap (take n) (sym (drop-drop k shapeMadeAt words′) ∙ ap (drop k) e ∙ drop-drop k shapeMadeAt words)
-
 -- rows are added, and their entries put
 module _ (whole new rest : List Row) (makers others : List Maker) (kind index : ℕ) (words₀ words : List ℕ) (numbers : List Float) (f : Filled)
     (h : Making whole (new ++ rest) makers (madeBy kind index new ++ others) words₀ words numbers f)
@@ -57,7 +54,7 @@ module _ (whole new rest : List Row) (makers others : List Maker) (kind index : 
   is = h .whole-is ∙ sym (append-assoc (h .rows) new rest)
 
   kept : part shapeMadeAt makersAt words₁ ≡ part shapeMadeAt makersAt words₀
-  kept = kept-part words words₁ 0 makersAt (after .kept) ∙ h .kept
+  kept = part-behind shapeMadeAt makersAt shapeMadeAt words words₁ (omega arith) (after .kept) ∙ h .kept
 
   pub making-over : r ≡ Full → AfterMade whole makers words₀ Full words₁ numbers′
   making-over e =
@@ -85,14 +82,11 @@ module _ (whole new rest : List Row) (makers others : List Maker) (kind index : 
         let k : g .rows - f .rows ≡ length new = omega (arith, count) in
         ap (λ (j : ℕ). flatMap makerWords (replicate j (record { kind = kind; index = index; sharedBy = 1 }))) k ∙ ap (flatMap makerWords) (sym (made-by kind index new))
 
-    new-long : length (madeBy kind index new) ≡ length new
-    new-long = ap length (made-by kind index new) ∙ length-replicate (length new) (record { kind = kind; index = index; sharedBy = 1 })
-
     abbrev all : List Maker
     all = h .theirs ++ madeBy kind index new
 
     all-long : length all ≡ length (h .theirs) + length new
-    all-long = omega (arith, length-append (h .theirs) (madeBy kind index new), new-long)
+    all-long = omega (arith, length-append (h .theirs) (madeBy kind index new), made-length kind index new)
 
     theirs-long : length (h .theirs) ≡ f .rows
     theirs-long = h .held .each ∙ sym (h .held .held .rowCount)
@@ -116,7 +110,7 @@ module _ (whole new rest : List Row) (makers others : List Maker) (kind index : 
       before =
           ap (part makersMadeAt (3 * f .rows)) words₂-are
           ∙ part-before words₁ (flatMap makerWords (madeBy kind index new)) place makersMadeAt (3 * f .rows) (omega arith)
-          ∙ kept-part words words₁ makersAt (3 * f .rows) (after .kept)
+          ∙ part-behind makersMadeAt (3 * f .rows) shapeMadeAt words words₁ (omega arith) (after .kept)
           ∙ ap (λ (k : ℕ). part makersMadeAt (3 * k) words) (sym theirs-long)
           ∙ h .held .made
 
@@ -124,7 +118,7 @@ module _ (whole new rest : List Row) (makers others : List Maker) (kind index : 
       behind =
           ap (part place (3 * length new)) words₂-are
           ∙ part-same words₁ (flatMap makerWords (madeBy kind index new)) place (3 * length new)
-          (table-length (madeBy kind index new) ∙ ap (λ (k : ℕ). 3 * k) new-long) (omega (arith, count, rows-rise .1))
+          (omega (arith, table-length (madeBy kind index new), made-length kind index new)) (omega (arith, count, rows-rise .1))
 
       pub making-more : Making whole rest makers others words₀ words₂ numbers′ g
       making-more =

@@ -16,7 +16,6 @@ use Rattle.pywr.specs.Numbers.{zero64, one64}
 use Rattle.pywr.specs.Network.{link, Node, Network, incoming, outgoing}
 use Rattle.pywr.specs.Rows.{addOn, ColumnMap, columnMap, massRow}
 use Rattle.pywr.specs.FixedRows.{massRowsFrom}
-use Rattle.pywr.specs.Programme.{Row}
 use Rattle.network_node.specs.Node.{nodeAt}
 use Rattle.network_record.specs.declared.Counts.{Counts}
 use Rattle.build_row.specs.RowBuilder.{gathered}

@@ -4,8 +4,8 @@ use Prim.Native.Nat.{ℕ, suc, _+_, _*_, _-_, _<_, _≤_}
 use native.Mathlib.Omega.{arith}
 use mathlib.Core.Bool.{false}
 use mathlib.Core.List.{List, [], _∷_, _++_, map, flatMap}
-use lib.ListN.{length, take, drop, set, length-append, length-map}
-use lib.Seq.{sets, drop-drop}
+use lib.ListN.{length, drop, set, length-append, length-map}
+use lib.Seq.{sets}
 use lib.Ieee.{Float}
 use borrow.Rule.Slice.PartMut.{putMid}
 use Rattle.layout.specs.Layout.{nodeRowsAt, nodeRowsMadeAt, numbersLength, shapeMadeAt}
@@ -26,7 +26,7 @@ use Rattle.build_join.specs.declared.VariableRow.{VariableRow}
 use Rattle.build_join.specs.declared.VariableRow.the-variants.{At}
 use Rattle.build_append.specs.LpBuilder.{RowsHeld, withinCeilings}
 use Rattle.build_join.specs.VariableRow.{AfterVariableRow}
-use Rattle.build_append.proofs.RowLaws.{part-more, flat-snoc}
+use Rattle.build_append.proofs.RowLaws.{part-behind, part-more, flat-snoc}
 use Rattle.build_append.proofs.RowsHeldLaws.{held-few, held-agrees, held-lent, lent-written}
 use Rattle.build_node_table.specs.NodeTable.{joined, NodeRowsHeld, AfterRequests}
 use Rattle.build_node_table.specs.declared.NodeRows.{NodeRows}
@@ -41,10 +41,6 @@ four-words l at a b c d =
     let two : at + 2 ≡ suc (suc at) = omega arith in
     let three : at + 3 ≡ suc (suc (suc at)) = omega arith in
     rw (one, two, three)
-
--- what stays from 5,121 on stays in the table
-table-kept : (words words′ : List ℕ) (n : ℕ) → drop shapeMadeAt words′ ≡ drop shapeMadeAt words → part nodeRowsMadeAt n words′ ≡ part nodeRowsMadeAt n words
-table-kept words words′ n e = ap (take n) (sym (drop-drop nodeRowsAt shapeMadeAt words′) ∙ ap (drop nodeRowsAt) e ∙ drop-drop nodeRowsAt shapeMadeAt words)
 
 held-sets : (rows : List Row) (words : List ℕ) (numbers : List Float) (f : Filled) (b : ℕ) (vs : List ℕ) → shapeMadeAt ≤ b → RowsHeld rows words numbers f → RowsHeld rows (sets words b vs) numbers f
 held-sets rows words numbers f b vs hb h = held-agrees rows words (sets words b vs) numbers numbers f h (part-before words vs b 0 shapeMadeAt (omega arith)) refl
@@ -105,7 +101,7 @@ module _ (s : Sentinel) (asks : List RowRequest) (a : RowRequest) (words : List 
           counted = sym (length-append asks (a ∷ []) ∙ ap (λ (n : ℕ). n + 1) (sym (h .counted)));
           table =
               part-more (sets words₁ b entry) (flatMap nodeRowWords (placedNodeRows asks (joined asks .places))) entry nodeRowsMadeAt (4 * r .count) b 4 (4 * (r .count + 1)) refl four
-              (part-before words₁ entry b nodeRowsMadeAt (4 * r .count) (omega arith) ∙ table-kept words words₁ (4 * r .count) (after .kept) ∙ h .table)
+              (part-before words₁ entry b nodeRowsMadeAt (4 * r .count) (omega arith) ∙ part-behind nodeRowsMadeAt (4 * r .count) shapeMadeAt words words₁ (omega arith) (after .kept) ∙ h .table)
               (part-same words₁ entry b 4 refl room)
               ∙ sym (ap (flatMap nodeRowWords) placed ∙ flat-snoc nodeRowWords (placedNodeRows asks (joined asks .places)) (placedAt a k));
         }))

@@ -1,63 +1,32 @@
 -- Those who asked for varying rows, read from the tables, are those of the definition, and every row that they were given is a varying row. Assumes nothing.
-use mathlib.Core.Path.{_≡_, refl, sym, ap, ap₂, _∙_, subst}
-use Prim.Native.Nat.{ℕ, zero, suc, _+_, _*_, _≤_}
+use mathlib.Core.Path.{_≡_, refl, sym, ap, _∙_, subst}
+use Prim.Native.Nat.{ℕ, zero, suc, _+_, _*_, _<_}
 use native.Mathlib.Nat.{add-zero}
 use native.Mathlib.Omega.{arith}
-use mathlib.Core.List.{List, [], _∷_, _++_, map, flatMap}
-use lib.ListN.{length, getD, drop}
-use lib.Seq.{getD-take, getD-drop}
+use mathlib.Core.List.{List, [], _∷_, _++_, map, flatMap, List·Memᴰ·head, List·Memᴰ·tail}
+use lib.ListN.{length, getD}
 use lib.Dec.{lit≤}
 use Rattle.layout.specs.Layout.{nodeRowsAt, aggregatesAt, virtualStoragesAt}
 use Rattle.laws.specs.Part.{part}
-use Rattle.pywr.specs.Network.{VirtualStorage}
-use Rattle.pywr.specs.Rows.{Element}
+use Rattle.laws.proofs.Sets.{part-at}
 use Rattle.pywr.specs.Programme.{NodeRow, VirtualStorageShape, Shape, byNode, byAggregate, byVirtualStorage}
-use Rattle.pywr.specs.VaryingRows.{RowRequest}
 use Rattle.pywr.specs.Makers.{Asker, askersByNodes, askersInTurn, askers}
-use Rattle.pywr.specs.Build.{requestedRow, placedNodeRows, placedVirtualStorages}
 use Rattle.pywr.specs.Store.{entries}
 use Rattle.pywr.specs.Written.{nodeRowWords, virtualStorageWords}
-use Rattle.pywr.proofs.StoreLaws.{Holds, holds-left, holds-right, first-word, word-at, nodeRow-wide, virtual-storage-wide, flat-length, singles}
-use Rattle.pywr.proofs.EntryLaws.{first-entry, next-entry}
-use Rattle.pywr.proofs.ShapeLaws.{Sits}
+use Rattle.pywr.proofs.ListLaws.{AllMem}
+use Rattle.pywr.proofs.StoreLaws.{Holds, first-word, word-at, nodeRow-wide, virtual-storage-wide, flat-length, singles, entries-read, map-same}
+use Rattle.pywr.proofs.EntryLaws.{entries-length, entries-snoc}
 use Rattle.build_sharers.specs.Sharers.{nodeAsker, entryAsker, askersTo, askersIn, RowsUnder}
 
--- ---- entries of a table
-
 -- a part of a run that is known
-pub part-holds : (run ws : List ℕ) (at n : ℕ) → length ws ≡ n → part at n run ≡ ws → Holds 0 run at ws
+part-holds : (run ws : List ℕ) (at n : ℕ) → length ws ≡ n → part at n run ≡ ws → Holds 0 run at ws
 unfolding Holds
-part-holds run ws at n l e i h = sym (getD-take n (drop at run) i 0 (omega (arith, l)) ∙ getD-drop at run i 0) ∙ ap (λ (x : List ℕ). getD x i 0) e
-
--- each entry read
-entries-read : {A B : Type 0} (run : List ℕ) (entry : ℕ → B) (words : ℕ) (code : A → List ℕ) (f : A → B)
-    → ((x : A) → length (code x) ≡ words) → ((at : ℕ) (x : A) → Holds 0 run at (code x) → entry at ≡ f x)
-    → (xs : List A) (at : ℕ) → Holds 0 run at (flatMap code xs) → entries entry words at (length xs) ≡ map f xs
-unfolding entries flatMap
-entries-read run entry words code f wide reads [] at holds = refl
-entries-read run entry words code f wide reads (x ∷ xs) at holds =
-    ap₂ (λ a b. a ∷ b) (reads at x (holds-left 0 run at (code x) (flatMap code xs) holds))
-    (entries-read run entry words code f wide reads xs (at + words)
-    (subst (λ (n : ℕ). Holds 0 run (at + n) (flatMap code xs)) (wide x) (holds-right 0 run at (code x) (flatMap code xs) holds)))
-
-entries-snoc : {B : Type 0} (entry : ℕ → B) (words at n : ℕ) → entries entry words at (suc n) ≡ entries entry words at n ++ (entry (at + words * n) ∷ [])
-unfolding entries
-entries-snoc entry words at zero = ap (λ (p : ℕ). entry p ∷ []) (first-entry words at)
-entries-snoc entry words at (suc n) =
-    ap (λ l. entry at ∷ l) (entries-snoc entry words (at + words) n ∙ ap (λ (p : ℕ). entries entry words (at + words) n ++ (entry p ∷ [])) (next-entry words at n))
-
-entries-length : {B : Type 0} (entry : ℕ → B) (words at n : ℕ) → length (entries entry words at n) ≡ n
-unfolding entries
-entries-length entry words at zero = refl
-entries-length entry words at (suc n) = ap suc (entries-length entry words (at + words) n)
-
-map-same : (xs : List ℕ) → map (λ (x : ℕ). x) xs ≡ xs
-map-same [] = refl
-map-same (x ∷ xs) = ap (λ (l : List ℕ). x ∷ l) (map-same xs)
+part-holds run ws at n l e i h = sym (part-at run at n i 0 (omega (arith, l))) ∙ ap (λ (x : List ℕ). getD x i 0) e
 
 -- ---- who asked, by the tables
 
-turn-snoc : (kind index : ℕ) (rows : List ℕ) (row : ℕ) → askersInTurn kind index (rows ++ (row ∷ [])) ≡ askersInTurn kind index rows ++ (record { kind = kind; index = index + length rows; row = row } ∷ [])
+turn-snoc : (kind index : ℕ) (rows : List ℕ) (row : ℕ)
+    → askersInTurn kind index (rows ++ (row ∷ [])) ≡ askersInTurn kind index rows ++ (record { kind = kind; index = index + length rows; row = row } ∷ [])
 unfolding askersInTurn
 turn-snoc kind index [] row = ap (λ (k : ℕ). record { kind = kind; index = k; row = row } ∷ []) (sym (add-zero index))
 turn-snoc kind index (x ∷ rows) row =
@@ -93,18 +62,19 @@ module _ (shape : List ℕ) where
     unfolding askersByNodes nodeRowWords
     by-nodes =
         nodes-asked (length (b .nodeRows))
-        ∙ entries-read shape asksAt 4 nodeRowWords (λ (n : NodeRow). record { kind = byNode; index = n .node; row = n .row }) nodeRow-wide
+        ∙ entries-read 0 shape asksAt 4 nodeRowWords (λ (n : NodeRow). record { kind = byNode; index = n .node; row = n .row }) nodeRow-wide
         (λ at x h.
         let node = first-word shape at (nodeRowWords x) h (lit≤ tt) in
         let row = word-at shape at (nodeRowWords x) h 1 (lit≤ tt) in
         λ i. record { kind = byNode; index = node i; row = row i })
-        (b .nodeRows) nodeRowsAt (part-holds shape (flatMap nodeRowWords (b .nodeRows)) nodeRowsAt (4 * length (b .nodeRows)) (omega (arith, flat-length nodeRowWords 4 nodeRow-wide (b .nodeRows))) nodes)
+        (b .nodeRows) nodeRowsAt
+        (part-holds shape (flatMap nodeRowWords (b .nodeRows)) nodeRowsAt (4 * length (b .nodeRows)) (omega (arith, flat-length nodeRowWords 4 nodeRow-wide (b .nodeRows))) nodes)
 
     by-aggregates : askersTo (entryAsker shape aggregatesAt 1 byAggregate) (length (b .aggregates)) ≡ askersInTurn byAggregate 0 (b .aggregates)
     by-aggregates =
         in-turn-asked aggregatesAt 1 byAggregate (length (b .aggregates))
         ∙ ap (askersInTurn byAggregate 0)
-        (entries-read shape (λ (p : ℕ). getD shape p 0) 1 (λ (x : ℕ). x ∷ []) (λ (x : ℕ). x) (λ x. refl) (λ at x h. first-word shape at (x ∷ []) h (lit≤ tt)) (b .aggregates) aggregatesAt
+        (entries-read 0 shape (λ (p : ℕ). getD shape p 0) 1 (λ (x : ℕ). x ∷ []) (λ (x : ℕ). x) (λ x. refl) (λ at x h. first-word shape at (x ∷ []) h (lit≤ tt)) (b .aggregates) aggregatesAt
         (subst (Holds 0 shape aggregatesAt) (sym (singles (b .aggregates))) (part-holds shape (b .aggregates) aggregatesAt (length (b .aggregates)) refl aggregates))
         ∙ map-same (b .aggregates))
 
@@ -114,7 +84,7 @@ module _ (shape : List ℕ) where
     by-virtual-storages =
         in-turn-asked virtualStoragesAt 6 byVirtualStorage (length (b .virtualStorages))
         ∙ ap (askersInTurn byVirtualStorage 0)
-        (entries-read shape (λ (p : ℕ). getD shape p 0) 6 virtualStorageWords (λ (v : VirtualStorageShape). v .row) virtual-storage-wide
+        (entries-read 0 shape (λ (p : ℕ). getD shape p 0) 6 virtualStorageWords (λ (v : VirtualStorageShape). v .row) virtual-storage-wide
         (λ at x h. first-word shape at (virtualStorageWords x) h (lit≤ tt)) (b .virtualStorages) virtualStoragesAt
         (part-holds shape (flatMap virtualStorageWords (b .virtualStorages)) virtualStoragesAt (6 * length (b .virtualStorages))
         (omega (arith, flat-length virtualStorageWords 6 virtual-storage-wide (b .virtualStorages))) virtualStorages))
@@ -125,24 +95,6 @@ module _ (shape : List ℕ) where
 
 -- ---- the rows that they were given
 
-pub under-append : (rows : ℕ) (xs ys : List Asker) → RowsUnder rows xs → RowsUnder rows ys → RowsUnder rows (xs ++ ys)
-under-append rows [] ys h k = k
-under-append rows (x ∷ xs) ys h k = (h .0, under-append rows xs ys (h .1) k)
-
-module _ (rows : List (List Element)) where
-  pub nodes-under : (wanted : List RowRequest) (ps : List ℕ) → Sits rows (map requestedRow wanted) ps → RowsUnder (length rows) (askersByNodes (placedNodeRows wanted ps))
-  unfolding askersByNodes placedNodeRows
-  nodes-under [] ps s = tt
-  nodes-under (a ∷ wanted) (p ∷ ps) (Sits.more h e s) = (h, nodes-under wanted ps s)
-
-  pub turn-under : (kind index : ℕ) (asked : List (List Element)) (ps : List ℕ) → Sits rows asked ps → RowsUnder (length rows) (askersInTurn kind index ps)
-  unfolding askersInTurn
-  turn-under kind index [] [] Sits.none = tt
-  turn-under kind index (a ∷ asked) (p ∷ ps) (Sits.more h e s) = (h, turn-under kind (suc index) asked ps s)
-
-  pub virtual-storages-under : (kind index : ℕ) (vs : List VirtualStorage) (asked : List (List Element)) (ps : List ℕ) → Sits rows asked ps
-      → RowsUnder (length rows) (askersInTurn kind index (map (λ (v : VirtualStorageShape). v .row) (placedVirtualStorages vs ps)))
-  unfolding askersInTurn placedVirtualStorages
-  virtual-storages-under kind index [] asked ps s = tt
-  virtual-storages-under kind index (v ∷ vs) [] [] Sits.none = tt
-  virtual-storages-under kind index (v ∷ vs) (a ∷ asked) (p ∷ ps) (Sits.more h e s) = (h, virtual-storages-under kind (suc index) vs asked ps s)
+pub all-under : (rows : ℕ) (all : List Asker) → AllMem (λ (a : Asker). a .row < rows) all → RowsUnder rows all
+all-under rows [] h = tt
+all-under rows (a ∷ all) h = (h a (List·Memᴰ·head refl), all-under rows all (λ x m. h x (List·Memᴰ·tail m)))

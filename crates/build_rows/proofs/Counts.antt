@@ -11,7 +11,7 @@ use Rattle.pywr.specs.ColEdgeMap.{columns, mappedEdges}
 use Rattle.pywr.specs.ExclusiveSets.{exclusiveSets}
 use Rattle.pywr.specs.Rows.{Element, columnMap, aggregateRow, virtualStorageRow}
 use Rattle.pywr.specs.VariableRows.{Joined, addVariableRow, addVariableRows}
-use Rattle.pywr.specs.Programme.{Row, Built}
+use Rattle.pywr.specs.Programme.{Built}
 use Rattle.pywr.specs.VaryingRows.{RowRequest, requestsFrom}
 use Rattle.pywr.specs.Build.{edgeColumn, setColumn, allColumns, nodeShape, placedNodeRows, placedVirtualStorages, requestedRow, assemble, programmeOf, elementCount}
 use Rattle.pywr.specs.Written.{integerColumns, countWords, rowsOf}

@@ -15,7 +15,7 @@ use Rattle.pywr.specs.Network.{Network}
 use Rattle.pywr.specs.ColEdgeMap.{columns, mappedEdges}
 use Rattle.pywr.specs.ExclusiveSets.{exclusiveSets}
 use Rattle.pywr.specs.Rows.{columnMap}
-use Rattle.pywr.specs.Programme.{Row, Maker, Built}
+use Rattle.pywr.specs.Programme.{Maker, Built}
 use Rattle.pywr.specs.Makers.{fixedMakers}
 use Rattle.pywr.specs.Build.{nodeShape, assemble, programmeOf, build}
 use Rattle.pywr.specs.Written.{nodeWords, edgeWords, makerWords, countWords, rowsOf}
@@ -44,7 +44,7 @@ use Rattle.build_rows.proofs.LaidOut.{RowsLaid, laid-out}
 use Rattle.build_rows.proofs.Counts.{SizesAre, columns-are, counts-are}
 use Rattle.build_varying.proofs.Varying.{inside, asks-few}
 use Rattle.build_makers.specs.MadeRows.{AfterMade}
-use Rattle.build_rows.proofs.VaryingMade.{theirs, makers-are}
+use Rattle.build_rows.proofs.VaryingMade.{makersOfVarying, makers-are}
 
 counts-long : (s : Sentinel) (z : Sizes) (varying : ℕ) → length (counts s z varying) ≡ 11
 unfolding counts
@@ -110,7 +110,7 @@ module _ (s : Sentinel) (file : List ℕ) (c : Counts) (firstIn nextIn firstOut 
         sym (ap (λ (x : List (List ℕ)). length x) (l .held)) ∙ long ∙ length-take-le sets₀ setAt (omega (arith, l .fit .long, l .fit .few))
 
     module _ (words₁ words₂ : List ℕ) (numbers₁ numbers₂ : List Float) (v : VaryingLaid s net n words₁ numbers₁)
-        (r : RowsAdded) (a : AfterMade (b .programme .varying ++ b .programme .fixed) (theirs s net ++ fixedMakers s (columnMap net) net) words₁ r words₂ numbers₂) (done : r ≡ Done g) where
+        (r : RowsAdded) (a : AfterMade (b .programme .varying ++ b .programme .fixed) (makersOfVarying s net ++ fixedMakers s (columnMap net) net) words₁ r words₂ numbers₂) (done : r ≡ Done g) where
       held : RowsHeld (rowsOf (b .programme)) words₂ numbers₂ g
       unfolding rowsOf
       held = a .held g done .held

@@ -11,7 +11,7 @@ use Rattle.laws.specs.Part.{part}
 use Rattle.laws.proofs.Sets.{part-same, part-before, part-after}
 use Rattle.laws.proofs.Tails.{tail, putTail, tail-length, tail-written}
 use Rattle.pywr.specs.declared.Sentinel.{Sentinel}
-use Rattle.pywr.specs.Programme.{Row, Built}
+use Rattle.pywr.specs.Programme.{Built}
 use Rattle.pywr.specs.Build.{nodeShape}
 use Rattle.pywr.specs.Written.{nodeWords, edgeWords, nodeRowWords, virtualStorageWords, makerWords, countWords, rowsOf}
 use Rattle.network_laws.specs.NetworkAt.{nodeRecords}

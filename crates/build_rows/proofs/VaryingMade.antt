@@ -2,7 +2,7 @@
 use mathlib.Core.Path.{_≡_, refl, sym, ap, ap₂, _∙_}
 use Prim.Native.Nat.{ℕ, _+_, _*_, _-_, _≤_}
 use native.Mathlib.Omega.{arith}
-use mathlib.Core.List.{List, [], _++_, map, flatMap}
+use mathlib.Core.List.{List, _++_, flatMap}
 use lib.ListN.{length, take, drop, length-map}
 use lib.Seq.{drop-drop}
 use lib.Ieee.{Float}
@@ -13,14 +13,13 @@ use Rattle.laws.proofs.Tails.{tail, putTail, tail-back, tail-part}
 use Rattle.pywr.specs.declared.Sentinel.{Sentinel}
 use Rattle.pywr.specs.Network.{Network}
 use Rattle.pywr.specs.Rows.{Element, columnMap}
-use Rattle.pywr.specs.VariableRows.{Joined, addVariableRows}
 use Rattle.pywr.specs.VaryingRows.{freshRow}
-use Rattle.pywr.specs.Programme.{VirtualStorageShape, Maker, byAggregate, byVirtualStorage, Built}
-use Rattle.pywr.specs.Makers.{Asker, askersByNodes, askersInTurn, askers, varyingMakers, fixedMakers}
-use Rattle.pywr.specs.Build.{requestedRow, placedNodeRows, placedVirtualStorages, assemble, programmeOf}
+use Rattle.pywr.specs.Programme.{Maker, Built}
+use Rattle.pywr.specs.Makers.{askers, varyingMakers, fixedMakers}
+use Rattle.pywr.specs.Build.{assemble, programmeOf}
 use Rattle.pywr.specs.Written.{makerWords}
-use Rattle.pywr.proofs.ShapeLaws.{Sits, sits-all, sits-stay}
 use Rattle.pywr.proofs.MakerLaws.{varying-makers-length}
+use Rattle.pywr.proofs.MadeLaws.{asked-under}
 use Rattle.build_append.proofs.RowLaws.{part-agrees}
 use Rattle.build_append.proofs.RowsHeldLaws.{held-agrees}
 use Rattle.build_join.specs.JoinedRows.{joined}
@@ -28,11 +27,9 @@ use Rattle.build_node_table.specs.declared.NodeRows.{NodeRows}
 use Rattle.build_makers.specs.MadeRows.{MadeHeld}
 use Rattle.build_sharers.specs.Sharers.{askersIn, RowsUnder}
 use Rattle.build_varying.specs.VaryingLaid.{VaryingLaid}
-use Rattle.build_varying.proofs.Varying.{asks, rows₁, forAggregates, rows₂, forVirtualStorages}
-use Rattle.build_rows.proofs.Askers.{askers-are, under-append, nodes-under, turn-under, virtual-storages-under}
+use Rattle.build_varying.proofs.Varying.{rows₂, forVirtualStorages}
+use Rattle.build_rows.proofs.Askers.{askers-are, all-under}
 use Rattle.build_rows.proofs.Counts.{node-rows-count, aggregates-count, virtual-storages-count}
-
--- ---- every row that was asked for is a varying row
 
 module _ (s : Sentinel) (net : Network) where
   abbrev b : Built
@@ -41,49 +38,19 @@ module _ (s : Sentinel) (net : Network) where
   abbrev all : List (List Element)
   all = joined (forVirtualStorages s net) (rows₂ s net) .rows
 
-  abbrev none : Joined
-  none = record { rows = []; places = [] }
-
-  nodes-sit : Sits all (map requestedRow (asks s net)) (addVariableRows (map requestedRow (asks s net)) none .places)
-  nodes-sit =
-      let asked = map requestedRow (asks s net) in
-      let places = addVariableRows asked none .places in
-      sits-stay asked places (forVirtualStorages s net) (record { rows = rows₂ s net; places = [] })
-      (sits-stay asked places (forAggregates s net) (record { rows = rows₁ s net; places = [] }) (sits-all asked [] none Sits.none))
-
-  aggregates-sit : Sits all (forAggregates s net) (joined (forAggregates s net) (rows₁ s net) .places)
-  aggregates-sit =
-      sits-stay (forAggregates s net) (joined (forAggregates s net) (rows₁ s net) .places) (forVirtualStorages s net) (record { rows = rows₂ s net; places = [] })
-      (sits-all (forAggregates s net) [] (record { rows = rows₁ s net; places = [] }) Sits.none)
-
-  virtual-storages-sit : Sits all (forVirtualStorages s net) (joined (forVirtualStorages s net) (rows₂ s net) .places)
-  virtual-storages-sit = sits-all (forVirtualStorages s net) [] (record { rows = rows₂ s net; places = [] }) Sits.none
-
-  askers-under : RowsUnder (length all) (askers (programmeOf s net .shape))
-  unfolding programmeOf assemble askers
-  askers-under =
-      let places : List ℕ = addVariableRows (map requestedRow (asks s net)) none .places in
-      let forThem : List ℕ = joined (forAggregates s net) (rows₁ s net) .places in
-      let stored : List VirtualStorageShape = placedVirtualStorages (net .virtualStorages) (joined (forVirtualStorages s net) (rows₂ s net) .places) in
-      let byNodes : List Asker = askersByNodes (placedNodeRows (asks s net) places) in
-      let byAggregates : List Asker = askersInTurn byAggregate 0 forThem in
-      under-append (length all) (byNodes ++ byAggregates) (askersInTurn byVirtualStorage 0 (map (λ (v : VirtualStorageShape). v .row) stored))
-      (under-append (length all) byNodes byAggregates (nodes-under all (asks s net) places nodes-sit) (turn-under all byAggregate 0 (forAggregates s net) forThem aggregates-sit))
-      (virtual-storages-under all byVirtualStorage 0 (net .virtualStorages) (forVirtualStorages s net) (joined (forVirtualStorages s net) (rows₂ s net) .places) virtual-storages-sit)
-
   varying-count : length (programmeOf s net .programme .varying) ≡ length all
   unfolding programmeOf assemble
   varying-count = length-map all (freshRow s)
 
   -- the makers of the varying rows
-  abbrev pub theirs : List Maker
-  theirs = varyingMakers (askers (programmeOf s net .shape)) 0 (length (programmeOf s net .programme .varying))
+  abbrev pub makersOfVarying : List Maker
+  makersOfVarying = varyingMakers (askers (programmeOf s net .shape)) 0 (length (programmeOf s net .programme .varying))
 
   unfolded : varyingMakers (askers (programmeOf s net .shape)) 0 (length all) ++ fixedMakers s (columnMap net) net ≡ programmeOf s net .makers
   unfolding programmeOf assemble
   unfolded = refl
 
-  pub makers-are : theirs ++ fixedMakers s (columnMap net) net ≡ programmeOf s net .makers
+  pub makers-are : makersOfVarying ++ fixedMakers s (columnMap net) net ≡ programmeOf s net .makers
   makers-are = ap (λ (k : ℕ). varyingMakers (askers (b .shape)) 0 k ++ fixedMakers s (columnMap net) net) varying-count ∙ unfolded
 
 -- ---- the tables, and the run with the makers put
@@ -108,7 +75,7 @@ module _ (s : Sentinel) (net : Network) (n : NodeRows) (words : List ℕ) (numbe
   rows-count = v .held .rowCount
 
   pub rows-under : RowsUnder (n .filled .rows) (askersIn shape (n .count) aggregates virtualStorages)
-  rows-under = rw (askers-of, rows-count, varying-count s net) (askers-under s net)
+  rows-under = rw (askers-of, rows-count) (all-under (length (b s net .programme .varying)) (askers (b s net .shape)) (asked-under s net))
 
   module _ (shape′ : List ℕ) (put : part makersAt (3 * n .filled .rows) shape′ ≡ flatMap makerWords (varyingMakers (askersIn shape (n .count) aggregates virtualStorages) 0 (n .filled .rows)))
       (kept : take makersAt shape′ ≡ take makersAt shape) where
@@ -134,9 +101,9 @@ module _ (s : Sentinel) (net : Network) (n : NodeRows) (words : List ℕ) (numbe
           virtualStorages = stays virtualStoragesAt (6 * length (net .virtualStorages)) (omega arith) ∙ v .virtualStorages;
         }
 
-    pub varying-made : MadeHeld (programmeOf s net .programme .varying) (theirs s net) words′ numbers (n .filled)
+    pub varying-made : MadeHeld (programmeOf s net .programme .varying) (makersOfVarying s net) words′ numbers (n .filled)
     varying-made =
-        let count : length (theirs s net) ≡ n .filled .rows = varying-makers-length (askers (b s net .shape)) 0 (length (b s net .programme .varying)) ∙ sym rows-count in
+        let count : length (makersOfVarying s net) ≡ n .filled .rows = varying-makers-length (askers (b s net .shape)) 0 (length (b s net .programme .varying)) ∙ sym rows-count in
         record {
           held = held-agrees (b s net .programme .varying) words words′ numbers numbers (n .filled) (v .held) front refl;
           each = varying-makers-length (askers (b s net .shape)) 0 (length (b s net .programme .varying));

@@ -5,7 +5,8 @@ use Prim.Native.Nat.{ℕ, _*_}
 use mathlib.Core.List.{List, map, flatMap}
 use lib.Seq.{sets}
 use lib.Ieee.{Float}
-use Rattle.layout.specs.Layout.{countsLength, nodeWidth, edgeWidth, nodeRowWidth, virtualStorageWidth, makerWidth, shapeMadeAt, nodesMadeAt, edgesMadeAt, nodeRowsMadeAt, aggregatesMadeAt, virtualStoragesMadeAt, makersMadeAt}
+use Rattle.layout.specs.Layout.{countsLength, nodeWidth, edgeWidth, nodeRowWidth, virtualStorageWidth, makerWidth}
+use Rattle.layout.specs.Layout.{shapeMadeAt, nodesMadeAt, edgesMadeAt, nodeRowsMadeAt, aggregatesMadeAt, virtualStoragesMadeAt, makersMadeAt}
 use Rattle.laws.specs.Part.{part}
 use Rattle.pywr.specs.declared.Sentinel.{Sentinel}
 use Rattle.pywr.specs.Result.{value, refused}

@@ -126,8 +126,11 @@ module _ (s₀ : List ℕ) (rows nodeRows aggregates virtualStorages : ℕ) (few
 
   under-all : UnderAll
   under-all =
-      let front = under-left rows (nodeAskers s₀ ++ aggregateAskers s₀) (virtualStorageAskers s₀) under in
-      (under-left rows (nodeAskers s₀) (aggregateAskers s₀) front, under-right rows (nodeAskers s₀) (aggregateAskers s₀) front, under-right rows (nodeAskers s₀ ++ aggregateAskers s₀) (virtualStorageAskers s₀) under)
+      let front = under-left rows (nodeAskers s₀ ++ aggregateAskers s₀) (virtualStorageAskers s₀) under in (
+        under-left rows (nodeAskers s₀) (aggregateAskers s₀) front,
+        under-right rows (nodeAskers s₀) (aggregateAskers s₀) front,
+        under-right rows (nodeAskers s₀ ++ aggregateAskers s₀) (virtualStorageAskers s₀) under,
+      )
 
   module _ (s₁ : List ℕ) (e₁ : s₁ ≡ sets s₀ (makersAt + 3 * 0) (flatMap makerWords (replicate (rows - 0) nobody))) where
     kept₁ : take makersAt s₁ ≡ take makersAt s₀

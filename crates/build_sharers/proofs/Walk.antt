@@ -6,11 +6,11 @@ use native.Mathlib.Decide.{ℕ-discrete, decLe}
 use native.Mathlib.Numerals.{add-one}
 use native.Mathlib.Omega.{arith}
 use mathlib.Core.List.{List, [], _∷_, _++_, append-nil, append-assoc}
-use lib.ListN.{length, getD, take, drop, length-append}
-use lib.Seq.{sets, length-sets, getD-take, getD-drop}
+use lib.ListN.{length, getD, take, length-append}
+use lib.Seq.{sets, length-sets, getD-take}
 use Rattle.layout.specs.Layout.{makersAt, shapeLength}
 use Rattle.laws.specs.Part.{part}
-use Rattle.laws.proofs.Sets.{part-same, part-before, part-after}
+use Rattle.laws.proofs.Sets.{part-same, part-before, part-after, part-at}
 use Rattle.pywr.specs.Programme.{Maker}
 use Rattle.pywr.specs.Makers.{Asker, makerOf}
 use Rattle.pywr.specs.Written.{makerWords}
@@ -26,7 +26,7 @@ word-kept shape shape′ p h e = sym (getD-take makersAt shape′ p 0 h) ∙ ap 
 -- ---- an entry read
 
 word-of : (shape ws : List ℕ) (at j : ℕ) → j < 3 → part at 3 shape ≡ ws → getD shape (at + j) 0 ≡ getD ws j 0
-word-of shape ws at j h e = sym (getD-take 3 (drop at shape) j 0 h ∙ getD-drop at shape j 0) ∙ ap (λ (l : List ℕ). getD l j 0) e
+word-of shape ws at j h e = sym (part-at shape at 3 j 0 h) ∙ ap (λ (l : List ℕ). getD l j 0) e
 
 pub entry-read : (shape : List ℕ) (row : ℕ) (m : Maker) → part (makersAt + 3 * row) 3 shape ≡ makerWords m → makerIn shape row ≡ m
 unfolding makerWords
@@ -138,7 +138,9 @@ module _ (shape₀ : List ℕ) (asker : ℕ → Asker) (count : ℕ) where
           few = omega arith;
           counted =
               record {
-                held = λ rows all h. rw (add-one i, ← e, ← (append-assoc all (askersTo asker i) (a ∷ []))) (one-more shape a under here shape′ s rows (all ++ askersTo asker i) (w .counted .held rows all h));
+                held = λ rows all h.
+                    rw (add-one i, ← e, ← (append-assoc all (askersTo asker i) (a ∷ [])))
+                    (one-more shape a under here shape′ s rows (all ++ askersTo asker i) (w .counted .held rows all h));
                 kept = one-kept shape a under here shape′ s ∙ w .counted .kept;
               };
           long = ap length s ∙ length-sets shape (makersAt + 3 * a .row) (makerWords (oneMore (a .kind) (a .index) (makerIn shape (a .row)))) ∙ w .long;

@@ -7,7 +7,7 @@ ghost use lib.ListN.{length, take};
 ghost use lib.Seq.{sets};
 ghost use Rattle.layout.specs.Layout.{nodeRowCeiling, aggregateCeiling, virtualStorageCeiling, rowCeiling, shapeLength, makersAt, makerWidth};
 ghost use Rattle.laws.specs.Part.{part};
-ghost use Rattle.pywr.specs.Makers.{Asker, varyingMakers};
+ghost use Rattle.pywr.specs.Makers.{varyingMakers};
 ghost use Rattle.pywr.specs.Written.{makerWords};
 ghost use Rattle.build_sharers.specs.Sharers.{makerIn, oneMore, nodeAsker, entryAsker, askersTo, askersIn, RowsUnder, Counting, Counted};
 use layout::AGGREGATE_WIDTH;

@@ -1,11 +1,11 @@
 -- Laws of `sets`, and of a part of a run that was written elsewhere. Assumes nothing.
 use Prim.Native.Nat.{ℕ, suc, _+_, _-_, _<_, _≤_}
-use mathlib.Core.Path.{_≡_, refl, sym, _∙_, ap}
+use mathlib.Core.Path.{_≡_, refl, _∙_, ap}
 use mathlib.Core.List.{List, [], _∷_, _++_, append-nil, append-assoc}
 use native.Mathlib.Numerals.{add-one}
 use native.Mathlib.Nat.{add-zero}
 use native.Mathlib.Omega.{arith}
-use lib.ListN.{length, getD, take, drop, set, replicate, length-append, length-drop, length-set, replicate-append-replicate, length-replicate}
+use lib.ListN.{length, getD, take, drop, set, length-drop}
 use lib.Seq.{sets, sets-eq, take-suc, drop-at, take-append-seam, length-take-le, take-all, drop-set-add, take-set-le, drop-set-lt, drop-length, getD-take, getD-drop}
 use Rattle.laws.specs.Part.{part}
 
@@ -55,11 +55,15 @@ module _ {A : Type 0} where
   pub length-part : (l : List A) (at n : ℕ) → at + n ≤ length l → length (part at n l) ≡ n
   length-part l at n h = length-take-le n (drop at l) (omega (arith, length-drop at l))
 
+  -- element i of the part of s from `at` on
+  pub part-at : (s : List A) (at n i : ℕ) (z : A) → i < n → getD (part at n s) i z ≡ getD s (at + i) z
+  part-at s at n i z lt = getD-take n (drop at s) i z lt ∙ getD-drop at s i z
+
   -- a turn of a loop that copies a part of s to the front of a run, and its end
   pub copy-next : (d d₀ s : List A) (at n i : ℕ) (z : A) → at + n ≤ length s → i < n → d ≡ sets d₀ 0 (take i (part at n s))
       → set d i (getD s (at + i) z) ≡ sets d₀ 0 (take (i + 1) (part at n s))
   copy-next d d₀ s at n i z h lt e =
-      front-next d d₀ (part at n s) i (getD s (at + i) z) z (omega (arith, length-part s at n h)) (getD-take n (drop at s) i z lt ∙ getD-drop at s i z) e
+      front-next d d₀ (part at n s) i (getD s (at + i) z) z (omega (arith, length-part s at n h)) (part-at s at n i z lt) e
 
   pub take-whole : (xs : List A) (n i : ℕ) → length xs ≡ n → n ≤ i → take i xs ≡ xs
   take-whole xs n i e h = take-all i xs (omega (arith, e))

@@ -125,6 +125,8 @@ pub const BY_VIRTUAL_STORAGE: u16 = 3;
 
 pub const BY_EXCLUSIVITY: u16 = 4;
 
+pub const MAKER_KINDS: usize = BY_EXCLUSIVITY as usize + 1;
+
 // The build's work run of words: the elements' columns from 0, the row starts, then the shape run's words, with the offsets of the shape run.
 pub const STARTS_MADE_AT: usize = ELEMENT_CEILING;
 

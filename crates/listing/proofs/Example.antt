@@ -50,5 +50,7 @@ secondRow = 82 ∷ 32 ∷ 49 ∷ 32 ∷ 48 ∷ 32 ∷ 48 ∷ 48 ∷ 48 ∷ 48 �
     ∷ 48 ∷ 48 ∷ 48 ∷ 48 ∷ 48 ∷ 48 ∷ 48 ∷ 48 ∷ 48 ∷ 32 ∷ 49 ∷ 32 ∷ 49 ∷ 32 ∷ 49 ∷ 32 ∷ 49 ∷ 10 ∷ []
 
 document : programmeText built ≡ programme ++ column ++ firstRow ++ element ++ secondRow ++ element
-unfolding computing blank sixteenDigits decimalWithin decimal numberField doubleField letterField boundsFields headFields programmeLine kindLetter columnLine varyingFlag makerFields rowLine elementLine columnText rowText elementText elementsText rowLines rowsText listedRows columnsText listedColumns programmeText built programme column firstRow element secondRow
+unfolding computing blank sixteenDigits decimalWithin decimal numberField doubleField letterField boundsFields headFields programmeLine kindLetter
+    columnLine varyingFlag makerFields rowLine elementLine columnText rowText elementText elementsText rowLines
+    rowsText listedRows columnsText listedColumns programmeText built programme column firstRow element secondRow
 document = refl

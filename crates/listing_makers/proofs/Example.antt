@@ -34,11 +34,16 @@ secondRow = 114 ∷ 111 ∷ 119 ∷ 32 ∷ 49 ∷ 58 ∷ 32 ∷ 110 ∷ 111 ∷ 
 
 -- row 7: virtual storage 0, shared by 2
 licences : List ℕ
-licences = 114 ∷ 111 ∷ 119 ∷ 32 ∷ 55 ∷ 58 ∷ 32 ∷ 118 ∷ 105 ∷ 114 ∷ 116 ∷ 117 ∷ 97 ∷ 108 ∷ 32 ∷ 115 ∷ 116 ∷ 111 ∷ 114 ∷ 97 ∷ 103 ∷ 101 ∷ 32 ∷ 48 ∷ 44 ∷ 32 ∷ 115 ∷ 104 ∷ 97 ∷ 114 ∷ 101 ∷ 100 ∷ 32 ∷ 98 ∷ 121 ∷ 32 ∷ 50 ∷ 10 ∷ []
+licences =
+    114 ∷ 111 ∷ 119 ∷ 32 ∷ 55 ∷ 58 ∷ 32
+    ∷ 118 ∷ 105 ∷ 114 ∷ 116 ∷ 117 ∷ 97 ∷ 108 ∷ 32 ∷ 115 ∷ 116 ∷ 111 ∷ 114 ∷ 97 ∷ 103 ∷ 101 ∷ 32 ∷ 48
+    ∷ 44 ∷ 32 ∷ 115 ∷ 104 ∷ 97 ∷ 114 ∷ 101 ∷ 100 ∷ 32 ∷ 98 ∷ 121 ∷ 32 ∷ 50 ∷ 10 ∷ []
 
 -- row 19: exclusivity of aggregate 0
 exclusive : List ℕ
-exclusive = 114 ∷ 111 ∷ 119 ∷ 32 ∷ 49 ∷ 57 ∷ 58 ∷ 32 ∷ 101 ∷ 120 ∷ 99 ∷ 108 ∷ 117 ∷ 115 ∷ 105 ∷ 118 ∷ 105 ∷ 116 ∷ 121 ∷ 32 ∷ 111 ∷ 102 ∷ 32 ∷ 97 ∷ 103 ∷ 103 ∷ 114 ∷ 101 ∷ 103 ∷ 97 ∷ 116 ∷ 101 ∷ 32 ∷ 48 ∷ 10 ∷ []
+exclusive =
+    114 ∷ 111 ∷ 119 ∷ 32 ∷ 49 ∷ 57 ∷ 58 ∷ 32
+    ∷ 101 ∷ 120 ∷ 99 ∷ 108 ∷ 117 ∷ 115 ∷ 105 ∷ 118 ∷ 105 ∷ 116 ∷ 121 ∷ 32 ∷ 111 ∷ 102 ∷ 32 ∷ 97 ∷ 103 ∷ 103 ∷ 114 ∷ 101 ∷ 103 ∷ 97 ∷ 116 ∷ 101 ∷ 32 ∷ 48 ∷ 10 ∷ []
 
 document : makersText built (rowCount built) ≡ firstRow ++ secondRow
 unfolding computing blank decimalWithin decimal numberField kindWords sharedWords makerLine makersText built firstRow secondRow

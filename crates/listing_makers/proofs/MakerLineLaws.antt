@@ -7,7 +7,7 @@ use native.Mathlib.Omega.{arith}
 use borrow.Author.Tests.{eq-eqb, ne-eqb, lt-ltb, le-ltb}
 use lib.ListN.{length, take, length-append}
 use Rattle.layout.specs.Layout.{varyingIn, fixedIn}
-use Rattle.pywr.specs.Programme.{Maker}
+use Rattle.pywr.specs.Programme.{Maker, byMass, byNode, byAggregate, byVirtualStorage}
 use Rattle.pywr.specs.Store.{Store, rowCount, rowMaker}
 use Rattle.text.specs.Text.{Put}
 use Rattle.text.proofs.Placed.{put-as}
@@ -27,28 +27,28 @@ put-nothing {most} {text} {out} {at} e =
 -- ---- the kinds in words
 
 module _ (kind : ℕ) where
-  pub by-mass : kind ≡ 0 → massBalance ≡ kindWords kind
+  pub by-mass : kind ≡ byMass → massBalance ≡ kindWords kind
   unfolding kindWords
-  by-mass e = rw (eq-eqb kind 0 e)
+  by-mass e = rw (eq-eqb kind byMass e)
 
-  module _ (no-mass : kind ≡ 0 → ⊥) where
-    pub by-node : kind ≡ 1 → node ≡ kindWords kind
+  module _ (no-mass : kind ≡ byMass → ⊥) where
+    pub by-node : kind ≡ byNode → node ≡ kindWords kind
     unfolding kindWords
-    by-node e = rw (ne-eqb kind 0 no-mass, eq-eqb kind 1 e)
+    by-node e = rw (ne-eqb kind byMass no-mass, eq-eqb kind byNode e)
 
-    module _ (no-node : kind ≡ 1 → ⊥) where
-      pub by-aggregate : kind ≡ 2 → aggregate ≡ kindWords kind
+    module _ (no-node : kind ≡ byNode → ⊥) where
+      pub by-aggregate : kind ≡ byAggregate → aggregate ≡ kindWords kind
       unfolding kindWords
-      by-aggregate e = rw (ne-eqb kind 0 no-mass, ne-eqb kind 1 no-node, eq-eqb kind 2 e)
+      by-aggregate e = rw (ne-eqb kind byMass no-mass, ne-eqb kind byNode no-node, eq-eqb kind byAggregate e)
 
-      module _ (no-aggregate : kind ≡ 2 → ⊥) where
-        pub by-virtual-storage : kind ≡ 3 → virtualStorage ≡ kindWords kind
+      module _ (no-aggregate : kind ≡ byAggregate → ⊥) where
+        pub by-virtual-storage : kind ≡ byVirtualStorage → virtualStorage ≡ kindWords kind
         unfolding kindWords
-        by-virtual-storage e = rw (ne-eqb kind 0 no-mass, ne-eqb kind 1 no-node, ne-eqb kind 2 no-aggregate, eq-eqb kind 3 e)
+        by-virtual-storage e = rw (ne-eqb kind byMass no-mass, ne-eqb kind byNode no-node, ne-eqb kind byAggregate no-aggregate, eq-eqb kind byVirtualStorage e)
 
-        pub by-exclusivity : (kind ≡ 3 → ⊥) → exclusivity ≡ kindWords kind
+        pub by-exclusivity : (kind ≡ byVirtualStorage → ⊥) → exclusivity ≡ kindWords kind
         unfolding kindWords
-        by-exclusivity h = rw (ne-eqb kind 0 no-mass, ne-eqb kind 1 no-node, ne-eqb kind 2 no-aggregate, ne-eqb kind 3 h)
+        by-exclusivity h = rw (ne-eqb kind byMass no-mass, ne-eqb kind byNode no-node, ne-eqb kind byAggregate no-aggregate, ne-eqb kind byVirtualStorage h)
 
 -- ---- how many share a row
 

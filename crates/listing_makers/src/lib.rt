@@ -1,41 +1,51 @@
 // The rows of a store written on standard output by their makers, in words, one row a line.
 // What stands in each line is proved, and how many bytes the lines have together. That the bytes go out is not stated: output is outside the logic.
 // Where a write fails the answer says so, the rest is not written, and errno says why.
-use layout::FIXED_COUNT_AT;
-use layout::VARYING_COUNT_AT;
+use layout::BY_AGGREGATE;
+use layout::BY_MASS;
+use layout::BY_NODE;
+use layout::BY_VIRTUAL_STORAGE;
 use listing::Output;
 use listing_fields::put_number;
 use listing_lines::RowMaker;
 use listing_rows::spare;
 use listing_rows::write_out;
+use listing_stored::row_count;
 use listing_stored::row_maker;
-use listing_stored::word;
 use text::put_all;
 ghost use mathlib.Core.Path.{_≡_};
 ghost use Prim.Native.Nat.{_+_, _<_, _≤_, _^_};
 ghost use lib.ListN.{length};
-ghost use Rattle.layout.specs.Layout.{varyingIn, fixedIn};
 ghost use Rattle.pywr.specs.Store.{Store, rowCount, rowMaker};
 ghost use Rattle.text.specs.Text.{Put};
 ghost use Rattle.listing_fields.specs.Fields.{PutWithin};
 ghost use Rattle.listing_lines.specs.Lines.{lineRoom, toMaker};
 ghost use Rattle.listing_makers.specs.Makers.{kindWords, sharedWords, makerLine, makersText, makerText};
 
+// The kinds in the width of a maker's numbers.
+const MASS: usize = BY_MASS as usize;
+
+const NODE: usize = BY_NODE as usize;
+
+const AGGREGATE: usize = BY_AGGREGATE as usize;
+
+const VIRTUAL_STORAGE: usize = BY_VIRTUAL_STORAGE as usize;
+
 // The words of a kind, at most 24 bytes.
 fn put_kind(out: &mut [u8], at: usize, kind: usize) -> usize
     requires { ⌜ at + 24 ≤ length (now out) ⌝ }
     ensures { λ r. ⌜ PutWithin 24 (kindWords kind) (now (out .entry)) at (now (out .exit)) r ⌝ }
 {
-    if kind == 0 {
+    if kind == MASS {
         return put_all(out, at, b"mass balance of node");
     }
-    if kind == 1 {
+    if kind == NODE {
         return put_all(out, at, b"node");
     }
-    if kind == 2 {
+    if kind == AGGREGATE {
         return put_all(out, at, b"aggregate");
     }
-    if kind == 3 {
+    if kind == VIRTUAL_STORAGE {
         return put_all(out, at, b"virtual storage");
     }
     put_all(out, at, b"exclusivity of aggregate")
@@ -54,7 +64,7 @@ fn put_shared(out: &mut [u8], at: usize, shared_by: usize) -> usize
 }
 
 // The line of a row.
-pub fn put_maker(out: &mut [u8], at: usize, row: usize, maker: RowMaker) -> usize
+fn put_maker(out: &mut [u8], at: usize, row: usize, maker: RowMaker) -> usize
     requires { ⌜ at + lineRoom ≤ length (now out) ⌝ }
     ensures { λ r. ⌜ PutWithin lineRoom (makerLine row (toMaker maker)) (now (out .entry)) at (now (out .exit)) r ⌝ }
 {
@@ -65,12 +75,6 @@ pub fn put_maker(out: &mut [u8], at: usize, row: usize, maker: RowMaker) -> usiz
     let e = put_number(out, d, maker.index);
     let f = put_shared(out, e, maker.shared_by);
     text::put(out, f, b'\n')
-}
-
-fn row_count(shape: &[u16]) -> usize
-    ensures { λ r. ⌜ (r ≡ varyingIn (now (shape .entry)) + fixedIn (now (shape .entry))) × (r < 131072) ⌝ }
-{
-    word(shape, VARYING_COUNT_AT) + word(shape, FIXED_COUNT_AT)
 }
 
 fn write_makers(out: &mut [u8], shape: &[u16]) -> Output

@@ -2,11 +2,9 @@
 // What stands in each line is proved, in `listing_lines` and `listing_stored`, and how many bytes the lines have together, here.
 // That the bytes go out is not stated: output is outside the logic. `written` says whether standard output took all that it was handed so far; where a
 // write failed, nothing more is written, and errno says why.
-use layout::FIXED_COUNT_AT;
-use layout::VARYING_COUNT_AT;
 use listing_lines::LINE_ROOM;
 use listing_stored::put_stored_row;
-use listing_stored::word;
+use listing_stored::row_count;
 use widths::wide16;
 use widths::wide32;
 ghost use mathlib.Core.Path.{_≡_};
@@ -137,8 +135,7 @@ fn listed_rows(shape: &[u16], starts: usize, lower: usize, upper: usize) -> usiz
     if starts == 0 {
         return 0;
     }
-    let rows = word(shape, VARYING_COUNT_AT) + word(shape, FIXED_COUNT_AT);
-    least(least(rows, starts - 1), least(lower, upper))
+    least(least(row_count(shape), starts - 1), least(lower, upper))
 }
 
 // Puts the rows, each with its elements behind it, behind the first `from` bytes.

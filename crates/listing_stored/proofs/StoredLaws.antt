@@ -8,7 +8,6 @@ use lib.Ieee.{Float, nan}
 use Rattle.layout.specs.Layout.{makersAt, makerWidth}
 use Rattle.laws.proofs.Runs.{getD-any}
 use Rattle.pywr.specs.Numbers.{zero64}
-use Rattle.pywr.specs.Programme.{Maker}
 use Rattle.pywr.specs.Store.{Store, columnEntry, rowEntry, makerEntry, rowMaker}
 use Rattle.listing_lines.specs.Lines.{columnLine, toMaker, rowLine}
 use Rattle.listing_lines.specs.declared.RowMaker.{RowMaker}

@@ -13,6 +13,7 @@ use widths::wide16;
 ghost use mathlib.Core.Path.{_≡_};
 ghost use Prim.Native.Nat.{_+_, _<_, _≤_, _^_};
 ghost use lib.ListN.{length, getD};
+ghost use Rattle.layout.specs.Layout.{varyingIn, fixedIn};
 ghost use Rattle.pywr.specs.Store.{Store, columnCount, rowCount, varyingCount, elementsKept, rowMaker};
 ghost use Rattle.text.specs.Text.{Put};
 ghost use Rattle.listing_lines.specs.Lines.{lineRoom, toMaker, programmeLine};
@@ -26,6 +27,13 @@ pub fn word(shape: &[u16], at: usize) -> usize
         return wide16(shape[at]);
     }
     0
+}
+
+// How many rows the store says it has.
+pub fn row_count(shape: &[u16]) -> usize
+    ensures { λ r. ⌜ (r ≡ varyingIn (now (shape .entry)) + fixedIn (now (shape .entry))) × (r < 131072) ⌝ }
+{
+    word(shape, VARYING_COUNT_AT) + word(shape, FIXED_COUNT_AT)
 }
 
 // Who made a row.
@@ -48,8 +56,8 @@ pub fn put_counts(out: &mut [u8], at: usize, shape: &[u16]) -> usize
         → Put (programmeLine (columnCount s) (rowCount s) (varyingCount s) (elementsKept s)) (now (out .entry)) at (now (out .exit)) r) × (r ≤ at + lineRoom) ⌝ }
 {
     let columns = word(shape, EDGE_COLUMN_COUNT_AT) + word(shape, SET_COUNT_AT);
+    let rows = row_count(shape);
     let varying = word(shape, VARYING_COUNT_AT);
-    let rows = varying + word(shape, FIXED_COUNT_AT);
     let elements = word(shape, ELEMENT_COUNT_AT);
     listing_lines::put_programme(out, at, columns, rows, varying, elements)
 }

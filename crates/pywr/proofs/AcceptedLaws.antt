@@ -1,16 +1,15 @@
 -- After an accepted build and any list of steps the store is well shaped and as long as needed, so that a step answers by its file alone: a file that
--- reads well with ordered intervals is accepted there, given the work area that a step needs; and every row keeps its maker. Assumes nothing.
-use mathlib.Core.Path.{_≡_, refl, sym, ap, ap₂, _∙_, subst}
-use Prim.Native.Nat.{ℕ, zero, suc, _+_, _*_, _≤_, _<_}
-use native.Mathlib.Omega.{arith}
+-- reads well with ordered intervals is accepted there, given the work area that a step needs. Assumes nothing.
+use mathlib.Core.Path.{_≡_, refl, ap, ap₂, _∙_}
+use Prim.Native.Nat.{ℕ, zero, suc, _+_, _≤_}
 use mathlib.Core.Bool.{Bool, true, false, _&&_}
 use mathlib.Core.List.{List, [], _∷_, map, flatMap}
 use lib.ListN.{length, getElem?}
 use mathlib.Core.Option.{some}
 use lib.Seq.{sets, length-sets}
-use lib.Dec.{T, leb, ltb, eqb, le→leb, leb→le, ltb→lt}
+use lib.Dec.{T, leb, ltb, eqb, le→leb}
 use lib.Ieee.{Float}
-use lib.Ieee.Fits.{and-i, and-l, and-r}
+use lib.Ieee.Fits.{and-i}
 use Rattle.layout.specs.Layout.{makersAt, makerWidth, rowStartsLength, shapeLength, varyingIn}
 use Rattle.laws.proofs.Tests.{to-true, of-true}
 use Rattle.pywr.specs.declared.Sentinel.{Sentinel}
@@ -18,26 +17,22 @@ use Rattle.pywr.specs.Result.{value, Result, refused, _>>=_, need}
 use Rattle.pywr.specs.Network.{Period, Network}
 use Rattle.pywr.specs.NetworkFile.{parseNetwork}
 use Rattle.pywr.specs.Rows.{Element}
-use Rattle.pywr.specs.Programme.{Column, Row, Programme, Shape, Maker, Built, byExclusivity}
-use Rattle.pywr.specs.Makers.{askers, references}
+use Rattle.pywr.specs.Programme.{Column, Row, Programme, Shape, Built}
 use Rattle.pywr.specs.Build.{assemble, programmeOf}
 use Rattle.pywr.specs.StepFile.{StepFile, readStep}
 use Rattle.pywr.specs.StepIntervals.{intervals, Intervals, ordered}
 use Rattle.pywr.specs.Step.{periods, stepped}
 use Rattle.pywr.specs.Store.{Store, storeHasRoom, sentinelCode, nodeCount, edgeCount, nodeRowCount, aggregateCount, virtualStorageCount}
 use Rattle.pywr.specs.Store.{varyingCount, rowCount, nodesAt, edgesAt, nodeRowsAt, aggregatesAt, virtualStoragesAt, nodeEntry, edgeEntry}
-use Rattle.pywr.specs.Store.{nodeRowEntry, virtualStorageEntry, makerEntry, makersIn, rowMaker, shapeOf, startOf, columnsOfRow, programmeIn}
+use Rattle.pywr.specs.Store.{nodeRowEntry, virtualStorageEntry, makerEntry, makersIn, shapeOf, startOf, columnsOfRow, programmeIn}
 use Rattle.pywr.specs.Misshapen.{countsFit, startsRise, rowColumnsRise, nodeFits, edgeFits, nodeRowFits, aggregateFits, virtualStorageFits, makersOfKind, makerFits, allEntries, wellShaped}
 use Rattle.pywr.specs.Written.{nodeWords, edgeWords, nodeRowWords, virtualStorageWords, makerWords, countWords, shapeAfter, startsFrom}
 use Rattle.pywr.specs.Written.{columnsIn, valuesIn, lowerOf, upperOf, rowsOf, builtStore, steppedStore}
 use Rattle.pywr.specs.Calls.{buildAnswer, buildStore, workNeeded, stepRoom, stepRead, stepIntervals, stepAnswer, storeOfStep, stepStore, isAccepted, rowAnswer}
 use Rattle.pywr.specs.Correspondence.{Call, storeAfter, periodsOf, readBy}
-use Rattle.pywr.proofs.EntryLaws.{entry-passes, entry-found}
 use Rattle.pywr.proofs.ReadLaws.{Sound, read-sound}
 use Rattle.pywr.proofs.DemandThree.{BuildAccepted, build-accepted, periods-are, read-alike}
 use Rattle.pywr.proofs.FitLaws.{idle}
-use Rattle.pywr.proofs.AskerLaws.{FirstAsker}
-use Rattle.pywr.proofs.MadeLaws.{first-asker, shared-counts, fixed-once}
 use Rattle.pywr.proofs.WellShaped.{held, shaped, rows-count, of-row}
 
 -- ---- what a step keeps
@@ -47,10 +42,9 @@ unfolding startsRise steppedStore
 starts-same s p r zero = refl
 starts-same s p r (suc n) = ap (λ (x : Bool). leb (startOf s r) (startOf s (r + 1)) && x) (starts-same s p (r + 1) n)
 
-shaped-same : (s : Store) (p : Programme) → wellShaped (steppedStore s p) ≡ wellShaped s
-unfolding wellShaped steppedStore countsFit rowColumnsRise nodeFits edgeFits nodeRowFits aggregateFits virtualStorageFits makerFits makersOfKind columnsOfRow
-shaped-same s p =
-    ap (λ (x : Bool).
+-- 17's parts before the makers; the rising starts are x
+abbrev pub beforeMakers : Store → Bool → Bool
+beforeMakers s x =
     countsFit s
     && leb (sentinelCode s) 1
     && (eqb (startOf s 0) 0 && x)
@@ -60,8 +54,10 @@ shaped-same s p =
     && allEntries (nodeRowFits s) 4 nodeRowsAt (nodeRowCount s)
     && allEntries (aggregateFits s) 1 aggregatesAt (aggregateCount s)
     && allEntries (virtualStorageFits s) 6 virtualStoragesAt (virtualStorageCount s)
-    && allEntries (makerFits s) 3 makersAt (rowCount s))
-    (starts-same s p 0 (rowCount s))
+
+shaped-same : (s : Store) (p : Programme) → wellShaped (steppedStore s p) ≡ wellShaped s
+unfolding wellShaped steppedStore countsFit rowColumnsRise nodeFits edgeFits nodeRowFits aggregateFits virtualStorageFits makerFits makersOfKind columnsOfRow
+shaped-same s p = ap (λ (x : Bool). beforeMakers s x && allEntries (makerFits s) makerWidth makersAt (rowCount s)) (starts-same s p 0 (rowCount s))
 
 shape-same : (s : Store) (p : Programme) → shapeOf (steppedStore s p) ≡ shapeOf s
 unfolding shapeOf steppedStore nodeEntry edgeEntry nodeRowEntry virtualStorageEntry
@@ -120,7 +116,16 @@ unfolding storeOfStep
 step-keeps s (refused n p) = record { run = refl; shaped = refl; room = refl; shape = refl; makers = refl; sentinel = refl; count = refl; part = λ r. refl }
 step-keeps s (value f) =
     let p : Programme = stepped (shapeOf s) f (programmeIn s) in
-    record { run = run-same s p; shaped = shaped-same s p; room = room-same s p; shape = shape-same s p; makers = makers-same s p; sentinel = sentinel-same s p; count = count-same s p; part = part-same s p }
+    record {
+      run = run-same s p;
+      shaped = shaped-same s p;
+      room = room-same s p;
+      shape = shape-same s p;
+      makers = makers-same s p;
+      sentinel = sentinel-same s p;
+      count = count-same s p;
+      part = part-same s p;
+    }
 
 pub steps-keep : (calls : List Call) (s : Store) → Keeps s (storeAfter s calls)
 unfolding storeAfter stepStore
@@ -164,39 +169,6 @@ step-answers s file work room long shape =
     (bind-is _ _ s (readStep (shapeOf s .nodes) (length (shapeOf s .aggregates)) (length (shapeOf s .virtualStorages)) file)
     (need-yes (storeHasRoom s && leb workNeeded (length work)) 16 0 s (and-i (storeHasRoom s) (leb workNeeded (length work)) room (le→leb workNeeded (length work) long)))
     (bind-is _ _ (shapeOf s) (readStep (shapeOf s .nodes) (length (shapeOf s .aggregates)) (length (shapeOf s .virtualStorages)) file) (need-yes (wellShaped s) 17 0 (shapeOf s) shape) refl))
-
--- ---- a row's maker in a well shaped store
-
-pub record RowMade (s : Store) (r : ℕ) : Type 0 where
-  pub kind-most : rowMaker s r .kind ≤ byExclusivity
-  pub index-under : rowMaker s r .index < makersOfKind s (rowMaker s r .kind)
-  pub shared : 1 ≤ rowMaker s r .sharedBy
-
-row-made : (s : Store) → T (wellShaped s) → (r : ℕ) → r < rowCount s → RowMade s r
-unfolding wellShaped makerFits rowMaker makerEntry
-row-made s t r h =
-    let rest : Bool =
-    countsFit s
-    && leb (sentinelCode s) 1
-    && (eqb (startOf s 0) 0 && startsRise s 0 (rowCount s))
-    && allEntries (rowColumnsRise s) 1 0 (rowCount s)
-    && allEntries (nodeFits s) 2 nodesAt (nodeCount s)
-    && allEntries (edgeFits s) 3 edgesAt (edgeCount s)
-    && allEntries (nodeRowFits s) 4 nodeRowsAt (nodeRowCount s)
-    && allEntries (aggregateFits s) 1 aggregatesAt (aggregateCount s)
-    && allEntries (virtualStorageFits s) 6 virtualStoragesAt (virtualStorageCount s) in
-    let all : Bool = allEntries (makerFits s) makerWidth makersAt (rowCount s) in
-    let m : Maker = rowMaker s r in
-    let p : Bool = leb (m .kind) byExclusivity in
-    let q : Bool = ltb (m .index) (makersOfKind s (m .kind)) in
-    let fits : T (makerFits s (makersAt + makerWidth * r)) =
-    of-true (makerFits s (makersAt + makerWidth * r)) (entry-passes (makerFits s) makerWidth (rowCount s) makersAt (to-true all (and-r rest all t)) r h) in
-    let both : T (p && q) = and-l (p && q) (leb 1 (m .sharedBy)) fits in
-    record {
-      kind-most = leb→le (m .kind) byExclusivity (and-l p q both);
-      index-under = ltb→lt (m .index) (makersOfKind s (m .kind)) (and-r p q both);
-      shared = leb→le 1 (m .sharedBy) (and-r (p && q) (leb 1 (m .sharedBy)) fits);
-    }
 
 -- ---- the store that a build left
 
@@ -254,8 +226,16 @@ module _ (networkFile : List ℕ) (w : Sentinel) (old : Store) (words : List ℕ
   build-roomy calls = steps-keep calls (buildStore w networkFile old words numbers) .room ∙ ap storeHasRoom (built .store) ∙ built-room old (programmeOf w net)
       ∙ to-true (storeHasRoom old) (built .fits)
 
-  shape-is : (calls : List Call) → shapeOf (after calls) ≡ programmeOf w net .shape
+  pub shape-is : (calls : List Call) → shapeOf (after calls) ≡ programmeOf w net .shape
   shape-is calls = steps-keep calls (buildStore w networkFile old words numbers) .shape ∙ ap shapeOf (built .store) ∙ held w net sound old (built .room) (built .under) .shape
+
+  pub makers-is : (calls : List Call) → makersIn (after calls) ≡ programmeOf w net .makers
+  makers-is calls = steps-keep calls (buildStore w networkFile old words numbers) .makers ∙ ap makersIn (built .store) ∙ held w net sound old (built .room) (built .under) .makers
+
+  pub varying-is : (calls : List Call) → varyingCount (after calls) ≡ length (programmeOf w net .programme .varying)
+  varying-is calls =
+      ap varyingIn (steps-keep calls (buildStore w networkFile old words numbers) .run ∙ ap (λ (s : Store). s .shape) (built .store))
+      ∙ held w net sound old (built .room) (built .under) .varyingCount
 
   sentinel-is : (calls : List Call) → programmeIn (after calls) .sentinel ≡ w
   unfolding programmeIn programmeOf assemble
@@ -281,7 +261,7 @@ module _ (networkFile : List ℕ) (w : Sentinel) (old : Store) (words : List ℕ
 
   -- ---- reading a row: 16 and 17 never come either
 
-  count-is : (calls : List Call) → rowCount (after calls) ≡ length (rowsOf (programmeOf w net .programme))
+  pub count-is : (calls : List Call) → rowCount (after calls) ≡ length (rowsOf (programmeOf w net .programme))
   count-is calls = steps-keep calls (buildStore w networkFile old words numbers) .count ∙ ap (λ (s : Store). rowCount s) (built .store) ∙ rows-count w net sound old (built .room) (built .under)
 
   pub row-answers : (calls : List Call) (r : ℕ) → rowAnswer (after calls) r ≡ need (ltb r (length (rowsOf (programmeOf w net .programme)))) 18 r (columnsOfRow (after calls) r)
@@ -295,39 +275,3 @@ module _ (networkFile : List ℕ) (w : Sentinel) (old : Store) (words : List ℕ
   pub row-part : (calls : List Call) (r : ℕ) (x : Row) → getElem? (rowsOf (programmeOf w net .programme)) r ≡ some x → columnsOfRow (after calls) r ≡ map (λ (e : Element). e .column) (x .elements)
   row-part calls r x e =
       steps-keep calls (buildStore w networkFile old words numbers) .part r ∙ ap (λ (s : Store). columnsOfRow s r) (built .store) ∙ of-row w net sound old (built .room) (built .under) r x e
-
-  -- ---- who made the rows: refused steps and accepted ones leave it
-
-  pub makers-stay : (calls : List Call) → makersIn (after calls) ≡ programmeOf w net .makers
-  makers-stay calls = steps-keep calls (buildStore w networkFile old words numbers) .makers ∙ ap makersIn (built .store) ∙ held w net sound old (built .room) (built .under) .makers
-
-  -- the maker that is kept for row r is that of row r of the built programme
-  pub row-maker : (calls : List Call) (r : ℕ) → r < rowCount (after calls) → getElem? (programmeOf w net .makers) r ≡ some (rowMaker (after calls) r)
-  unfolding makersIn rowMaker
-  row-maker calls r h =
-      ap (λ (ms : List Maker). getElem? ms r) (sym (makers-stay calls)) ∙ entry-found (makerEntry (after calls)) makerWidth makersAt (rowCount (after calls)) r h
-
-  pub every-row-made : (calls : List Call) (r : ℕ) → r < rowCount (after calls) → RowMade (after calls) r
-  every-row-made calls r h = row-made (after calls) (of-true (wellShaped (after calls)) (build-shaped calls)) r h
-
-  -- of a varying row: its first asker by the kept tables, and how often they name it; of a fixed one: one maker
-  module _ (calls : List Call) (r : ℕ) where
-    varying-is : varyingCount (after calls) ≡ length (programmeOf w net .programme .varying)
-    varying-is =
-        ap varyingIn (steps-keep calls (buildStore w networkFile old words numbers) .run ∙ ap (λ (s : Store). s .shape) (built .store)) ∙ held w net sound old (built .room) (built .under) .varyingCount
-
-    under-all : r < varyingCount (after calls) → r < rowCount (after calls)
-    under-all h = omega arith
-
-    under : r < varyingCount (after calls) → r < length (programmeOf w net .programme .varying)
-    under h = subst (λ (n : ℕ). r < n) varying-is h
-
-    pub row-first-asker : r < varyingCount (after calls) → FirstAsker r (askers (shapeOf (after calls))) (rowMaker (after calls) r)
-    row-first-asker h =
-        subst (λ (q : Shape). FirstAsker r (askers q) (rowMaker (after calls) r)) (sym (shape-is calls)) (first-asker w net r (rowMaker (after calls) r) (under h) (row-maker calls r (under-all h)))
-
-    pub row-shared : r < varyingCount (after calls) → rowMaker (after calls) r .sharedBy ≡ references (shapeOf (after calls)) r
-    row-shared h = shared-counts w net r (rowMaker (after calls) r) (under h) (row-maker calls r (under-all h)) ∙ ap (λ (q : Shape). references q r) (sym (shape-is calls))
-
-    pub row-alone : varyingCount (after calls) ≤ r → r < rowCount (after calls) → rowMaker (after calls) r .sharedBy ≡ 1
-    row-alone l h = fixed-once w net r (rowMaker (after calls) r) (subst (λ (n : ℕ). n ≤ r) varying-is l) (row-maker calls r h)

@@ -18,6 +18,7 @@ use Rattle.pywr.specs.Rows.{Element}
 use Rattle.pywr.specs.Programme.{NodeRow, VirtualStorageShape, Shape, Maker, byNode, byAggregate, byVirtualStorage}
 use Rattle.pywr.specs.VariableRows.{position, Joined, addVariableRow, addVariableRows}
 use Rattle.pywr.specs.Makers.{Asker, askersByNodes, askersInTurn, askers, sharersOf, firstOf, makerOf, varyingMakers, timesNamed, references}
+use Rattle.pywr.specs.RowMakers.{FirstAsker}
 use Rattle.pywr.proofs.JoinLaws.{position-most}
 use Rattle.pywr.proofs.ListLaws.{AllMem, all-none, all-cons, all-map, found-mem, found-below, below-found, found-left, not-found, same-some}
 use Rattle.pywr.proofs.VaryingLaws.{node-places}
@@ -99,17 +100,6 @@ in-turn-ask kind index (x ∷ rows) row m = go (λ k. in-turn-ask kind (suc inde
 
 -- ---- the first of them
 
--- an asker of the row, with the maker's kind and index, before which no asker of the row stands
-pub record FirstAsker (row : ℕ) (all : List Asker) (m : Maker) : Type 0 where
-  pub at : ℕ
-  pub asker : Asker
-  pub found : getElem? all at ≡ some asker
-  pub given : asker .row ≡ row
-  pub kind : m .kind ≡ asker .kind
-  pub index : m .index ≡ asker .index
-  pub shared : 1 ≤ m .sharedBy
-  pub none-before : (i : ℕ) (a : Asker) → i < at → getElem? all i ≡ some a → a .row ≢ row
-
 pub first-made : (row : ℕ) (all : List Asker) → AskedFor row all → FirstAsker row all (makerOf all row)
 unfolding makerOf sharersOf keepIf firstOf
 first-made row [] a = absurd (List·Memᴰ·not-nil (a .among))
@@ -168,14 +158,14 @@ first-within P row m front rest h i a q g f = go (decLe (suc i) (f .at))
 abbrev pub nodeAsker : NodeRow → Asker
 nodeAsker n = record { kind = byNode; index = n .node; row = n .row }
 
-pub nodes-found : (ns : List NodeRow) (i : ℕ) (n : NodeRow) → getElem? ns i ≡ some n → getElem? (askersByNodes ns) i ≡ some (nodeAsker n)
+nodes-found : (ns : List NodeRow) (i : ℕ) (n : NodeRow) → getElem? ns i ≡ some n → getElem? (askersByNodes ns) i ≡ some (nodeAsker n)
 unfolding askersByNodes
 nodes-found [] i n e = not-found n e
 nodes-found (x ∷ ns) zero n e = ap (λ (y : NodeRow). some (nodeAsker y)) (same-some x n e)
 nodes-found (x ∷ ns) (suc i) n e = nodes-found ns i n e
 
 -- in the order of asking node rows come first: asker i is that of node row i
-pub node-row-asks : (shape : Shape) (i : ℕ) (n : NodeRow) → getElem? (shape .nodeRows) i ≡ some n → getElem? (askers shape) i ≡ some (record { kind = byNode; index = n .node; row = n .row })
+pub node-row-asks : (shape : Shape) (i : ℕ) (n : NodeRow) → getElem? (shape .nodeRows) i ≡ some n → getElem? (askers shape) i ≡ some (nodeAsker n)
 unfolding askers
 node-row-asks shape i n e =
     let nodes : List Asker = askersByNodes (shape .nodeRows) in
@@ -246,8 +236,3 @@ unfolding varyingMakers
 varying-found all row zero i h = absurd (not-suc-le-zero h)
 varying-found all row (suc count) zero h = ap (λ (n : ℕ). some (makerOf all n)) (sym (add-zero row))
 varying-found all row (suc count) (suc i) h = varying-found all (suc row) count i (le-of-suc-le-suc h) ∙ ap (λ (n : ℕ). some (makerOf all n)) (suc-add row i ∙ sym (add-suc row i))
-
-pub found-right : {A : Type 0} (xs ys : List A) (i : ℕ) (x : A) → length xs ≤ i → getElem? (xs ++ ys) i ≡ some x → List·Memᴰ x ys
-found-right [] ys i x h e = found-mem ys i x e
-found-right (y ∷ xs) ys zero x h e = absurd (not-suc-le-zero h)
-found-right (y ∷ xs) ys (suc i) x h e = found-right xs ys i x (le-of-suc-le-suc h) e

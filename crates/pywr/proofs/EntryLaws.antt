@@ -1,10 +1,11 @@
 -- The entries of a table by number. Assumes nothing.
-use mathlib.Core.Path.{_≡_, sym, ap, _∙_}
+use mathlib.Core.Path.{_≡_, refl, sym, ap, _∙_}
 use Prim.Native.Nat.{ℕ, zero, suc, _+_, _*_, _<_}
 use native.Mathlib.Nat.{add-zero, mul-zero, mul-suc, add-assoc, add-comm, not-suc-le-zero, le-of-suc-le-suc}
 use mathlib.Core.Bool.{Bool, true, _&&_}
+use mathlib.Core.List.{List, [], _∷_, _++_}
 use mathlib.Core.Option.{some}
-use lib.ListN.{getElem?}
+use lib.ListN.{length, getElem?}
 use lib.Ieee.Fits.{and-l, and-r}
 use Rattle.laws.proofs.Tests.{of-true, to-true}
 use Rattle.pywr.specs.Store.{entries}
@@ -16,6 +17,19 @@ first-entry words at = rw (mul-zero, add-zero)
 
 pub next-entry : (words at k : ℕ) → at + words + words * k ≡ at + words * suc k
 next-entry words at k = rw (mul-suc, add-comm (words * k) words) (add-assoc at words (words * k))
+
+pub entries-length : {A : Type 0} (entry : ℕ → A) (words at count : ℕ) → length (entries entry words at count) ≡ count
+unfolding entries
+entries-length entry words at zero = refl
+entries-length entry words at (suc count) = ap suc (entries-length entry words (at + words) count)
+
+-- one entry more
+pub entries-snoc : {A : Type 0} (entry : ℕ → A) (words at count : ℕ) → entries entry words at (suc count) ≡ entries entry words at count ++ (entry (at + words * count) ∷ [])
+unfolding entries
+entries-snoc entry words at zero = ap (λ (p : ℕ). entry p ∷ []) (first-entry words at)
+entries-snoc {A} entry words at (suc count) =
+    ap (λ (l : List A). entry at ∷ l)
+    (entries-snoc entry words (at + words) count ∙ ap (λ (p : ℕ). entries entry words (at + words) count ++ (entry p ∷ [])) (next-entry words at count))
 
 -- what a table that passed tells of each of its entries
 pub entry-passes : (test : ℕ → Bool) (words count at : ℕ) → allEntries test words at count ≡ true → (i : ℕ) → i < count → test (at + words * i) ≡ true

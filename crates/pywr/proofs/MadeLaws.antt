@@ -6,7 +6,7 @@ use native.Mathlib.Nat.{zero-add, lt-of-not-le}
 use native.Mathlib.Decide.{decLe}
 use native.Mathlib.Omega.{arith}
 use mathlib.Core.Bool.{cond}
-use mathlib.Core.List.{List, [], _∷_, _++_, map, append-assoc, List·Memᴰ, List·Memᴰ·head, List·Memᴰ·tail}
+use mathlib.Core.List.{List, [], _∷_, _++_, map, List·Memᴰ, List·Memᴰ·head, List·Memᴰ·tail}
 use mathlib.Core.Option.{some}
 use lib.ListN.{length, getElem?, length-map}
 use lib.Dec.{leb, eqb, lit≤}
@@ -20,12 +20,15 @@ use Rattle.pywr.specs.Makers.{Asker, askersByNodes, askersInTurn, askers
 use Rattle.pywr.specs.Makers.{madeBy, madeInTurn, massMakers, constantMakers, exclusivityMakers, fixedMakers}
 use Rattle.pywr.specs.Build.{nodeShape, placedNodeRows, requestedRow, assemble, programmeOf}
 use Rattle.pywr.specs.Step.{rowOf}
-use Rattle.pywr.proofs.ListLaws.{AllMem, all-none, all-cons, all-append, all-map, every-mem, found-mem, mem-found, found-left, same-some}
+use Rattle.pywr.specs.RowMakers.{FirstAsker}
+use Rattle.pywr.proofs.ListLaws.{AllMem, all-none, all-cons, all-append, all-map, every-mem, found-mem, found-below, below-found, mem-found, found-left, found-right, same-some}
 use Rattle.pywr.proofs.MakerLaws.{varying-makers-length}
 use Rattle.pywr.proofs.ReadLaws.{Sound}
-use Rattle.pywr.proofs.ShapeLaws.{AskOk, requests-ok}
+use Rattle.pywr.proofs.VaryingLaws.{node-places}
+use Rattle.pywr.proofs.ShapeLaws.{AskOk, requests-ok, places-under, nodes-sit, aggregates-sit, virtual-storages-sit}
 use Rattle.pywr.proofs.FitLaws.{idle, forNodes, forAggregates, forVirtualStorages, lengthN, lengthV, aggregates-length, same-places, same-virtual-storages}
-use Rattle.pywr.proofs.AskerLaws.{AskedFor, FirstAsker, joined-covers, asked-left, asked-right, nodes-ask, in-turn-ask, first-made, first-within, nodes-found, nodes-kind, in-turn-kind, sharers-count, first-count, askers-named, varying-found, found-right, nodeAsker}
+use Rattle.pywr.proofs.AskerLaws.{AskedFor, joined-covers, asked-left, asked-right, nodes-ask, in-turn-ask, nodeAsker}
+use Rattle.pywr.proofs.AskerLaws.{first-made, first-within, node-row-asks, nodes-kind, in-turn-kind, sharers-count, first-count, askers-named, varying-found}
 
 -- ---- a maker is one of so many nodes, aggregates and virtual storages
 
@@ -77,6 +80,20 @@ placed-under n [] ps h = all-none (λ (x : NodeRow). x .node < n)
 placed-under n (a ∷ wanted) [] h = all-none (λ (x : NodeRow). x .node < n)
 placed-under n (a ∷ wanted) (p ∷ ps) h =
     all-cons (λ (x : NodeRow). x .node < n) _ (placedNodeRows wanted ps) (h a (List·Memᴰ·head refl)) (placed-under n wanted ps (λ b m. h b (List·Memᴰ·tail m)))
+
+-- ---- rows under a count
+
+by-nodes-under : (n : ℕ) (ns : List NodeRow) → AllMem (λ (p : ℕ). p < n) (node-places ns) → AllMem (λ (a : Asker). a .row < n) (askersByNodes ns)
+unfolding node-places askersByNodes
+by-nodes-under n [] h = all-none (λ (a : Asker). a .row < n)
+by-nodes-under n (x ∷ ns) h =
+    all-cons (λ (a : Asker). a .row < n) _ (askersByNodes ns) (h (x .row) (List·Memᴰ·head refl)) (by-nodes-under n ns (λ p m. h p (List·Memᴰ·tail m)))
+
+in-turn-under : (n kind index : ℕ) (rows : List ℕ) → AllMem (λ (p : ℕ). p < n) rows → AllMem (λ (a : Asker). a .row < n) (askersInTurn kind index rows)
+unfolding askersInTurn
+in-turn-under n kind index [] h = all-none (λ (a : Asker). a .row < n)
+in-turn-under n kind index (row ∷ rows) h =
+    all-cons (λ (a : Asker). a .row < n) _ (askersInTurn kind (suc index) rows) (h row (List·Memᴰ·head refl)) (in-turn-under n kind (suc index) rows (λ p m. h p (List·Memᴰ·tail m)))
 
 -- ---- makers of fixed rows
 
@@ -136,6 +153,25 @@ module _ (w : Sentinel) (net : Network) where
   unfolding programmeOf assemble rowOf
   storage-places = same-virtual-storages (net .virtualStorages) (forVirtualStorages w net idle .places) (lengthV w net idle)
 
+  -- every row that was asked for is a varying row
+  joined-under : AllMem (λ (a : Asker). a .row < length joined) (askers (programmeOf w net .shape))
+  unfolding programmeOf assemble askers
+  joined-under =
+      let n : ℕ = length joined in
+      let P : Asker → Type 0 = (λ (a : Asker). a .row < n) in
+      let nodes : List Asker = askersByNodes (shape .nodeRows) in
+      let aggregates : List Asker = askersInTurn byAggregate 0 (shape .aggregates) in
+      let storages : List ℕ = map (λ (v : VirtualStorageShape). v .row) (shape .virtualStorages) in
+      let places : AllMem (λ (p : ℕ). p < n) (node-places (shape .nodeRows)) =
+      subst (AllMem (λ (p : ℕ). p < n)) (sym (same-places (requestsFrom (columnMap net) 0 (net .nodes)) (forNodes w net idle .places) (lengthN w net idle)))
+      (places-under joined _ _ (nodes-sit w net)) in
+      all-append P (nodes ++ aggregates) (askersInTurn byVirtualStorage 0 storages)
+      (all-append P nodes aggregates (by-nodes-under n (shape .nodeRows) places) (in-turn-under n byAggregate 0 (shape .aggregates) (places-under joined _ _ (aggregates-sit w net))))
+      (in-turn-under n byVirtualStorage 0 storages (subst (AllMem (λ (p : ℕ). p < n)) (sym storage-places) (places-under joined _ _ (virtual-storages-sit w net))))
+
+  pub asked-under : AllMem (λ (a : Asker). a .row < length (programmeOf w net .programme .varying)) (askers (programmeOf w net .shape))
+  asked-under = subst (λ (n : ℕ). AllMem (λ (a : Asker). a .row < n) (askers (programmeOf w net .shape))) (sym varying-long) joined-under
+
   -- every varying row was asked for
   row-asked : (r : ℕ) → r < length joined → AskedFor r (askers (programmeOf w net .shape))
   unfolding programmeOf assemble askers
@@ -180,13 +216,19 @@ module _ (w : Sentinel) (net : Network) where
   -- a row that a node asked for is a node's, whoever asked later
   pub nodes-first : (r i : ℕ) (n : NodeRow) (m : Maker) → getElem? (programmeOf w net .shape .nodeRows) i ≡ some n → n .row ≡ r
       → r < length (programmeOf w net .programme .varying) → getElem? (programmeOf w net .makers) r ≡ some m → m .kind ≡ byNode
-  unfolding askers
-  nodes-first r i n m q g h e =
-      let nodes : List Asker = askersByNodes (shape .nodeRows) in
-      let aggregates : List Asker = askersInTurn byAggregate 0 (shape .aggregates) in
-      let storages : List Asker = askersInTurn byVirtualStorage 0 (map (λ (v : VirtualStorageShape). v .row) (shape .virtualStorages)) in
-      first-within (λ (k : ℕ). k ≡ byNode) r m nodes (aggregates ++ storages) (nodes-kind (shape .nodeRows)) i (nodeAsker n) (nodes-found (shape .nodeRows) i n q) g
-      (subst (λ (all : List Asker). FirstAsker r all m) (append-assoc nodes aggregates storages) (first-asker r m h e))
+  nodes-first r i n m q g h e = go (decLe (suc i) (first .at))
+    where
+      first : FirstAsker r (askers shape) m
+      first = first-asker r m h e
+
+      go : Dec (suc i ≤ first .at) → m .kind ≡ byNode
+      go (yes l) = absurd (first .none-before i (nodeAsker n) l (node-row-asks shape i n q) g)
+      go (no o) =
+          let b = found-below (shape .nodeRows) i n q in
+          let l = lt-of-not-le o in
+          let x = below-found (shape .nodeRows) (first .at) (omega arith) in
+          let same : first .asker ≡ nodeAsker (x .0) = same-some (first .asker) (nodeAsker (x .0)) (sym (first .found) ∙ node-row-asks shape (first .at) (x .0) (x .1)) in
+          first .kind ∙ ap (λ (a : Asker). a .kind) same
 
   -- and one that an aggregate asked for is no virtual storage's
   pub aggregates-first : (r : ℕ) (m : Maker) → List·Memᴰ r (programmeOf w net .shape .aggregates)

@@ -1,4 +1,4 @@
--- Every row has a maker of its own: there are as many makers as rows, and each fixed row is one that its maker makes. Assumes nothing.
+-- Every row has a maker: there are as many makers as rows, and each fixed row is one that its maker makes. Assumes nothing.
 use mathlib.Core.Path.{_≡_, refl, sym, ap, ap₂, _∙_, subst}
 use mathlib.Core.Logic.{_⊎_, inl, inr}
 use Prim.Native.Nat.{ℕ, zero, suc, _+_}
@@ -20,7 +20,8 @@ use Rattle.pywr.specs.VaryingRows.{requestsFrom, freshRow}
 use Rattle.pywr.specs.FixedRows.{massRowsFrom, constantRows, constantRowsFrom, exclusivityRows}
 use Rattle.pywr.specs.Makers.{Asker, askers, varyingMakers, madeBy, madeInTurn, massMakers, constantMakers, exclusivityMakers, fixedMakers}
 use Rattle.pywr.specs.Build.{requestedRow, assemble, programmeOf}
-use Rattle.pywr.proofs.ListLaws.{AllMem, all-map, found-mem, not-found}
+use Rattle.pywr.specs.RowMakers.{FixedBy}
+use Rattle.pywr.proofs.ListLaws.{AllMem, all-map, found-mem, found-after, not-found}
 
 -- ---- rows made in turn: those of the first of a list, then those of the others
 
@@ -59,7 +60,7 @@ joined net = addVariableRows (map (virtualStorageRow (columnMap net)) (net .virt
 
 -- ---- as many makers as rows
 
-made-length : (kind index : ℕ) (rows : List Row) → length (madeBy kind index rows) ≡ length rows
+pub made-length : (kind index : ℕ) (rows : List Row) → length (madeBy kind index rows) ≡ length rows
 unfolding madeBy
 made-length kind index rows = length-map rows (λ (row : Row). record { kind = kind; index = index; sharedBy = 1 })
 
@@ -77,9 +78,9 @@ pub fixed-makers-length : (s : Sentinel) (f : ColumnMap) (net : Network)
     → length (fixedMakers s f net) ≡ length (massRowsFrom f 0 (net .nodes) ++ constantRowsFrom s f 0 (net .nodes) ++ exclusivityRows f (net .aggregates))
 unfolding fixedMakers massMakers constantMakers exclusivityMakers
 fixed-makers-length s f net =
-    let m = in-turn-length 0 (massRowsFrom f) (masses-in-turn f) 0 (net .nodes) in
-    let c = in-turn-length 1 (constantRowsFrom s f) (constants-in-turn s f) 0 (net .nodes) in
-    let e = in-turn-length 4 (λ (n : ℕ) (xs : List Aggregate). exclusivityRows f xs) (exclusivities-in-turn f) 0 (net .aggregates) in
+    let m = in-turn-length byMass (massRowsFrom f) (masses-in-turn f) 0 (net .nodes) in
+    let c = in-turn-length byNode (constantRowsFrom s f) (constants-in-turn s f) 0 (net .nodes) in
+    let e = in-turn-length byExclusivity (λ (n : ℕ) (xs : List Aggregate). exclusivityRows f xs) (exclusivities-in-turn f) 0 (net .aggregates) in
     length-append (massMakers f 0 (net .nodes) ++ constantMakers s f 0 (net .nodes)) (exclusivityMakers f 0 (net .aggregates))
     ∙ ap₂ (λ (a b : ℕ). a + b) (length-append (massMakers f 0 (net .nodes)) (constantMakers s f 0 (net .nodes)) ∙ ap₂ (λ (a b : ℕ). a + b) m c
     ∙ sym (length-append (massRowsFrom f 0 (net .nodes)) (constantRowsFrom s f 0 (net .nodes)))) e
@@ -121,10 +122,6 @@ beside-append (x ∷ xs) zs (y ∷ ys) us a b l (suc i) e f = later (beside-appe
     later : Beside xs ys a b ⊎ Beside zs us a b → Beside (x ∷ xs) (y ∷ ys) a b ⊎ Beside zs us a b
     later (inl k) = inl (record { at = suc (k .at); left = k .left; right = k .right })
     later (inr k) = inr k
-
-found-after : {A : Type 0} (xs ys : List A) (i : ℕ) → getElem? (xs ++ ys) (length xs + i) ≡ getElem? ys i
-found-after [] ys i = ap (getElem? ys) (zero-add i)
-found-after (x ∷ xs) ys i = ap (getElem? (x ∷ (xs ++ ys))) (suc-add (length xs) i) ∙ found-after xs ys i
 
 -- the maker is number `number` of the list, and the row one of those that it makes
 record MadeFrom {A : Type 0} (kind : ℕ) (rowsFrom : ℕ → List A → List Row) (n : ℕ) (xs : List A) (row : Row) (m : Maker) : Type 0 where
@@ -173,11 +170,6 @@ in-turn-made {A} kind rowsFrom turn n (x ∷ xs) row m k =
           among = subst (λ (j : ℕ). List·Memᴰ row (rowsFrom j (f .maker ∷ []))) same (f .among);
         }
 
-pub data FixedBy (s : Sentinel) (net : Network) (row : Row) (m : Maker) : Type 0 where
-  mass : (x : Node) → m .kind ≡ byMass → getElem? (net .nodes) (m .index) ≡ some x → List·Memᴰ row (massRowsFrom (columnMap net) (m .index) (x ∷ [])) → FixedBy s net row m
-  constant : (x : Node) → m .kind ≡ byNode → getElem? (net .nodes) (m .index) ≡ some x → List·Memᴰ row (constantRowsFrom s (columnMap net) (m .index) (x ∷ [])) → FixedBy s net row m
-  exclusivity : (x : Aggregate) → m .kind ≡ byExclusivity → getElem? (net .aggregates) (m .index) ≡ some x → List·Memᴰ row (exclusivityRows (columnMap net) (x ∷ [])) → FixedBy s net row m
-
 module _ (s : Sentinel) (net : Network) where
   abbrev f : ColumnMap
   f = columnMap net
@@ -224,7 +216,8 @@ module _ (s : Sentinel) (net : Network) where
           let n = numbered byNode (constantRowsFrom s f) (net .nodes) row m h in
           FixedBy.constant (n .0) (h .of) (n .1) (n .2)
 
-      last : Beside (massRows ++ constantRows′) (massMakers f 0 (net .nodes) ++ constantMakers s f 0 (net .nodes)) row m ⊎ Beside (exclusivityRows f (net .aggregates)) (exclusivityMakers f 0 (net .aggregates)) row m
+      last : Beside (massRows ++ constantRows′) (massMakers f 0 (net .nodes) ++ constantMakers s f 0 (net .nodes)) row m
+          ⊎ Beside (exclusivityRows f (net .aggregates)) (exclusivityMakers f 0 (net .aggregates)) row m
           → FixedBy s net row m
       last (inl b) =
           first (beside-append massRows constantRows′ (massMakers f 0 (net .nodes)) (constantMakers s f 0 (net .nodes)) row m (sym mass-long) (b .at) (b .left) (b .right))
@@ -238,7 +231,8 @@ module _ (s : Sentinel) (net : Network) where
       → getElem? (programmeOf s net .makers) (length (programmeOf s net .programme .varying) + i) ≡ some m → FixedBy s net row m
   unfolding programmeOf assemble
   fixed-by i row m e k =
-      let varying : List Maker = varyingMakers (askers (programmeOf s net .shape)) 0 (length (joined net .rows)) in
-      let long : length (map (freshRow s) (joined net .rows)) ≡ length varying = length-map (joined net .rows) (freshRow s) ∙ sym (varying-makers-length (askers (programmeOf s net .shape)) 0 (length (joined net .rows))) in
+      let rows : List (List Element) = joined net .rows in
+      let varying : List Maker = varyingMakers (askers (programmeOf s net .shape)) 0 (length rows) in
+      let long : length (map (freshRow s) rows) ≡ length varying = length-map rows (freshRow s) ∙ sym (varying-makers-length (askers (programmeOf s net .shape)) 0 (length rows)) in
       fixed-beside row m
       (record { at = i; left = e; right = sym (found-after varying (fixedMakers s f net) i) ∙ ap (λ (n : ℕ). getElem? (varying ++ fixedMakers s f net) (n + i)) (sym long) ∙ k })

@@ -23,16 +23,17 @@ use Rattle.pywr.specs.Rows.{addNodes, addSetsOf, aggregateRow, addParts,
 use Rattle.pywr.specs.VariableRows.{sameRow, position, addVariableRows, Joined, addVariableRow}
 use Rattle.pywr.specs.Programme.{Row, continuous}
 use Rattle.pywr.specs.VaryingRows.{RowRequest, exclusiveRequests, requestsBySets, requestsFrom}
+use Rattle.pywr.specs.Build.{requestedRow}
 use Rattle.pywr.specs.FixedRows.{massRowsFrom, upperCoefficient, lowerCoefficient, exclusiveRows, constantRows, constantRowsFrom, exclusivityRows}
 use Rattle.pywr.specs.Misshapen.{columnsRise}
 use Rattle.pywr.proofs.MassLaws.{HasColumn, added, Every, every-append}
 use Rattle.pywr.proofs.EvenLaws.{mapped-edge-of}
 use Rattle.pywr.proofs.ElementLaws.{add-none, add-cases}
 use Rattle.pywr.proofs.JoinLaws.{position-found, position-most}
-use Rattle.pywr.proofs.ListLaws.{AllMem, all-snoc, found-mem, found-below, each-of}
+use Rattle.pywr.proofs.ListLaws.{AllMem, all-none, all-cons, all-snoc, found-mem, found-below, each-of}
 use Rattle.pywr.proofs.MembershipLaws.{membership-sound, from-known}
 use Rattle.pywr.proofs.ReadLaws.{Sound}
-use Rattle.pywr.proofs.FitLaws.{each-ask}
+use Rattle.pywr.proofs.FitLaws.{each-ask, idle, forNodes, forAggregates, forVirtualStorages}
 use Rattle.pywr.proofs.FixedLaws.{columns-under}
 
 abbrev pub cols : List Element → List ℕ
@@ -321,6 +322,38 @@ sits-stay asked ps (r ∷ rs) j s = sits-stay asked ps rs (addVariableRow r j) (
     go : (b : Bool) → Sits (cond b (j .rows) (j .rows ++ (r ∷ []))) asked ps
     go true = s
     go false = sits-later (j .rows) asked ps r s
+
+pub places-under : (rows asked : List (List Element)) (ps : List ℕ) → Sits rows asked ps → AllMem (λ (p : ℕ). p < length rows) ps
+places-under rows [] [] Sits.none = all-none (λ (p : ℕ). p < length rows)
+places-under rows (r ∷ rs) (p ∷ ps) (Sits.more h e s) = all-cons (λ (q : ℕ). q < length rows) p ps h (places-under rows rs ps s)
+
+-- what nodes, aggregates and virtual storages ask for sits among the varying rows
+module _ (w : Sentinel) (net : Network) where
+  abbrev nodesAsk : List (List Element)
+  nodesAsk = map requestedRow (requestsFrom (columnMap net) 0 (net .nodes))
+
+  abbrev aggregatesAsk : List (List Element)
+  aggregatesAsk = map (aggregateRow (columnMap net)) (net .aggregates)
+
+  abbrev storagesAsk : List (List Element)
+  storagesAsk = map (virtualStorageRow (columnMap net)) (net .virtualStorages)
+
+  abbrev afterNodes : Joined
+  afterNodes = record { rows = forNodes w net idle .rows; places = [] }
+
+  abbrev afterAggregates : Joined
+  afterAggregates = record { rows = forAggregates w net idle .rows; places = [] }
+
+  pub nodes-sit : Sits (forVirtualStorages w net idle .rows) (map requestedRow (requestsFrom (columnMap net) 0 (net .nodes))) (forNodes w net idle .places)
+  nodes-sit =
+      sits-stay nodesAsk (forNodes w net idle .places) storagesAsk afterAggregates
+      (sits-stay nodesAsk (forNodes w net idle .places) aggregatesAsk afterNodes (sits-all nodesAsk [] (record { rows = []; places = [] }) Sits.none))
+
+  pub aggregates-sit : Sits (forVirtualStorages w net idle .rows) (map (aggregateRow (columnMap net)) (net .aggregates)) (forAggregates w net idle .places)
+  aggregates-sit = sits-stay aggregatesAsk (forAggregates w net idle .places) storagesAsk afterAggregates (sits-all aggregatesAsk [] afterNodes Sits.none)
+
+  pub virtual-storages-sit : Sits (forVirtualStorages w net idle .rows) (map (virtualStorageRow (columnMap net)) (net .virtualStorages)) (forVirtualStorages w net idle .places)
+  virtual-storages-sit = sits-all storagesAsk [] afterAggregates Sits.none
 
 pub joins-all : (P : List Element → Type 0) (asked : List (List Element)) (j : Joined) → AllMem P asked → AllMem P (j .rows) → AllMem P (addVariableRows asked j .rows)
 unfolding addVariableRows addVariableRow

@@ -4,7 +4,7 @@ use Prim.Native.Nat.{ℕ, zero, suc, _+_, _*_, _<_, _≤_}
 use native.Mathlib.Nat.{add-zero, add-suc, suc-add, add-assoc, not-suc-le-zero, le-refl, suc-mul, zero-mul, add-comm, zero-add}
 use native.Mathlib.Omega.{arith}
 use mathlib.Core.Bool.{Bool, true, false, not}
-use mathlib.Core.List.{List, [], _∷_, _++_, flatMap}
+use mathlib.Core.List.{List, [], _∷_, _++_, map, flatMap}
 use lib.ListN.{length, getD, set, length-set, length-append, List·getD-append}
 use lib.Seq.{sets, length-sets, getD-set-same, getD-set-other, getD-append-add}
 use lib.Dec.{eqb, lit≤}
@@ -65,15 +65,25 @@ module _ {A : Type 0} (d : A) where
 
 -- ---- a table: entries of so many words, each read back from its words
 
-pub entries-back : {A B : Type 0} (d : B) (run : List B) (entry : ℕ → A) (words : ℕ) (code : A → List B)
+-- each read as f has it
+pub entries-read : {A B C : Type 0} (d : B) (run : List B) (entry : ℕ → C) (words : ℕ) (code : A → List B) (f : A → C)
+    → ((x : A) → length (code x) ≡ words) → ((at : ℕ) (x : A) → Holds d run at (code x) → entry at ≡ f x)
+    → (xs : List A) (at : ℕ) → Holds d run at (flatMap code xs) → entries entry words at (length xs) ≡ map f xs
+unfolding entries flatMap
+entries-read d run entry words code f wide reads [] at holds = refl
+entries-read d run entry words code f wide reads (x ∷ xs) at holds =
+    ap₂ (λ a b. a ∷ b) (reads at x (holds-left d run at (code x) (flatMap code xs) holds))
+    (entries-read d run entry words code f wide reads xs (at + words)
+    (subst (λ (n : ℕ). Holds d run (at + n) (flatMap code xs)) (wide x) (holds-right d run at (code x) (flatMap code xs) holds)))
+
+pub map-same : {A : Type 0} (xs : List A) → map (λ (x : A). x) xs ≡ xs
+map-same [] = refl
+map-same {A} (x ∷ xs) = ap (λ (l : List A). x ∷ l) (map-same xs)
+
+entries-back : {A B : Type 0} (d : B) (run : List B) (entry : ℕ → A) (words : ℕ) (code : A → List B)
     → ((x : A) → length (code x) ≡ words) → ((at : ℕ) (x : A) → Holds d run at (code x) → entry at ≡ x)
     → (xs : List A) (at : ℕ) → Holds d run at (flatMap code xs) → entries entry words at (length xs) ≡ xs
-unfolding entries flatMap
-entries-back d run entry words code wide reads [] at holds = refl
-entries-back d run entry words code wide reads (x ∷ xs) at holds =
-    ap₂ (λ a b. a ∷ b) (reads at x (holds-left d run at (code x) (flatMap code xs) holds))
-    (entries-back d run entry words code wide reads xs (at + words)
-    (subst (λ (n : ℕ). Holds d run (at + n) (flatMap code xs)) (wide x) (holds-right d run at (code x) (flatMap code xs) holds)))
+entries-back {A} d run entry words code wide reads xs at holds = entries-read d run entry words code (λ (x : A). x) wide reads xs at holds ∙ map-same xs
 
 -- the word at the head, and at the next places
 module _ (run : List ℕ) (at : ℕ) (ws : List ℕ) (holds : Holds 0 run at ws) where

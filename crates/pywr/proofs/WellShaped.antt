@@ -6,7 +6,7 @@ use native.Mathlib.Nat.{add-zero, zero-add, le-refl, le-trans}
 use native.Mathlib.Omega.{arith}
 use mathlib.Core.Bool.{Bool, true, false, cond, not, _&&_, _||_}
 use mathlib.Core.List.{List, [], _∷_, _++_, map, flatMap, append-assoc, List·Memᴰ, List·Memᴰ·head, List·Memᴰ·tail}
-use mathlib.Core.Option.{Option, none, some}
+use mathlib.Core.Option.{Option, some}
 use lib.ListN.{length, getD, getElem?, length-append, length-map}
 use lib.Dec.{T, leb, ltb, eqb, le→leb, lt→ltb, lit≤}
 use lib.Ieee.Fits.{and-i, eq→eqb}
@@ -24,8 +24,10 @@ use Rattle.pywr.specs.FixedRows.{massRowsFrom, constantRowsFrom, exclusi
 use Rattle.pywr.specs.Build.{allColumns, nodeShape, placedNodeRows, placedVirtualStorages, requestedRow, assemble, programmeOf, elementCount, underCeilings}
 use Rattle.pywr.specs.Store.{Store, word, sentinelCode, nodeCount, edgeCount, edgeColumnCount, setCount, varyingCount, fixedCount}
 use Rattle.pywr.specs.Store.{elementsKept, nodeRowCount, aggregateCount, virtualStorageCount, rowCount, columnCount, startOf, columnsOfRow}
-use Rattle.pywr.specs.Misshapen.{countsFit, startsRise, columnsRise, rowColumnsRise, nodeFits, edgeFits, nodeRowFits, aggregateFits, virtualStorageFits, makersOfKind, makerFits, allEntries, wellShaped}
-use Rattle.pywr.specs.Written.{sentinelWord, rowTypeWord, flagWord, nodeWords, edgeWords, nodeRowWords, virtualStorageWords, makerWords, countWords, shapeAfter, startsFrom, columnsIn, rowsOf, builtStore}
+use Rattle.pywr.specs.Misshapen.{countsFit, startsRise, columnsRise, rowColumnsRise, allEntries, wellShaped}
+use Rattle.pywr.specs.Misshapen.{nodeFits, edgeFits, nodeRowFits, aggregateFits, virtualStorageFits, makersOfKind, makerFits}
+use Rattle.pywr.specs.Written.{sentinelWord, rowTypeWord, flagWord, nodeWords, edgeWords, nodeRowWords, virtualStorageWords, makerWords, countWords}
+use Rattle.pywr.specs.Written.{shapeAfter, startsFrom, columnsIn, rowsOf, builtStore}
 use Rattle.pywr.proofs.AmountLaws.{pipes-length}
 use Rattle.pywr.proofs.EvenLaws.{mapped-edge-of}
 use Rattle.pywr.proofs.MassLaws.{Every}
@@ -40,7 +42,7 @@ use Rattle.pywr.proofs.FitLaws.{idle, elements-append, columns-long, co
 use Rattle.pywr.proofs.CountLaws.{sets-under, requests-few}
 use Rattle.pywr.proofs.ShapeLaws.{cols, Good-row, rising-test, aggregate-good, virtual-storage-good, masses-good, constants-good}
 use Rattle.pywr.proofs.MadeLaws.{makersFor, Made, makers-made}
-use Rattle.pywr.proofs.ShapeLaws.{actives-good, AskOk, requests-ok, Sits, sits-all, sits-stay, joins-all}
+use Rattle.pywr.proofs.ShapeLaws.{actives-good, AskOk, requests-ok, Sits, places-under, nodes-sit, aggregates-sit, virtual-storages-sit, joins-all}
 
 -- ---- tests of entries
 
@@ -115,10 +117,6 @@ unfolding rowsOf
 rows-elements p = elements-append (p .varying) (p .fixed)
 
 -- ---- places
-
-places-under : (rows asked : List (List Element)) (ps : List ℕ) → Sits rows asked ps → AllMem (λ (p : ℕ). p < length rows) ps
-places-under rows [] [] Sits.none = all-none (λ (p : ℕ). p < length rows)
-places-under rows (r ∷ rs) (p ∷ ps) (Sits.more h e s) = all-cons (λ (q : ℕ). q < length rows) p ps h (places-under rows rs ps s)
 
 module _ (net : Network) (sound : Sound net) (rows : List (List Element)) where
   record NodeRowOk (n : NodeRow) : Type 0 where
@@ -380,23 +378,6 @@ module _ (w : Sentinel) (net : Network) (sound : Sound net) (old : Store) (room 
       (ltb-is (word store (at + 2)) (x .column) (edgeColumnCount store) (columns net .count) third c3 (k .column-under)))
       (b .shape .mappedEdges) edgesAt (built-pipes w net sound) (pipes-held (old .shape) b (room .shape) (fits .tables)))
 
-  sitsN : Sits joined (map requestedRow (requestsFrom (columnMap net) 0 (net .nodes))) (forNodes w net idle .places)
-  sitsN =
-      sits-stay (map requestedRow (requestsFrom (columnMap net) 0 (net .nodes))) (forNodes w net idle .places)
-      (map (virtualStorageRow (columnMap net)) (net .virtualStorages)) (record { rows = forAggregates w net idle .rows; places = [] })
-      (sits-stay (map requestedRow (requestsFrom (columnMap net) 0 (net .nodes))) (forNodes w net idle .places)
-      (map (aggregateRow (columnMap net)) (net .aggregates)) (record { rows = forNodes w net idle .rows; places = [] })
-      (sits-all (map requestedRow (requestsFrom (columnMap net) 0 (net .nodes))) [] (record { rows = []; places = [] }) Sits.none))
-
-  sitsA : Sits joined (map (aggregateRow (columnMap net)) (net .aggregates)) (forAggregates w net idle .places)
-  sitsA =
-      sits-stay (map (aggregateRow (columnMap net)) (net .aggregates)) (forAggregates w net idle .places)
-      (map (virtualStorageRow (columnMap net)) (net .virtualStorages)) (record { rows = forAggregates w net idle .rows; places = [] })
-      (sits-all (map (aggregateRow (columnMap net)) (net .aggregates)) [] (record { rows = forNodes w net idle .rows; places = [] }) Sits.none)
-
-  sitsV : Sits joined (map (virtualStorageRow (columnMap net)) (net .virtualStorages)) (forVirtualStorages w net idle .places)
-  sitsV = sits-all (map (virtualStorageRow (columnMap net)) (net .virtualStorages)) [] (record { rows = forAggregates w net idle .rows; places = [] }) Sits.none
-
   -- the columns of a varying row
   of-varying : (p : ℕ) → p < length joined → columnsOfRow store p ≡ cols (getD joined p [])
   unfolding rowsOf programmeOf assemble freshRow
@@ -404,7 +385,7 @@ module _ (w : Sentinel) (net : Network) (sound : Sound net) (old : Store) (room 
 
   built-node-rows : AllMem (NodeRowOk net sound joined) (b .shape .nodeRows)
   unfolding programmeOf assemble
-  built-node-rows = node-rows-ok net sound joined (requestsFrom (columnMap net) 0 (net .nodes)) (forNodes w net idle .places) sitsN (requests-ok net sound)
+  built-node-rows = node-rows-ok net sound joined (requestsFrom (columnMap net) 0 (net .nodes)) (forNodes w net idle .places) (nodes-sit w net) (requests-ok net sound)
 
   set-listed : (at : ℕ) (x : NodeRow) → NodeRowOk net sound joined x → word store (at + 1) ≡ x .row → word store (at + 2) ≡ rowTypeWord (x .rowType) → word store (at + 3) ≡ x .set
       → (x .rowType ≡ continuous) ⊎ ((x .set < length (exclusiveSets net)) × List·Memᴰ (columns net .count + x .set) (cols (getD joined (x .row) [])))
@@ -452,7 +433,7 @@ module _ (w : Sentinel) (net : Network) (sound : Sound net) (old : Store) (room 
   aggregates-ok =
       subst (λ (n : ℕ). T (allEntries (aggregateFits store) 1 aggregatesAt n)) (sym (counted 9 (lit≤ tt)))
       (row-all (shapeAfter (old .shape) b) (aggregateFits store) (length joined) (λ at x k e. ltb-is (word store at) x (varyingCount store) (length joined) e c5 k)
-      (b .shape .aggregates) aggregatesAt (places-under joined _ _ sitsA) (aggregates-held (old .shape) b (room .shape) (fits .tables)))
+      (b .shape .aggregates) aggregatesAt (places-under joined _ _ (aggregates-sit w net)) (aggregates-held (old .shape) b (room .shape) (fits .tables)))
 
   virtual-storages-ok : T (allEntries (virtualStorageFits store) 6 virtualStoragesAt (virtualStorageCount store))
   unfolding builtStore virtualStorageFits virtualStorageWords countWords programmeOf assemble
@@ -464,7 +445,7 @@ module _ (w : Sentinel) (net : Network) (sound : Sound net) (old : Store) (room 
       (ltb-is (word store at) (x .row) (varyingCount store) (length joined) (first-word (shapeAfter (old .shape) b) at (virtualStorageWords x) h (lit≤ tt)) c5 k)
       (leb-is (word store (at + 1)) (flagWord (not (x .period .always))) 1 (word-at (shapeAfter (old .shape) b) at (virtualStorageWords x) h 1 (lit≤ tt)) (flag-most (not (x .period .always)))))
       (b .shape .virtualStorages) virtualStoragesAt
-      (virtual-storages-under (length joined) (net .virtualStorages) (forVirtualStorages w net idle .places) (places-under joined _ _ sitsV))
+      (virtual-storages-under (length joined) (net .virtualStorages) (forVirtualStorages w net idle .places) (places-under joined _ _ (virtual-storages-sit w net)))
       (virtual-storages-held (old .shape) b (room .shape) (fits .tables)))
 
   -- a kind's limit in the store is that in the shape

@@ -29,7 +29,8 @@ use Rattle.pywr.specs.Step.{adjust, withBounds, applyRowBounds, setCoeff
 use Rattle.pywr.specs.Step.{applyIntervals, rowOf, periodOf, stepRows, periods, withCosts, stepped}
 use Rattle.pywr.specs.Store.{storeHasRoom, sentinelOf, rowTypeOf, entries, nodeEntry, edgeEntry, nodeRowEntry}
 use Rattle.pywr.specs.Store.{virtualStorageEntry, makerEntry, makersIn, rowMaker, shapeOf, elementsOf, columnsOfRow, rowEntry, columnEntry, programmeIn}
-use Rattle.pywr.specs.Misshapen.{countsFit, startsRise, columnsRise, rowColumnsRise, nodeFits, edgeFits, nodeRowFits, aggregateFits, virtualStorageFits, makersOfKind, makerFits, allEntries, wellShaped}
+use Rattle.pywr.specs.Misshapen.{countsFit, startsRise, columnsRise, rowColumnsRise, allEntries, wellShaped}
+use Rattle.pywr.specs.Misshapen.{nodeFits, edgeFits, nodeRowFits, aggregateFits, virtualStorageFits, makersOfKind, makerFits}
 use Rattle.pywr.specs.Written.{sentinelWord, rowTypeWord, flagWord, nodeWords, edgeWords, nodeRowWords, virtualStorageWords, makerWords, integerColumns, countWords}
 use Rattle.pywr.specs.Written.{shapeAfter, startsFrom, columnsIn, valuesIn, lowerOf, upperOf, rowsOf, builtStore, steppedStore}
 use Rattle.pywr.specs.Calls.{cleared, buildRoom, buildAnswer, storeOfBuild, buildStore, buildWords, buildNumbers, stepRoom, stepRead}

@@ -29,6 +29,7 @@ pub mod Plans
 pub mod Allows
 pub mod Admits
 pub mod Correspondence
+pub mod RowMakers
 pub mod PortRun
 pub mod FileBytes
 pub mod Compute

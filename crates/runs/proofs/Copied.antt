@@ -3,11 +3,10 @@ use Prim.Native.Nat.{ℕ, _+_, _<_, _≤_}
 use mathlib.Core.Path.{_≡_, refl, _∙_, ap}
 use mathlib.Core.List.{List}
 use native.Mathlib.Omega.{arith}
-use lib.ListN.{length, getD, take, set, replicate, length-set, length-replicate, getD-replicate, drop}
-use lib.Seq.{sets, getD-take, getD-drop}
-use lib.Ieee.{Float, binary64, ofBits}
-use Rattle.laws.specs.Part.{part}
-use Rattle.laws.proofs.Sets.{sets-next, take-whole, length-part, sets-whole}
+use lib.ListN.{length, getD, take, set, replicate, length-set, length-replicate}
+use lib.Seq.{sets}
+use lib.Ieee.{binary64, ofBits}
+use Rattle.laws.proofs.Sets.{sets-next, take-whole, sets-whole}
 use Rattle.pywr.specs.Numbers.{zero64}
 
 module _ {A : Type 0} where
@@ -32,10 +31,6 @@ module _ {A : Type 0} where
 
   pub all : (xs d₀ : List A) (to n : ℕ) (d : List A) (i : ℕ) → n ≤ i → Copied xs d₀ to n d i → d ≡ sets d₀ to xs
   all xs d₀ to n d i le c = c .run ∙ ap (sets d₀ to) (take-whole xs n i (c .whole-length) le)
-
-  -- element i of the part of s from `at` on
-  pub part-at : (s : List A) (at n i : ℕ) (z : A) → i < n → getD (part at n s) i z ≡ getD s (at + i) z
-  part-at s at n i z lt = getD-take n (drop at s) i z lt ∙ getD-drop at s i z
 
   -- a run that is filled over its whole length
   pub filled : (w : List A) (v : A) → sets w 0 (replicate (length w) v) ≡ replicate (length w) v

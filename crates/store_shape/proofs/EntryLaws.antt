@@ -3,16 +3,11 @@ use mathlib.Core.Path.{_≡_, refl, sym, ap, ap₂, _∙_}
 use Prim.Native.Nat.{ℕ, zero, suc, _+_, _*_, _<_}
 use native.Mathlib.Omega.{arith}
 use mathlib.Core.List.{List, _∷_, map}
-use lib.ListN.{length, getD}
+use lib.ListN.{getD}
 use Rattle.pywr.specs.Store.{entries}
-pub use Rattle.pywr.proofs.EntryLaws.{first-entry, next-entry}
+pub use Rattle.pywr.proofs.EntryLaws.{first-entry, next-entry, entries-length}
 
 module _ {A : Type 0} where
-  pub entries-length : (entry : ℕ → A) (words at count : ℕ) → length (entries entry words at count) ≡ count
-  unfolding entries
-  entries-length entry words at zero = refl
-  entries-length entry words at (suc count) = ap suc (entries-length entry words (at + words) count)
-
   pub entries-at : (entry : ℕ → A) (words at count k : ℕ) (d : A) → k < count → getD (entries entry words at count) k d ≡ entry (at + words * k)
   unfolding entries
   entries-at entry words at zero k d lt = absurd (omega arith)

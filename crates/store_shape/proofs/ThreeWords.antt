@@ -7,6 +7,7 @@ use mathlib.Core.List.{List, [], _∷_}
 use lib.ListN.{getD}
 use lib.Dec.{leb, ltb}
 use borrow.Author.Tests.{lt-ltb, le-ltb, le-leb, lt-leb}
+use Rattle.pywr.specs.Programme.{byExclusivity}
 use Rattle.pywr.specs.Store.{Store, nodeCount, edgeColumnCount, aggregateCount, virtualStorageCount}
 use Rattle.pywr.specs.Misshapen.{edgeFits, makersOfKind, makerFits}
 
@@ -37,7 +38,7 @@ module _ (s : Store) (at : ℕ) where
 abbrev pub ofKinds : Store → List ℕ
 ofKinds s = nodeCount s ∷ nodeCount s ∷ aggregateCount s ∷ virtualStorageCount s ∷ aggregateCount s ∷ []
 
-of-kind : (s : Store) (kind : ℕ) → kind ≤ 4 → getD (ofKinds s) kind 0 ≡ makersOfKind s kind
+of-kind : (s : Store) (kind : ℕ) → kind ≤ byExclusivity → getD (ofKinds s) kind 0 ≡ makersOfKind s kind
 unfolding makersOfKind
 of-kind s zero h = refl
 of-kind s (suc zero) h = refl
@@ -53,14 +54,14 @@ module _ (s : Store) (at : ℕ) where
   abbrev index : ℕ
   index = getD (s .shape) (at + 1) 0
 
-  pub kind-out : 4 < kind → false ≡ makerFits s at
+  pub kind-out : byExclusivity < kind → false ≡ makerFits s at
   unfolding makerFits
-  kind-out h = rw (lt-leb kind 4 h)
+  kind-out h = rw (lt-leb kind byExclusivity h)
 
-  pub index-out : kind ≤ 4 → getD (ofKinds s) kind 0 ≤ index → false ≡ makerFits s at
+  pub index-out : kind ≤ byExclusivity → getD (ofKinds s) kind 0 ≤ index → false ≡ makerFits s at
   unfolding makerFits
-  index-out k h = rw (le-leb kind 4 k, le-ltb index (makersOfKind s kind) (subst (λ (n : ℕ). n ≤ index) (of-kind s kind k) h))
+  index-out k h = rw (le-leb kind byExclusivity k, le-ltb index (makersOfKind s kind) (subst (λ (n : ℕ). n ≤ index) (of-kind s kind k) h))
 
-  pub by-sharers : kind ≤ 4 → index < getD (ofKinds s) kind 0 → leb 1 (getD (s .shape) (at + 2) 0) ≡ makerFits s at
+  pub by-sharers : kind ≤ byExclusivity → index < getD (ofKinds s) kind 0 → leb 1 (getD (s .shape) (at + 2) 0) ≡ makerFits s at
   unfolding makerFits
-  by-sharers k h = rw (le-leb kind 4 k, lt-ltb index (makersOfKind s kind) (subst (λ (n : ℕ). index < n) (of-kind s kind k) h))
+  by-sharers k h = rw (le-leb kind byExclusivity k, lt-ltb index (makersOfKind s kind) (subst (λ (n : ℕ). index < n) (of-kind s kind k) h))

@@ -14,6 +14,7 @@ use layout::ELEMENT_CEILING;
 use layout::ELEMENT_COUNT_AT;
 use layout::FIXED_COUNT_AT;
 use layout::MAKER_INDEX;
+use layout::MAKER_KINDS;
 use layout::MAKER_SHARED_BY;
 use layout::MAKER_WIDTH;
 use layout::MAKERS_AT;
@@ -41,7 +42,9 @@ ghost use mathlib.Core.Path.{_≡_};
 ghost use Prim.Native.Nat.{_+_, _≤_, _<_};
 ghost use mathlib.Core.List.{[], _∷_};
 ghost use lib.ListN.{length};
-ghost use Rattle.layout.specs.Layout.{nodeCeiling, edgeCeiling, aggregateCeiling, virtualStorageCeiling, rowCeiling, shapeLength, nodesAt, edgesAt, aggregatesAt, virtualStoragesAt, makersAt, nodeWidth, edgeWidth, aggregateWidth, virtualStorageWidth, makerWidth, sentinelIn, nodesIn, edgesIn, varyingIn, fixedIn, aggregatesIn, virtualStoragesIn};
+ghost use Rattle.layout.specs.Layout.{nodeCeiling, edgeCeiling, aggregateCeiling, virtualStorageCeiling, rowCeiling, shapeLength};
+ghost use Rattle.layout.specs.Layout.{nodesAt, edgesAt, aggregatesAt, virtualStoragesAt, makersAt, nodeWidth, edgeWidth, aggregateWidth, virtualStorageWidth, makerWidth};
+ghost use Rattle.layout.specs.Layout.{sentinelIn, nodesIn, edgesIn, varyingIn, fixedIn, aggregatesIn, virtualStoragesIn};
 ghost use Rattle.pywr.specs.Store.{Store, sentinelOf, nodeCount, edgeCount, edgeColumnCount, aggregateCount, virtualStorageCount, rowCount};
 ghost use Rattle.pywr.specs.Misshapen.{countsFit, nodeFits, edgeFits, aggregateFits, virtualStorageFits, makerFits, allEntries};
 
@@ -59,9 +62,6 @@ const NODE_ROW_CEILING_WORD: u16 = NODE_ROW_CEILING as u16;
 const AGGREGATE_CEILING_WORD: u16 = AGGREGATE_CEILING as u16;
 
 const VIRTUAL_STORAGE_CEILING_WORD: u16 = VIRTUAL_STORAGE_CEILING as u16;
-
-// How many kinds of makers there are.
-const KINDS: usize = 5;
 
 // The sentinel that the store keeps.
 pub fn kept_sentinel(shape: &[u16]) -> Sentinel
@@ -99,7 +99,7 @@ pub fn counts_fit(shape: &[u16]) -> bool
         & (shape[VIRTUAL_STORAGE_COUNT_AT] <= VIRTUAL_STORAGE_CEILING_WORD)
 }
 
-// "a kind, flag .. out of range". Each table is looked at whole, with no way out of the loop, so that the compiler can vectorise it.
+// "a kind, flag .. out of range". A table, but for those of three words below, is looked at whole, with no way out of the loop, so that the compiler can vectorise it.
 pub fn nodes_fit(shape: &[u16]) -> bool
     requires { ⌜ (shapeLength ≤ length (now shape)) × (nodesIn (now shape) ≤ nodeCeiling) ⌝ }
     ensures { λ r. ⌜ ((s : Store) → s .shape ≡ now (shape .entry) → r ≡ allEntries (nodeFits s) nodeWidth nodesAt (nodeCount s)) ⌝ }
@@ -130,7 +130,7 @@ fn edge_fits(shape: &[u16], at: usize, nodes: u16, columns: u16) -> bool
     shape[at + MAPPED_COLUMN] < columns
 }
 
-// The tables of three words are left at the first entry that fails: a vector of their entries would have to be put together word by word.
+// The loops over the tables of three words end at the first entry that fails: the compiler cannot vectorise them.
 pub fn edges_fit(shape: &[u16]) -> bool
     requires { ⌜ (shapeLength ≤ length (now shape)) × (edgesIn (now shape) ≤ edgeCeiling) ⌝ }
     ensures { λ r. ⌜ ((s : Store) → s .shape ≡ now (shape .entry) → r ≡ allEntries (edgeFits s) edgeWidth edgesAt (edgeCount s)) ⌝ }
@@ -188,7 +188,7 @@ pub fn virtual_storages_fit(shape: &[u16]) -> bool
 }
 
 // A row's maker: a kind, one of that kind's makers, and how many share the row. `makers` has how many can make a row of each kind.
-fn maker_fits(shape: &[u16], at: usize, makers: &[u16; KINDS]) -> bool
+fn maker_fits(shape: &[u16], at: usize, makers: &[u16; MAKER_KINDS]) -> bool
     requires { ⌜ at + makerWidth ≤ length (now shape) ⌝ }
     ensures { λ r. ⌜ ((s : Store) → s .shape ≡ now (shape .entry)
         → now (makers .entry) ≡ nodeCount s ∷ nodeCount s ∷ aggregateCount s ∷ virtualStorageCount s ∷ aggregateCount s ∷ [] → r ≡ makerFits s at) ⌝ }
@@ -211,7 +211,7 @@ pub fn makers_fit(shape: &[u16]) -> bool
     let nodes = shape[NODE_COUNT_AT];
     let aggregates = shape[AGGREGATE_COUNT_AT];
     let virtual_storages = shape[VIRTUAL_STORAGE_COUNT_AT];
-    let makers: [u16; KINDS] = [nodes, nodes, aggregates, virtual_storages, aggregates];
+    let makers: [u16; MAKER_KINDS] = [nodes, nodes, aggregates, virtual_storages, aggregates];
     let rows = row_count(shape);
     let mut at: usize = MAKERS_AT;
     let mut i: usize = 0;

@@ -6,6 +6,9 @@ ghost use Rattle.layout.specs.Layout.{elementCeiling, rowStartsLength, shapeLen
 use layout::AGGREGATE_CEILING;
 use layout::AGGREGATE_COUNT_AT;
 use layout::AGGREGATES_AT;
+use layout::BY_EXCLUSIVITY;
+use layout::BY_MASS;
+use layout::BY_NODE;
 use layout::COLUMN_CEILING;
 use layout::EDGE_CEILING;
 use layout::EDGE_COLUMN_COUNT_AT;
@@ -109,10 +112,11 @@ fn shape_with(kind: u16, index: u16, shared_by: u16) -> [u16; SHAPE_LENGTH]
     shape[VIRTUAL_STORAGES_AT + PERIOD_START_DAY] = 1;
     shape[VIRTUAL_STORAGES_AT + PERIOD_END_MONTH] = 9;
     shape[VIRTUAL_STORAGES_AT + PERIOD_END_DAY] = 30;
-    shape[MAKERS_AT] = 1;
+    shape[MAKERS_AT] = BY_NODE;
     shape[MAKERS_AT + MAKER_SHARED_BY] = 3;
-    shape[SECOND_MAKER] = 1;
+    shape[SECOND_MAKER] = BY_NODE;
     shape[SECOND_MAKER + MAKER_SHARED_BY] = 1;
+    shape[THIRD_MAKER] = BY_MASS;
     shape[THIRD_MAKER + MAKER_INDEX] = 1;
     shape[THIRD_MAKER + MAKER_SHARED_BY] = 1;
     shape[FOURTH_MAKER] = kind;
@@ -125,7 +129,7 @@ fn shape_with(kind: u16, index: u16, shared_by: u16) -> [u16; SHAPE_LENGTH]
 fn small_shape() -> [u16; SHAPE_LENGTH]
     ensures { λ r. ⌜ shapeLength ≡ length r ⌝ }
 {
-    shape_with(4, 0, 1)
+    shape_with(BY_EXCLUSIVITY, 0, 1)
 }
 
 // The run, or the run without its last element.

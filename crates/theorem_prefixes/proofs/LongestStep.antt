@@ -24,7 +24,8 @@ use Rattle.pywr.specs.StepFile.{NodeStep, StepFile, expectMark, daysIn, readDat
 use Rattle.pywr.specs.StepFile.{readNodeStep, readNodeSteps, readAggregateStep, readAggregateSteps, readVirtualStorageStep, readVirtualStorageSteps, readStep}
 use Rattle.pywr.specs.StepIntervals.{Intervals, firstCrossed, unless, ordered}
 use Rattle.pywr.specs.Store.{Store, storeHasRoom, word, nodeEntry, virtualStorageEntry, shapeOf, columnsOfRow}
-use Rattle.pywr.specs.Misshapen.{countsFit, startsRise, columnsRise, rowColumnsRise, nodeFits, edgeFits, nodeRowFits, aggregateFits, virtualStorageFits, makersOfKind, makerFits, allEntries, wellShaped}
+use Rattle.pywr.specs.Misshapen.{countsFit, startsRise, columnsRise, rowColumnsRise, allEntries, wellShaped}
+use Rattle.pywr.specs.Misshapen.{nodeFits, edgeFits, nodeRowFits, aggregateFits, virtualStorageFits, makersOfKind, makerFits}
 use Rattle.pywr.specs.Calls.{stepRoom, stepRead, stepAnswer}
 use Rattle.pywr.specs.Compute.{computing}
 use Rattle.store_shape.proofs.EntryLaws.{entries-length}

@@ -23,7 +23,8 @@ abbrev Inv-loop : tie.InvT-loop
 Inv-loop s c first-in next-in first-out next-out edge-to-col edge-columns first-membership next-membership sentinel words₀ numbers₀ columns₀ nodes filled₀ i₀ words numbers columns filled i =
     (i ≤ nodes) × ((rows : List Row) (makers : List Maker) → MadeHeld rows makers words₀ numbers₀ filled₀
     → Making (rows ++ constantRowsFrom sentinel (columnMap (networkOf s c)) 0 (networkOf s c .nodes)) (constantRowsFrom sentinel (columnMap (networkOf s c)) i (drop i (networkOf s c .nodes)))
-    (makers ++ constantMakers sentinel (columnMap (networkOf s c)) 0 (networkOf s c .nodes)) (constantMakers sentinel (columnMap (networkOf s c)) i (drop i (networkOf s c .nodes))) words₀ words numbers filled)
+    (makers ++ constantMakers sentinel (columnMap (networkOf s c)) 0 (networkOf s c .nodes))
+    (constantMakers sentinel (columnMap (networkOf s c)) i (drop i (networkOf s c .nodes))) words₀ words numbers filled)
     × (length words ≡ length words₀) × (length numbers ≡ length numbers₀)
 
 abbrev μ-loop : tie.MeasureT-loop

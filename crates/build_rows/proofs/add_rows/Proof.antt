@@ -19,7 +19,7 @@ use Rattle.build_varying.specs.VaryingLaid.{VaryingLaid}
 use Rattle.build_varying.proofs.Varying.{asks-few}
 use Rattle.build_rows.proofs.EdgeTable.{placed}
 use Rattle.build_rows.proofs.LaidOut.{shape-room}
-use Rattle.build_rows.proofs.VaryingMade.{theirs, rows-under, still-laid, varying-made}
+use Rattle.build_rows.proofs.VaryingMade.{makersOfVarying, rows-under, still-laid, varying-made}
 use Rattle.build_rows.proofs.Finish.{varying-refused, fixed-refused, few, varying-most, all-made}
 use borrow.Author.Needs.{needs}
 use Rattle.build_rows.proofs.add_rows.Statement.{statement}
@@ -110,7 +110,7 @@ long₂ : (c : tie.After-put-varying-makers) → length (words₂ c) ≡ length 
 long₂ c = tail-kept shapeMadeAt (words₁ (to-v c)) (c .put-varying-makers .last .0) (c .put-varying-makers .kept .0)
 
 made : (c : tie.After-put-varying-makers)
-    → MadeHeld (programmeOf (start-of (to-v c) .args .sentinel) (net (to-v c)) .programme .varying) (theirs (start-of (to-v c) .args .sentinel) (net (to-v c))) (words₂ c)
+    → MadeHeld (programmeOf (start-of (to-v c) .args .sentinel) (net (to-v c)) .programme .varying) (makersOfVarying (start-of (to-v c) .args .sentinel) (net (to-v c))) (words₂ c)
     (numbers₁ (to-v c)) (to-v c .v .given .0 .0 .filled)
 made c =
     let after-v = to-v c in
@@ -145,7 +145,8 @@ fixed : (c : tie.After-add-fixed-rows)
     → let after-v : tie.After-v = to-v (to-makers c) in
     let s : Sentinel = start-of after-v .args .sentinel in
     AfterMade (programmeOf s (net after-v) .programme .varying ++ programmeOf s (net after-v) .programme .fixed)
-    (theirs s (net after-v) ++ fixedMakers s (columnMap (net after-v)) (net after-v)) (words₂ (to-makers c)) (c .add-fixed-rows .result) (words₃ c) (c .add-fixed-rows .last .1 .1 .1 .1 .1 .1 .1 .1 .1 .1 .1 .1 .1 .1 .0)
+    (makersOfVarying s (net after-v) ++ fixedMakers s (columnMap (net after-v)) (net after-v))
+    (words₂ (to-makers c)) (c .add-fixed-rows .result) (words₃ c) (c .add-fixed-rows .last .1 .1 .1 .1 .1 .1 .1 .1 .1 .1 .1 .1 .1 .1 .0)
 fixed c = c .add-fixed-rows .ensures _ _ (made (to-makers c))
 
 add-varying-rows-requires : tie.Need-add-varying-rows-requires

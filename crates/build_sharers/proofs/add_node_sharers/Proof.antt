@@ -4,6 +4,7 @@ use Prim.Native.Nat.{_+_, _*_, _-_}
 use native.Mathlib.Omega.{arith}
 use lib.ListN.{getD}
 use Rattle.layout.specs.Layout.{nodeRowsAt}
+use Rattle.pywr.specs.Programme.{byNode}
 use Rattle.build_sharers.specs.Sharers.{nodeAsker}
 use Rattle.build_sharers.proofs.Walk.{Walked, walked-none, walked-more, walked-all, next-under, next-room, word-kept}
 use borrow.Author.Needs.{needs}
@@ -79,7 +80,7 @@ loop-again c =
     let node = word-kept (start .args .shape .now) (at-loop .loop .shape) (nodeRowsAt + 4 * at-loop .loop .i)
     (omega (arith, in-loop .loop-test .taken, start .pre .0)) (at-loop .loop .inv .counted .kept) in
     walked-more _ _ _ (start .pre .2) _ _ (in-loop .loop-test .taken) (at-loop .loop .inv) (start .pre .1) _
-    (λ j. record { kind = 1; index = node j; row = (after-wide16 .wide16 .ensures .0 ∙ row-is after-wide16) j }) _ (after-add-sharer .add-sharer .ensures)
+    (λ j. record { kind = byNode; index = node j; row = (after-wide16 .wide16 .ensures .0 ∙ row-is after-wide16) j }) _ (after-add-sharer .add-sharer .ensures)
 
 same-length : tie.Need-same-length Inv-loop μ-loop
 same-length c =

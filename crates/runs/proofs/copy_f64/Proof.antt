@@ -3,7 +3,8 @@ use lib.Ieee.{nan}
 use Prim.Native.Nat.{_-_}
 use Rattle.laws.specs.Part.{part}
 use Rattle.laws.proofs.Sets.{length-part}
-use Rattle.runs.proofs.Copied.{Copied, none, more, all, part-at}
+use Rattle.laws.proofs.Sets.{part-at}
+use Rattle.runs.proofs.Copied.{Copied, none, more, all}
 use borrow.Author.Needs.{needs}
 use Rattle.runs.proofs.copy_f64.Statement.{statement}
 use Rattle.runs.proofs.copy_f64.Tie as tie

@@ -3,7 +3,8 @@ use mathlib.Core.Path.{sym, _∙_}
 use Prim.Native.Nat.{_-_}
 use Rattle.laws.specs.Part.{part}
 use Rattle.laws.proofs.Sets.{length-part}
-use Rattle.runs.proofs.Copied.{Copied, none, more, all, part-at}
+use Rattle.laws.proofs.Sets.{part-at}
+use Rattle.runs.proofs.Copied.{Copied, none, more, all}
 use borrow.Author.Needs.{needs}
 use Rattle.runs.proofs.widen_u16.Statement.{statement}
 use Rattle.runs.proofs.widen_u16.Tie as tie
