@@ -1,7 +1,7 @@
 #!/usr/bin/env python3
 # Writes the example network files beside this script (flows in Ml/d).
-#   make.py           writes worked.network, supply.network, intake.network, and refused/ with slips in the last
-#   make.py --dump    prints the records of the first three in hexadecimal, each with what it is
+#   make.py           writes worked.network, supply.network, returns.network, intake.network, and refused/ with slips in the last
+#   make.py --dump    prints the records of the first four in hexadecimal, each with what it is
 #   make.py --check   reads the written files by the rules and says what they hold, or how they are refused
 import itertools
 import math
@@ -48,6 +48,16 @@ SUPPLY = [
     ("edge 0, intake to main", edge(0, 1)),
     ("edge 1, main to reservoir", edge(1, 2)),
     ("edge 2, reservoir to town", edge(2, 3)),
+]
+RETURNS = [
+    ("node 0, river intake, 0 to 120", node(INPUT, (0.0, 120.0))),
+    ("node 1, paper mill, 0 to 120", node(LINK, (0.0, 120.0))),
+    ("node 2, return to the river", node(OUTPUT, (0.0, math.inf))),
+    ("node 3, water in the product, 0 to 30", node(OUTPUT, (0.0, 30.0))),
+    ("edge 0, intake to mill", edge(0, 1)),
+    ("edge 1, mill to return", edge(1, 2)),
+    ("edge 2, mill to product", edge(1, 3)),
+    ("virtual storage 0, a licence: a litre taken counts 1, a litre returned -0.75", virtual_storage([(0, 1.0), (2, -0.75)])),
 ]
 INTAKE = [
     ("node 0, river intake, licensed at 48.5", node(INPUT, (0.0, 48.5))),
@@ -179,7 +189,7 @@ def check(name, records, data):
 
 here = pathlib.Path(__file__).resolve().parent
 if __name__ == "__main__":
-    for name, records in (("worked.network", WORKED), ("supply.network", SUPPLY), ("intake.network", INTAKE)):
+    for name, records in (("worked.network", WORKED), ("supply.network", SUPPLY), ("returns.network", RETURNS), ("intake.network", INTAKE)):
         if "--dump" in sys.argv:
             print("# " + name)
             at = 0

@@ -1,4 +1,4 @@
-# Step files as document 01 has them: their records, a reader by rules 12 to 14, and the text of a programme. Used by year.py and for the cases of crates/test_cases.
+# Step files as document 01 has them: their records, a reader by rules 12 to 14, and the text of a programme. Used by year.py, returns.py and for the cases of crates/test_cases.
 import math
 import struct
 

@@ -4,6 +4,8 @@ pub mod case_list;
 pub mod ceilings;
 pub mod commands;
 pub mod comparison;
+pub mod correspondence;
+pub mod exact;
 pub mod fields;
 pub mod generate;
 #[cfg(feature = "library")]
@@ -15,6 +17,7 @@ pub mod makers;
 pub mod naming;
 pub mod network_checks;
 pub mod network_file;
+pub mod plans;
 pub mod port;
 #[cfg(feature = "library")]
 pub mod port_library;

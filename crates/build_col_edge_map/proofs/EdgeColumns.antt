@@ -15,7 +15,7 @@ use Rattle.pywr.proofs.LinkLaws.{NoSelf, columns-paths}
 use Rattle.pywr.proofs.EvenLaws.{mapped-edge-of}
 use Rattle.pywr.proofs.ListLaws.{below-found}
 use Rattle.pywr.proofs.FitLaws.{columns-long, columns-most}
-use Rattle.pywr.proofs.AmountLaws.{pipes-length}
+use Rattle.pywr.proofs.WeightLaws.{pipes-length}
 use Rattle.build_col_edge_map.specs.Mapped.{code, Mapped}
 use Rattle.build_col_edge_map.proofs.MappedLaws.{mapped-at}
 

@@ -32,7 +32,6 @@ use Rattle.pywr.specs.Calls.{buildAnswer, buildStore, workNeeded, stepRo
 use Rattle.pywr.specs.Correspondence.{Call, storeAfter, periodsOf, readBy}
 use Rattle.pywr.proofs.ReadLaws.{Sound, read-sound}
 use Rattle.pywr.proofs.DemandThree.{BuildAccepted, build-accepted, periods-are, read-alike}
-use Rattle.pywr.proofs.FitLaws.{idle}
 use Rattle.pywr.proofs.WellShaped.{held, shaped, rows-count, of-row}
 
 -- ---- what a step keeps
@@ -250,7 +249,7 @@ module _ (networkFile : List ℕ) (w : Sentinel) (old : Store) (words : List ℕ
       step-answers (after calls) file work (of-true (storeHasRoom (after calls)) (build-roomy calls)) long (of-true (wellShaped (after calls)) (build-shaped calls))
       ∙ ap₂ (λ (s : Sentinel) (q : Shape). afterReading (intervals s (periods q))
       (readStep (q .nodes) (length (q .aggregates)) (length (q .virtualStorages)) file)) (sentinel-is calls) (shape-is calls)
-      ∙ ap₂ (λ (ps : List Period) (r : Result StepFile). afterReading (intervals w ps) r) (periods-are w net idle) (read-alike w net idle file)
+      ∙ ap₂ (λ (ps : List Period) (r : Result StepFile). afterReading (intervals w ps) r) (periods-are w net) (read-alike w net file)
 
   -- so a step file that reads well with ordered intervals is accepted
   pub file-accepted : (calls : List Call) (file : List ℕ) (work : List Float) (f : StepFile) (i : Intervals) → workNeeded ≤ length work

@@ -1,37 +1,33 @@
--- Doubles of whole numbers against a count, the finite coefficients of exclusive rows, and whole factors. Assumes nothing.
+-- Doubles of whole numbers against a count, and the finite coefficients of exclusive rows. Assumes nothing.
 use mathlib.Core.Path.{_≡_, refl, sym, ap, ap₂, _∙_, subst}
 use mathlib.Core.Logic.{_↔_}
-use Prim.Native.Nat.{ℕ, suc, _+_, _*_, _/_, _%_, _^_, _<_, _≤_}
-use native.Mathlib.Nat.{add-zero, zero-mul, le-refl, le-trans, le-of-eq, div-add-mod', mul-le-mul-right, le-of-mul-le-mul-right}
+use Prim.Native.Nat.{ℕ, suc, _*_, _^_, _<_, _≤_}
+use native.Mathlib.Nat.{zero-mul, le-refl, le-trans, mul-le-mul-right, le-of-mul-le-mul-right}
 use native.Mathlib.Omega.{arith}
 use mathlib.Core.Bool.{Bool, true, false, cond, not, _&&_}
-use lib.IntN.{ℤ, pos, negsuc, negℤ, natAbs, _+ℤ_, _-ℤ_, _*ℤ_, +ℤ-comm, +ℤ-idr, *ℤ-comm, *ℤ-zero}
+use lib.IntN.{ℤ, pos, negsuc, negℤ, _+ℤ_, _-ℤ_, _*ℤ_, +ℤ-comm, +ℤ-idr, *ℤ-comm, *ℤ-zero}
 use lib.Signed.{leZ}
-use lib.Dec.{T, eqb, leb, eqb→eq, le→leb, leb→le, nleb→lt, lit≤, lit<}
+use lib.Dec.{T, leb, le→leb, leb→le, nleb→lt, lit≤, lit<}
 use lib.Ieee.{Float, nan, inf, fin, binary64, fits, isNan, lt, le, eq, round, neg, ofBits}
 use lib.Ieee.Order.{round-mono}
 use lib.Ieee.Fits.{and-i, and-l, and-r, neg-fits}
 use lib.Ieee.Scale.{finite}
 use Rattle.laws.proofs.Tests.{tests, or-r, or-elim, by-cases}
-use Rattle.doubles.specs.Units.{sign, mag, signed as with-sign, rank}
+use Rattle.doubles.specs.Units.{mag, signed as with-sign, rank}
 use Rattle.doubles.specs.Rounding.{Rounds}
 use Rattle.doubles.proofs.Integers.{ints, neg-plus, neg-less, add-mulℤ, neg-mulℤ, mul-negℤ, scale-le}
-use Rattle.doubles.proofs.Units.{abs-signed, neg-rank, neg-finite}
+use Rattle.doubles.proofs.Units.{neg-rank, neg-finite}
 use Rattle.doubles.proofs.Order.{neg-num, le→Z}
 use Rattle.doubles.proofs.Rounding.{round-num}
 use Rattle.doubles.proofs.Sums.{ofNat}
 use Rattle.pywr.specs.declared.Sentinel.{Sentinel}
 use Rattle.pywr.specs.declared.Sentinel.the-variants.{Infinity, Largest}
 use Rattle.pywr.specs.Numbers.{double, zero64, million, millionth, high, low, lesser, greater}
-use Rattle.pywr.specs.Network.{Part}
 use Rattle.pywr.specs.Plans.{exact, meets, unitsInOne, signed, isFinite, timesOne, lowerMet, upperMet}
 use Rattle.pywr.specs.Allows.{onAmount}
-use Rattle.pywr.specs.Correspondence.{isWhole}
 use Rattle.pywr.proofs.ExactLaws.{units-pos, finite-is, exact-rank, exact-neg}
 use Rattle.pywr.proofs.BoundLaws.{IsBound, high-bound, lower-mono, upper-mono}
-use Rattle.pywr.proofs.SumLaws.{grid, Upto}
 use Rattle.pywr.proofs.NumberLaws.{FiniteFit}
-use Rattle.pywr.proofs.ReadLaws.{PartOk}
 
 -- ---- integers
 
@@ -233,19 +229,3 @@ count-met w k small m n =
     let l = lower-count w k small m in
     let u = upper-count w k small n in
     (λ h. and-i (leb m k) (leb k n) (l .0 (and-l a b h)) (u .0 (and-r a b h)), λ h. and-i a b (l .1 (and-l (leb m k) (leb k n) h)) (u .1 (and-r (leb m k) (leb k n) h)))
-
--- ---- factors
-
-pub grid-factor : (g m : ℕ) (x : Float) → T (fits binary64 x) → T (finite x) → T (eqb (natAbs (exact x) % 2 ^ grid g) 0 && leb (natAbs (exact x) / 2 ^ grid g) m) → Upto g m x
-grid-factor g m x fit isFinite t =
-    let u : ℕ = 2 ^ grid g in
-    let n : ℕ = mag binary64 x in
-    let is : natAbs (exact x) ≡ n = ap natAbs (exact-rank x fit isFinite) ∙ abs-signed (sign x) n in
-    let r : n % u ≡ 0 = subst (λ (k : ℕ). k % u ≡ 0) is (eqb→eq (natAbs (exact x) % u) 0 (and-l (eqb (natAbs (exact x) % u) 0) (leb (natAbs (exact x) / u) m) t)) in
-    let few : n / u ≤ m = subst (λ (k : ℕ). k / u ≤ m) is (leb→le (natAbs (exact x) / u) m (and-r (eqb (natAbs (exact x) % u) 0) (leb (natAbs (exact x) / u) m) t)) in
-    let whole : n ≡ n / u * u = sym (div-add-mod' n u) ∙ ap (λ (k : ℕ). n / u * u + k) r ∙ add-zero (n / u * u) in
-    record { grain = record { fit = fit; isFinite = isFinite; count = n / u; is = whole }; most = le-trans (le-of-eq whole) (mul-le-mul-right u few) }
-
-pub whole-factor : (p : Part) → PartOk p → T (isWhole p) → Upto 0 1000000 (p .factor)
-unfolding isWhole unitsInOne
-whole-factor p ok t = grid-factor 0 1000000 (p .factor) (ok .fit) (ok .finite) t

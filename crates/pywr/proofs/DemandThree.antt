@@ -29,13 +29,14 @@ use Rattle.pywr.specs.Plans.{Plan}
 use Rattle.pywr.specs.Allows.{allows}
 use Rattle.pywr.specs.Admits.{admits}
 use Rattle.pywr.specs.Correspondence.{storeAfter, Report, reports, lastAccepted, periodsOf, readBy, allowsRead}
-use Rattle.pywr.specs.Correspondence.{allowsUnder, networkAllows, programmeAdmits, exclusiveConstant, factorsWhole, anyAccepted, Correspondence}
+use Rattle.pywr.specs.Correspondence.{allowsUnder, networkAllows, programmeAdmits, exclusiveConstant, factorsIn1024ths, factorsWhole, anyAccepted, CorrespondenceWhere, Correspondence}
 use Rattle.pywr.proofs.Represents.{Represents, Roomy, programme-back}
 use Rattle.pywr.proofs.RunLaws.{stepped-lowers, stepped-uppers, after, after-held, bind-value, need-value, Reached, run}
 use Rattle.pywr.proofs.ListLaws.{all-at}
 use Rattle.pywr.proofs.ReadLaws.{same-value, need-test, Sound, read-sound}
 use Rattle.pywr.proofs.StepReadLaws.{step-sound, shape-periods-length, IntervalsOk, intervals-sound}
 use Rattle.pywr.proofs.FitLaws.{OnlyConstant, aggregates-length, forVirtualStorages, lengthV}
+use Rattle.pywr.proofs.FactorLaws.{whole-in-1024ths}
 use Rattle.pywr.proofs.StepMeets.{step-meets}
 use Rattle.pywr.proofs.WellShaped.{held}
 
@@ -137,22 +138,22 @@ same-periods [] ps l = refl
 same-periods (v ∷ vs) [] l = let z : suc (length vs) ≡ 0 = l in absurd (omega arith)
 same-periods (v ∷ vs) (p ∷ ps) l = ap (λ (r : List Period). v .period ∷ r) (same-periods vs ps (let z : suc (length vs) ≡ suc (length ps) = l in omega arith))
 
-pub periods-are : (s : Sentinel) (net : Network) (plan : Plan) → periods (programmeOf s net .shape) ≡ periodsOf net
+pub periods-are : (s : Sentinel) (net : Network) → periods (programmeOf s net .shape) ≡ periodsOf net
 unfolding periods periodsOf programmeOf assemble
-periods-are s net plan = same-periods (net .virtualStorages) (forVirtualStorages s net plan .places) (lengthV s net plan)
+periods-are s net = same-periods (net .virtualStorages) (forVirtualStorages s net .places) (lengthV s net)
 
 periods-length : (net : Network) → length (periodsOf net) ≡ length (net .virtualStorages)
 unfolding periodsOf
 periods-length net = length-map (net .virtualStorages) (λ (v : VirtualStorage). v .period)
 
-virtual-storages-length : (s : Sentinel) (net : Network) (plan : Plan) → length (programmeOf s net .shape .virtualStorages) ≡ length (net .virtualStorages)
-virtual-storages-length s net plan =
-    sym (shape-periods-length (programmeOf s net .shape)) ∙ ap length (periods-are s net plan) ∙ periods-length net
+virtual-storages-length : (s : Sentinel) (net : Network) → length (programmeOf s net .shape .virtualStorages) ≡ length (net .virtualStorages)
+virtual-storages-length s net =
+    sym (shape-periods-length (programmeOf s net .shape)) ∙ ap length (periods-are s net) ∙ periods-length net
 
-pub read-alike : (s : Sentinel) (net : Network) (plan : Plan) (file : List ℕ)
+pub read-alike : (s : Sentinel) (net : Network) (file : List ℕ)
     → readStep (programmeOf s net .shape .nodes) (length (programmeOf s net .shape .aggregates)) (length (programmeOf s net .shape .virtualStorages)) file ≡ readBy net file
 unfolding readBy programmeOf assemble
-read-alike s net plan file = ap₂ (λ (a v : ℕ). readStep (map nodeShape (net .nodes)) a v file) (aggregates-length s net plan) (virtual-storages-length s net plan)
+read-alike s net file = ap₂ (λ (a v : ℕ). readStep (map nodeShape (net .nodes)) a v file) (aggregates-length s net) (virtual-storages-length s net)
 
 -- ---- the statement
 
@@ -163,7 +164,7 @@ only-constant net e i x h t =
     let r = subst (λ (k : ℕ). T (test k x)) (zero-add i) (all-at test (net .nodes) 0 .0 (of-true _ e) i x h) in
     or-elim (not (isExclusive (net .aggregates) i)) (x .constant) r (λ u. absurd (T-not (isExclusive (net .aggregates) i) u t)) (λ u. u)
 
-module _ (s : Sentinel) (net : Network) (sound : Sound net) (only : OnlyConstant net) (whole : T (factorsWhole net)) (plan : Plan) where
+module _ (s : Sentinel) (net : Network) (sound : Sound net) (only : OnlyConstant net) (factors : T (factorsIn1024ths net)) (plan : Plan) where
   abbrev b : Built
   b = programmeOf s net
 
@@ -177,14 +178,14 @@ module _ (s : Sentinel) (net : Network) (sound : Sound net) (only : OnlyConstant
       intervals-sound s (periodsOf net) (length (net .aggregates)) (length (net .virtualStorages)) f (periods-length net)
       (step-sound _ (length (net .aggregates)) (length (net .virtualStorages)) file f read) in
       same-test (admits (columnMap net) p plan) (allows s net i plan)
-      (step-meets s net sound only whole plan i ok p refl (stepped-lowers (b .shape) f (b .programme)) (stepped-uppers (b .shape) f (b .programme))
-      (ap (λ (q : List Period). stepRows s (b .shape) (intervals s q f) (b .programme .varying)) (periods-are s net plan)) refl)
+      (step-meets s net sound only factors plan i ok p refl (stepped-lowers (b .shape) f (b .programme)) (stepped-uppers (b .shape) f (b .programme))
+      (ap (λ (q : List Period). stepRows s (b .shape) (intervals s q f) (b .programme .varying)) (periods-are s net)) refl)
       ∙ sym (ap (λ (r : Result StepFile). allowsRead s net r plan) read)
 
 -- "the programme admits each flow plan exactly when the network allows that plan under the last accepted step"
 pub correspondence : Correspondence
 unfolding programmeAdmits networkAllows allowsUnder Reached
-correspondence networkFile s old words numbers net parsed accepted constant whole calls any plan =
+correspondence networkFile s old words numbers net parsed accepted constant factors calls any plan =
     let sound : Sound net = read-sound networkFile net parsed in
     let built = build-accepted s net old networkFile words numbers parsed accepted in
     let b : Built = programmeOf s net in
@@ -194,8 +195,13 @@ correspondence networkFile s old words numbers net parsed accepted constant whol
     let file = last-some ts none (of-true (anyAccepted ts) any) in
     let u : Reached store b held (some (file .0)) (storeAfter store calls) = subst (λ (o : Option (List ℕ)). Reached store b held o (storeAfter store calls))
     (file .1) (run store b held calls store none refl) in
-    let read : readBy net (file .0) ≡ value (u .0) = sym (read-alike s net plan (file .0)) ∙ u .1 in
+    let read : readBy net (file .0) ≡ value (u .0) = sym (read-alike s net (file .0)) ∙ u .1 in
     ap₂ (λ (r : Result Network) (q : Store). programmeAdmits r q plan) parsed (u .2)
     ∙ ap (λ (p : Programme). admits (columnMap net) p plan) (programme-back (storeOfStep store (value (u .0))) (after store b held (u .0)) (after-held store b held (u .0)))
-    ∙ file-meets s net sound (only-constant net constant) (of-true (factorsWhole net) whole) plan (file .0) (u .0) read
+    ∙ file-meets s net sound (only-constant net constant) (of-true (factorsIn1024ths net) factors) plan (file .0) (u .0) read
     ∙ sym (ap (λ (r : Result Network). networkAllows r s ts plan) parsed ∙ ap (λ (o : Option (List ℕ)). allowsUnder s net o plan) (file .1))
+
+-- whole factors are a special case
+pub whole-correspondence : CorrespondenceWhere factorsWhole
+whole-correspondence networkFile s old words numbers net parsed accepted constant whole calls any plan =
+    correspondence networkFile s old words numbers net parsed accepted constant (whole-in-1024ths net whole) calls any plan

@@ -46,6 +46,17 @@ exact-neg (inf s) = refl
 exact-neg (fin true m e) = sym (negℤ-negℤ (pos _))
 exact-neg (fin false m e) = refl
 
+-- equal doubles are finite both or neither
+pub eq-finite : (x y : Float) → T (eq x y) → isFinite x ≡ isFinite y
+unfolding eq isFinite
+eq-finite nan y h = absurd h
+eq-finite (inf s) nan h = absurd h
+eq-finite (inf s) (inf t) h = refl
+eq-finite (inf s) (fin t n d) h = absurd h
+eq-finite (fin s m e) nan h = absurd h
+eq-finite (fin s m e) (inf t) h = absurd h
+eq-finite (fin s m e) (fin t n d) h = refl
+
 -- equal doubles have equal exact values
 pub eq-exact : (x y : Float) → T (fits binary64 x) → T (fits binary64 y) → T (eq x y) → exact x ≡ exact y
 unfolding eq exact

@@ -1,5 +1,5 @@
--- The programme of a sound network under the ceilings fits the store, every row that it asks for is one of doubles, and where no exclusive node varies
--- every node row is continuous. Assumes nothing.
+-- The programme of a sound network under the ceilings fits the store, every row that it asks for is one of doubles and has its place among the varying rows,
+-- and where no exclusive node varies every node row is continuous. Assumes nothing.
 use mathlib.Core.Path.{_≡_, refl, sym, ap, ap₂, _∙_, subst}
 use mathlib.Core.Logic.{_↔_}
 use Prim.Native.Nat.{ℕ, zero, suc, _+_, _≤_, suc-le-suc, zero-le}
@@ -26,10 +26,9 @@ use Rattle.pywr.specs.VaryingRows.{RowRequest, exclusiveRequests, reques
 use Rattle.pywr.specs.Build.{edgeColumn, setColumn, allColumns, nodeShape, placedNodeRows, placedVirtualStorages, requestedRow, assemble, programmeOf, elementCount, underCeilings}
 use Rattle.pywr.specs.Step.{rowOf}
 use Rattle.pywr.specs.Written.{integerColumns, rowsOf}
-use Rattle.pywr.specs.Plans.{Plan}
 use Rattle.pywr.proofs.ColumnLaws.{put-length, new-length}
-use Rattle.pywr.proofs.AmountLaws.{pipes-length}
-use Rattle.pywr.proofs.JoinLaws.{AllFit, add-fit, add-on-fit, RowsFit, Placed, JoinKept, joins-kept, placed-stays}
+use Rattle.pywr.proofs.WeightLaws.{pipes-length}
+use Rattle.pywr.proofs.JoinLaws.{AllFit, add-fit, add-on-fit, RowsFit, Placed, JoinKept, joins-kept, placed-stays, placed-length}
 use Rattle.pywr.proofs.RowsBack.{Typed}
 use Rattle.pywr.proofs.MakerLaws.{makers-count}
 use Rattle.pywr.proofs.Represents.{ProgrammeFits}
@@ -227,10 +226,6 @@ placed-continuous [] ps h = Continuous.none
 placed-continuous (a ∷ requests) [] h = Continuous.none
 placed-continuous (a ∷ requests) (p ∷ ps) h = Continuous.more (h .0) (placed-continuous requests ps (h .1))
 
-pub placed-length : (f : ColumnMap) (plan : Plan) (rows asked : List (List Element)) (ps : List ℕ) → Placed f plan rows asked ps → length asked ≡ length ps
-placed-length f plan rows [] [] Placed.none = refl
-placed-length f plan rows (r ∷ rs) (p ∷ ps) (Placed.more h e rest) = ap suc (placed-length f plan rows rs ps rest)
-
 pub same-places : (requests : List RowRequest) (ps : List ℕ) → length requests ≡ length ps → node-places (placedNodeRows requests ps) ≡ ps
 unfolding placedNodeRows node-places
 same-places [] [] l = refl
@@ -250,18 +245,15 @@ unfolding elementCount
 elements-append [] f = sym (zero-add (elementCount f))
 elements-append (r ∷ v) f = let ih = elements-append v f in omega arith
 
-pub idle : Plan
-idle = record { amount = λ e. 0; on = λ s. false }
-
 -- ---- what the build joins
 
-pub record Asked (w : Sentinel) (net : Network) (plan : Plan) (joined : List (List Element)) : Type 0 where
+pub record Asked (w : Sentinel) (net : Network) (joined : List (List Element)) : Type 0 where
   pub varying : programmeOf w net .programme .varying ≡ map (freshRow w) joined
-  pub nodes : Placed (columnMap net) plan joined (map requestedRow (requestsFrom (columnMap net) 0 (net .nodes))) (node-places (programmeOf w net .shape .nodeRows))
-  pub aggregates : Placed (columnMap net) plan joined (map (aggregateRow (columnMap net)) (net .aggregates)) (programmeOf w net .shape .aggregates)
-  pub virtualStorages : Placed (columnMap net) plan joined (map (virtualStorageRow (columnMap net)) (net .virtualStorages)) (map rowOf (programmeOf w net .shape .virtualStorages))
+  pub nodes : Placed joined (map requestedRow (requestsFrom (columnMap net) 0 (net .nodes))) (node-places (programmeOf w net .shape .nodeRows))
+  pub aggregates : Placed joined (map (aggregateRow (columnMap net)) (net .aggregates)) (programmeOf w net .shape .aggregates)
+  pub virtualStorages : Placed joined (map (virtualStorageRow (columnMap net)) (net .virtualStorages)) (map rowOf (programmeOf w net .shape .virtualStorages))
 
-module _ (w : Sentinel) (net : Network) (plan : Plan) where
+module _ (w : Sentinel) (net : Network) where
   abbrev pub g : ColumnMap
   g = columnMap net
 
@@ -277,44 +269,53 @@ module _ (w : Sentinel) (net : Network) (plan : Plan) where
   abbrev pub forVirtualStorages : Joined
   forVirtualStorages = addVariableRows (map (virtualStorageRow g) (net .virtualStorages)) (record { rows = forAggregates .rows; places = [] })
 
-  keptN : JoinKept g plan (map requestedRow requests) forNodes
-  keptN = joins-kept g plan (map requestedRow requests) [] _ (asked-fit g (net .nodes)) (record { fit = RowsFit.none; placed = Placed.none })
+  keptN : JoinKept (map requestedRow requests) forNodes
+  keptN = joins-kept (map requestedRow requests) [] _ (asked-fit g (net .nodes)) (record { fit = RowsFit.none; placed = Placed.none })
 
-  keptA : JoinKept g plan (map (aggregateRow g) (net .aggregates)) forAggregates
-  keptA = joins-kept g plan (map (aggregateRow g) (net .aggregates)) [] _ (aggregates-fit g (net .aggregates)) (record { fit = keptN .fit; placed = Placed.none })
+  keptA : JoinKept (map (aggregateRow g) (net .aggregates)) forAggregates
+  keptA = joins-kept (map (aggregateRow g) (net .aggregates)) [] _ (aggregates-fit g (net .aggregates)) (record { fit = keptN .fit; placed = Placed.none })
 
-  keptV : JoinKept g plan (map (virtualStorageRow g) (net .virtualStorages)) forVirtualStorages
-  keptV = joins-kept g plan (map (virtualStorageRow g) (net .virtualStorages)) [] _ (virtual-storages-fit g (net .virtualStorages)) (record { fit = keptA .fit; placed = Placed.none })
+  keptV : JoinKept (map (virtualStorageRow g) (net .virtualStorages)) forVirtualStorages
+  keptV = joins-kept (map (virtualStorageRow g) (net .virtualStorages)) [] _ (virtual-storages-fit g (net .virtualStorages)) (record { fit = keptA .fit; placed = Placed.none })
 
   pub lengthN : length requests ≡ length (forNodes .places)
-  lengthN = sym (length-map requests requestedRow) ∙ placed-length g plan (forNodes .rows) (map requestedRow requests) (forNodes .places) (keptN .placed)
+  lengthN = sym (length-map requests requestedRow) ∙ placed-length (forNodes .rows) (map requestedRow requests) (forNodes .places) (keptN .placed)
 
   pub lengthA : length (net .aggregates) ≡ length (forAggregates .places)
-  lengthA = sym (length-map (net .aggregates) (aggregateRow g)) ∙ placed-length g plan (forAggregates .rows) _ (forAggregates .places) (keptA .placed)
+  lengthA = sym (length-map (net .aggregates) (aggregateRow g)) ∙ placed-length (forAggregates .rows) _ (forAggregates .places) (keptA .placed)
 
   pub lengthV : length (net .virtualStorages) ≡ length (forVirtualStorages .places)
-  lengthV = sym (length-map (net .virtualStorages) (virtualStorageRow g)) ∙ placed-length g plan (forVirtualStorages .rows) _ (forVirtualStorages .places) (keptV .placed)
+  lengthV = sym (length-map (net .virtualStorages) (virtualStorageRow g)) ∙ placed-length (forVirtualStorages .rows) _ (forVirtualStorages .places) (keptV .placed)
 
   pub aggregates-length : length (programmeOf w net .shape .aggregates) ≡ length (net .aggregates)
   unfolding programmeOf assemble
   aggregates-length = sym lengthA
 
-  pub asked : Asked w net plan (forVirtualStorages .rows)
+  -- what nodes, aggregates and virtual storages ask for has its places among the varying rows
+  pub nodes-placed : Placed (forVirtualStorages .rows) (map requestedRow (requestsFrom (columnMap net) 0 (net .nodes))) (forNodes .places)
+  nodes-placed =
+      placed-stays (map requestedRow requests) (forNodes .places) (map (virtualStorageRow g) (net .virtualStorages)) (record { rows = forAggregates .rows; places = [] })
+      (placed-stays (map requestedRow requests) (forNodes .places) (map (aggregateRow g) (net .aggregates)) (record { rows = forNodes .rows; places = [] }) (keptN .placed))
+
+  pub aggregates-placed : Placed (forVirtualStorages .rows) (map (aggregateRow (columnMap net)) (net .aggregates)) (forAggregates .places)
+  aggregates-placed =
+      placed-stays (map (aggregateRow g) (net .aggregates)) (forAggregates .places) (map (virtualStorageRow g) (net .virtualStorages)) (record { rows = forAggregates .rows; places = [] })
+      (keptA .placed)
+
+  pub virtual-storages-placed : Placed (forVirtualStorages .rows) (map (virtualStorageRow (columnMap net)) (net .virtualStorages)) (forVirtualStorages .places)
+  virtual-storages-placed = keptV .placed
+
+  pub asked : Asked w net (forVirtualStorages .rows)
   unfolding programmeOf assemble
   asked =
       record {
         varying = refl;
-        nodes =
-            subst (λ (ps : List ℕ). Placed g plan (forVirtualStorages .rows) (map requestedRow requests) ps) (sym (same-places requests (forNodes .places) lengthN))
-            (placed-stays g plan (map requestedRow requests) (forNodes .places) (map (virtualStorageRow g) (net .virtualStorages)) (record { rows = forAggregates .rows; places = [] })
-            (placed-stays g plan (map requestedRow requests) (forNodes .places) (map (aggregateRow g) (net .aggregates)) (record { rows = forNodes .rows; places = [] }) (keptN .placed)));
-        aggregates =
-            placed-stays g plan (map (aggregateRow g) (net .aggregates)) (forAggregates .places) (map (virtualStorageRow g) (net .virtualStorages)) (record { rows = forAggregates .rows; places = [] })
-            (keptA .placed);
+        nodes = subst (Placed (forVirtualStorages .rows) (map requestedRow requests)) (sym (same-places requests (forNodes .places) lengthN)) nodes-placed;
+        aggregates = aggregates-placed;
         virtualStorages =
-            subst (λ (ps : List ℕ). Placed g plan (forVirtualStorages .rows) (map (virtualStorageRow g) (net .virtualStorages)) ps)
+            subst (Placed (forVirtualStorages .rows) (map (virtualStorageRow g) (net .virtualStorages)))
             (sym (same-virtual-storages (net .virtualStorages) (forVirtualStorages .places) lengthV))
-            (keptV .placed);
+            virtual-storages-placed;
       }
 
 -- ---- the ceilings
@@ -329,10 +330,10 @@ pub only-continuous : (w : Sentinel) (net : Network) → OnlyConstant net → Co
 unfolding programmeOf assemble
 only-continuous w net only = placed-continuous (requestsFrom (columnMap net) 0 (net .nodes)) _ (requests-are net only (λ (a : RowRequest). a .rowType ≡ continuous) .1 (λ i x e t. refl))
 
-pub programme-fits : (w : Sentinel) (net : Network) (plan : Plan) → Good net → length (requestsFrom (columnMap net) 0 (net .nodes)) ≤ nodeRowCeiling
+pub programme-fits : (w : Sentinel) (net : Network) → Good net → length (requestsFrom (columnMap net) 0 (net .nodes)) ≤ nodeRowCeiling
     → T (underCeilings (columnMap net) (programmeOf w net .programme)) → ProgrammeFits (programmeOf w net)
 unfolding underCeilings programmeOf assemble columnMap mappedEdges rowsOf allColumns
-programme-fits w net plan good fewAsks under =
+programme-fits w net good fewAsks under =
     let p : Programme = programmeOf w net .programme in
     let sets : ℕ = length (exclusiveSets net) in
     let a = leb→le sets 128 (and-l (leb sets 128) (leb (length (p .varying) + length (p .fixed)) 1024)
@@ -353,9 +354,9 @@ programme-fits w net plan good fewAsks under =
           record {
             nodes = subst (λ (k : ℕ). k ≤ 256) (sym (length-map (net .nodes) nodeShape)) nn;
             mappedEdges = subst (λ (k : ℕ). k ≤ 512) (sym (pipes-length (net .edges) (columns net .of) (columns-long net))) ne;
-            nodeRows = let h = placed-few (requestsFrom (columnMap net) 0 (net .nodes)) (forNodes w net plan .places) in le-trans h fewAsks;
-            aggregates = subst (λ (k : ℕ). k ≤ 64) (sym (aggregates-length w net plan)) na;
-            virtualStorages = let h = virtual-storages-few (net .virtualStorages) (forVirtualStorages w net plan .places) in omega arith;
+            nodeRows = let h = placed-few (requestsFrom (columnMap net) 0 (net .nodes)) (forNodes w net .places) in le-trans h fewAsks;
+            aggregates = subst (λ (k : ℕ). k ≤ 64) (sym (aggregates-length w net)) na;
+            virtualStorages = let h = virtual-storages-few (net .virtualStorages) (forVirtualStorages w net .places) in omega arith;
             rows = b;
             makers = makers-count w net;
           };

@@ -30,7 +30,8 @@ use Rattle.pywr.specs.Plans.{exact, meets, Plan, unitsInOne, signed, isF
 use Rattle.pywr.specs.Allows.{nodeAmount, onAmount, exclusiveMeets, onCount}
 use Rattle.pywr.specs.Admits.{onColumn, rowSum, columnMet}
 use Rattle.pywr.proofs.SumLaws.{AllUpto}
-use Rattle.pywr.proofs.AmountLaws.{Carries, node-sum, neg-upto, one-upto, one-exact, nodeRow-sum}
+use Rattle.pywr.proofs.WeightLaws.{neg-upto}
+use Rattle.pywr.proofs.AmountLaws.{Carries, node-sum, one-upto, one-exact, nodeRow-sum}
 use Rattle.pywr.proofs.ExactLaws.{exact-neg}
 use Rattle.pywr.proofs.EvenLaws.{mapped-edge-of}
 use Rattle.pywr.proofs.MassLaws.{Every, every-append, Met}

@@ -1,10 +1,10 @@
--- Rows that are joined: the row at a place has the sum of the row that was asked for. Assumes nothing.
+-- Rows that are joined: the row at a place has the columns and the sum of the row that was asked for. Assumes nothing.
 use mathlib.Core.Path.{_≡_, refl, sym, ap, ap₂, _∙_, subst}
 use Prim.Native.Nat.{ℕ, zero, suc, _<_, _≤_, suc-le-suc, zero-le}
 use native.Mathlib.Nat.{not-suc-le-zero, le-of-suc-le-suc}
 use native.Mathlib.Omega.{arith}
 use mathlib.Core.Bool.{Bool, true, false, cond, _&&_}
-use mathlib.Core.List.{List, [], _∷_, _++_, append-nil, append-assoc}
+use mathlib.Core.List.{List, [], _∷_, _++_, map, List·Memᴰ·head, List·Memᴰ·tail, append-nil, append-assoc}
 use lib.ListN.{length, getD, length-append, List·getD-append}
 use lib.Seq.{getD-at}
 use lib.IntN.{ℤ, pos, _+ℤ_, _*ℤ_}
@@ -12,12 +12,13 @@ use lib.Dec.{T, eqb, ltb, eqb→eq, ltb→lt}
 use lib.Ieee.{Float, binary64, fits, eq}
 use lib.Ieee.Fits.{and-l, and-r, add-fits}
 use borrow.Author.Tests.{ltb-false}
-use Rattle.pywr.specs.Rows.{Element, addElement, addOn, ColumnMap}
+use Rattle.pywr.specs.Rows.{Element, addElement, addOn}
 use Rattle.pywr.specs.VariableRows.{sameRow, position, addVariableRows, Joined, addVariableRow}
-use Rattle.pywr.specs.Plans.{exact, Plan}
-use Rattle.pywr.specs.Admits.{onColumn, rowSum}
+use Rattle.pywr.specs.Plans.{isFinite}
 use Rattle.pywr.proofs.ElementLaws.{add-none, add-cases}
-use Rattle.pywr.proofs.ExactLaws.{eq-exact}
+use Rattle.pywr.proofs.ExactLaws.{eq-exact, eq-finite}
+use Rattle.pywr.proofs.SumLaws.{weighed}
+use Rattle.pywr.proofs.ListLaws.{AllMem, all-none, all-cons}
 
 -- every factor is a double
 pub data AllFit : List Element → Type 0 where
@@ -34,18 +35,39 @@ unfolding addOn
 add-on-fit [] x row h = h
 add-on-fit (c ∷ cs) x row h = add-on-fit cs x (addElement c x row) (add-fit c x row h)
 
-module _ (f : ColumnMap) (plan : Plan) where
-  pub same-sum : (a b : List Element) → AllFit a → AllFit b → T (sameRow a b) → rowSum f plan a ≡ rowSum f plan b
-  unfolding sameRow rowSum
-  same-sum [] [] none none h = refl
-  same-sum [] (y ∷ ys) fa fb h = absurd h
-  same-sum (x ∷ xs) [] fa fb h = absurd h
-  same-sum (x ∷ xs) (y ∷ ys) (more fx fa) (more fy fb) h =
-      let both : T (eqb (x .column) (y .column) && eq (x .value) (y .value)) = and-l (eqb (x .column) (y .column) && eq (x .value) (y .value)) (sameRow xs ys) h in
-      let c : x .column ≡ y .column = eqb→eq (x .column) (y .column) (and-l (eqb (x .column) (y .column)) (eq (x .value) (y .value)) both) in
-      let e : exact (x .value) ≡ exact (y .value) = eq-exact (x .value) (y .value) fx fy (and-r (eqb (x .column) (y .column)) (eq (x .value) (y .value)) both) in
-      ap₂ (λ (u v : ℤ). u +ℤ v) (ap₂ (λ (u : ℤ) (k : ℕ). u *ℤ pos (onColumn f plan k)) e c)
-      (same-sum xs ys fa fb (and-r (eqb (x .column) (y .column) && eq (x .value) (y .value)) (sameRow xs ys) h))
+-- ---- rows that count as one
+
+abbrev pub cols : List Element → List ℕ
+cols row = map (λ (e : Element). e .column) row
+
+abbrev AllFinite : List Element → Type 0
+AllFinite row = AllMem (λ (e : Element). isFinite (e .value) ≡ true) row
+
+-- of the same columns, with the same sum whatever a column weighs, and finite where the other is
+pub record Alike (a b : List Element) : Type 0 where
+  pub columns : cols a ≡ cols b
+  pub sum : (weight : ℕ → ℕ) → weighed weight a ≡ weighed weight b
+  pub finite : AllFinite b → AllFinite a
+
+pub alike-is : {a b : List Element} → a ≡ b → Alike a b
+alike-is {a} {b} e = record { columns = ap cols e; sum = λ weight. ap (weighed weight) e; finite = subst AllFinite (sym e) }
+
+same-alike : (a b : List Element) → AllFit a → AllFit b → T (sameRow a b) → Alike a b
+unfolding sameRow weighed
+same-alike [] [] none none h = alike-is refl
+same-alike [] (y ∷ ys) fa fb h = absurd h
+same-alike (x ∷ xs) [] fa fb h = absurd h
+same-alike (x ∷ xs) (y ∷ ys) (more fx fa) (more fy fb) h =
+    let both : T (eqb (x .column) (y .column) && eq (x .value) (y .value)) = and-l (eqb (x .column) (y .column) && eq (x .value) (y .value)) (sameRow xs ys) h in
+    let c : x .column ≡ y .column = eqb→eq (x .column) (y .column) (and-l (eqb (x .column) (y .column)) (eq (x .value) (y .value)) both) in
+    let t : T (eq (x .value) (y .value)) = and-r (eqb (x .column) (y .column)) (eq (x .value) (y .value)) both in
+    let rest : Alike xs ys = same-alike xs ys fa fb (and-r (eqb (x .column) (y .column) && eq (x .value) (y .value)) (sameRow xs ys) h) in
+    record {
+      columns = ap₂ (λ (k : ℕ) (l : List ℕ). k ∷ l) c (rest .columns);
+      sum = λ weight. ap₂ (λ (u v : ℤ). u +ℤ v) (ap₂ (λ (u : ℤ) (k : ℕ). u *ℤ pos (weight k)) (eq-exact (x .value) (y .value) fx fy t) c) (rest .sum weight);
+      finite = λ all. all-cons (λ (e : Element). isFinite (e .value) ≡ true) x xs (eq-finite (x .value) (y .value) t ∙ all y (List·Memᴰ·head refl))
+          (rest .finite (λ e m. all e (List·Memᴰ·tail m)));
+    }
 
 -- ---- places
 
@@ -62,7 +84,7 @@ fit-at [] p none = none
 fit-at (x ∷ xs) zero (more hx hs) = hx
 fit-at (x ∷ xs) (suc p) (more hx hs) = fit-at xs p hs
 
-pub position-found : (row : List Element) (rows : List (List Element)) → position row rows < length rows → T (sameRow (getD rows (position row rows) []) row)
+position-found : (row : List Element) (rows : List (List Element)) → position row rows < length rows → T (sameRow (getD rows (position row rows) []) row)
 unfolding position
 position-found row [] h = absurd (not-suc-le-zero h)
 position-found row (r ∷ rs) h = go (sameRow r row) refl (λ k. position-found row rs k) h
@@ -81,70 +103,77 @@ position-most row (r ∷ rs) = go (sameRow r row) (position-most row rs)
     go true h = zero-le
     go false h = suc-le-suc h
 
-module _ (f : ColumnMap) (plan : Plan) where
-  -- each asked row's place is a row of its sum
-  pub data Placed (rows : List (List Element)) : List (List Element) → List ℕ → Type 0 where
-    none : Placed rows [] []
-    more : {r : List Element} {rs : List (List Element)} {p : ℕ} {ps : List ℕ} → p < length rows → rowSum f plan (getD rows p []) ≡ rowSum f plan r → Placed rows rs ps → Placed rows (r ∷ rs) (p ∷ ps)
+-- each asked row's place has a row that counts as it
+pub data Placed (rows : List (List Element)) : List (List Element) → List ℕ → Type 0 where
+  none : Placed rows [] []
+  more : {r : List Element} {rs : List (List Element)} {p : ℕ} {ps : List ℕ} → p < length rows → Alike (getD rows p []) r → Placed rows rs ps → Placed rows (r ∷ rs) (p ∷ ps)
 
-  placed-later : (rows asked : List (List Element)) (ps : List ℕ) (r : List Element) → Placed rows asked ps → Placed (rows ++ (r ∷ [])) asked ps
-  placed-later rows [] [] r none = none
-  placed-later rows (a ∷ as′) (p ∷ ps) r (more h e rest) =
-      let l = length-append rows (r ∷ []) in
-      let k : p < length (rows ++ (r ∷ [])) = omega arith in
-      more k (ap (rowSum f plan) (List·getD-append rows (r ∷ []) [] p h) ∙ e) (placed-later rows as′ ps r rest)
+placed-later : (rows asked : List (List Element)) (ps : List ℕ) (r : List Element) → Placed rows asked ps → Placed (rows ++ (r ∷ [])) asked ps
+placed-later rows [] [] r none = none
+placed-later rows (a ∷ as′) (p ∷ ps) r (more h e rest) =
+    let l = length-append rows (r ∷ []) in
+    let k : p < length (rows ++ (r ∷ [])) = omega arith in
+    more k (subst (λ (row : List Element). Alike row a) (sym (List·getD-append rows (r ∷ []) [] p h)) e) (placed-later rows as′ ps r rest)
 
-  placed-snoc : (rows asked : List (List Element)) (ps : List ℕ) (r : List Element) (p : ℕ) → Placed rows asked ps → p < length rows → rowSum f plan (getD rows p []) ≡ rowSum f plan r
-      → Placed rows (asked ++ (r ∷ [])) (ps ++ (p ∷ []))
-  placed-snoc rows [] [] r p none h e = more h e none
-  placed-snoc rows (a ∷ as′) (q ∷ ps) r p (more k e′ rest) h e = more k e′ (placed-snoc rows as′ ps r p rest h e)
+placed-snoc : (rows asked : List (List Element)) (ps : List ℕ) (r : List Element) (p : ℕ) → Placed rows asked ps → p < length rows → Alike (getD rows p []) r
+    → Placed rows (asked ++ (r ∷ [])) (ps ++ (p ∷ []))
+placed-snoc rows [] [] r p none h e = more h e none
+placed-snoc rows (a ∷ as′) (q ∷ ps) r p (more k e′ rest) h e = more k e′ (placed-snoc rows as′ ps r p rest h e)
 
-  -- what the join keeps
-  pub record JoinKept (asked : List (List Element)) (j : Joined) : Type 0 where
-    pub fit : RowsFit (j .rows)
-    pub placed : Placed (j .rows) asked (j .places)
+-- what the join keeps
+pub record JoinKept (asked : List (List Element)) (j : Joined) : Type 0 where
+  pub fit : RowsFit (j .rows)
+  pub placed : Placed (j .rows) asked (j .places)
 
-  pub join-kept : (asked : List (List Element)) (r : List Element) (j : Joined) → AllFit r → JoinKept asked j → JoinKept (asked ++ (r ∷ [])) (addVariableRow r j)
-  unfolding addVariableRow
-  join-kept asked r j h k = go (ltb (position r (j .rows)) (length (j .rows))) refl
-    where
-      p : ℕ
-      p = position r (j .rows)
+pub join-kept : (asked : List (List Element)) (r : List Element) (j : Joined) → AllFit r → JoinKept asked j → JoinKept (asked ++ (r ∷ [])) (addVariableRow r j)
+unfolding addVariableRow
+join-kept asked r j h k = go (ltb (position r (j .rows)) (length (j .rows))) refl
+  where
+    p : ℕ
+    p = position r (j .rows)
 
-      go : (b : Bool) → ltb p (length (j .rows)) ≡ b → JoinKept (asked ++ (r ∷ [])) (record { rows = cond b (j .rows) (j .rows ++ (r ∷ [])); places = j .places ++ (p ∷ []) })
-      go true e =
-          let l : p < length (j .rows) = ltb→lt p (length (j .rows)) (subst T (sym e) tt) in
-          record {
-            fit = k .fit;
-            placed = placed-snoc (j .rows) asked (j .places) r p (k .placed) l (same-sum f plan (getD (j .rows) p []) r (fit-at (j .rows) p (k .fit)) h (position-found r (j .rows) l));
-          }
-      go false e =
-          let n = length-append (j .rows) (r ∷ []) in
-          let same : p ≡ length (j .rows) = (let m = position-most r (j .rows) in let g = ltb-false p (length (j .rows)) e in omega arith) in
-          record {
-            fit = fit-append (j .rows) r (k .fit) h;
-            placed =
-                placed-snoc (j .rows ++ (r ∷ [])) asked (j .places) r p (placed-later (j .rows) asked (j .places) r (k .placed)) (omega arith)
-                (ap (rowSum f plan) (getD-at (j .rows) r [] [] p (sym same)));
-          }
+    go : (b : Bool) → ltb p (length (j .rows)) ≡ b → JoinKept (asked ++ (r ∷ [])) (record { rows = cond b (j .rows) (j .rows ++ (r ∷ [])); places = j .places ++ (p ∷ []) })
+    go true e =
+        let l : p < length (j .rows) = ltb→lt p (length (j .rows)) (subst T (sym e) tt) in
+        record {
+          fit = k .fit;
+          placed = placed-snoc (j .rows) asked (j .places) r p (k .placed) l (same-alike (getD (j .rows) p []) r (fit-at (j .rows) p (k .fit)) h (position-found r (j .rows) l));
+        }
+    go false e =
+        let n = length-append (j .rows) (r ∷ []) in
+        let same : p ≡ length (j .rows) = (let m = position-most r (j .rows) in let g = ltb-false p (length (j .rows)) e in omega arith) in
+        record {
+          fit = fit-append (j .rows) r (k .fit) h;
+          placed =
+              placed-snoc (j .rows ++ (r ∷ [])) asked (j .places) r p (placed-later (j .rows) asked (j .places) r (k .placed)) (omega arith)
+              (alike-is (getD-at (j .rows) r [] [] p (sym same)));
+        }
 
-  -- the whole list, after what was joined before
-  pub joins-kept : (asked before : List (List Element)) (j : Joined) → RowsFit asked → JoinKept before j → JoinKept (before ++ asked) (addVariableRows asked j)
-  unfolding addVariableRows
-  joins-kept [] before j RowsFit.none k = subst (λ l. JoinKept l j) (sym (append-nil before)) k
-  joins-kept (r ∷ rs) before j (RowsFit.more h hs) k =
-      subst (λ l. JoinKept l (addVariableRows rs (addVariableRow r j))) (append-assoc before (r ∷ []) rs) (joins-kept rs (before ++ (r ∷ [])) (addVariableRow r j) hs (join-kept before r j h k))
+-- the whole list, after what was joined before
+pub joins-kept : (asked before : List (List Element)) (j : Joined) → RowsFit asked → JoinKept before j → JoinKept (before ++ asked) (addVariableRows asked j)
+unfolding addVariableRows
+joins-kept [] before j RowsFit.none k = subst (λ l. JoinKept l j) (sym (append-nil before)) k
+joins-kept (r ∷ rs) before j (RowsFit.more h hs) k =
+    subst (λ l. JoinKept l (addVariableRows rs (addVariableRow r j))) (append-assoc before (r ∷ []) rs) (joins-kept rs (before ++ (r ∷ [])) (addVariableRow r j) hs (join-kept before r j h k))
 
-  -- places stay good while more rows are joined
-  one-stays : (asked : List (List Element)) (ps : List ℕ) (r : List Element) (j : Joined) → Placed (j .rows) asked ps → Placed (addVariableRow r j .rows) asked ps
-  unfolding addVariableRow
-  one-stays asked ps r j p = go (ltb (position r (j .rows)) (length (j .rows)))
-    where
-      go : (b : Bool) → Placed (cond b (j .rows) (j .rows ++ (r ∷ []))) asked ps
-      go true = p
-      go false = placed-later (j .rows) asked ps r p
+-- places stay good while more rows are joined
+one-stays : (asked : List (List Element)) (ps : List ℕ) (r : List Element) (j : Joined) → Placed (j .rows) asked ps → Placed (addVariableRow r j .rows) asked ps
+unfolding addVariableRow
+one-stays asked ps r j p = go (ltb (position r (j .rows)) (length (j .rows)))
+  where
+    go : (b : Bool) → Placed (cond b (j .rows) (j .rows ++ (r ∷ []))) asked ps
+    go true = p
+    go false = placed-later (j .rows) asked ps r p
 
-  pub placed-stays : (asked : List (List Element)) (ps : List ℕ) (rs : List (List Element)) (j : Joined) → Placed (j .rows) asked ps → Placed (addVariableRows rs j .rows) asked ps
-  unfolding addVariableRows
-  placed-stays asked ps [] j p = p
-  placed-stays asked ps (r ∷ rs) j p = placed-stays asked ps rs (addVariableRow r j) (one-stays asked ps r j p)
+pub placed-stays : (asked : List (List Element)) (ps : List ℕ) (rs : List (List Element)) (j : Joined) → Placed (j .rows) asked ps → Placed (addVariableRows rs j .rows) asked ps
+unfolding addVariableRows
+placed-stays asked ps [] j p = p
+placed-stays asked ps (r ∷ rs) j p = placed-stays asked ps rs (addVariableRow r j) (one-stays asked ps r j p)
+
+pub placed-length : (rows asked : List (List Element)) (ps : List ℕ) → Placed rows asked ps → length asked ≡ length ps
+placed-length rows [] [] none = refl
+placed-length rows (r ∷ rs) (p ∷ ps) (more h e rest) = ap suc (placed-length rows rs ps rest)
+
+pub places-under : (rows asked : List (List Element)) (ps : List ℕ) → Placed rows asked ps → AllMem (λ (p : ℕ). p < length rows) ps
+places-under rows [] [] none = all-none (λ (p : ℕ). p < length rows)
+places-under rows (r ∷ rs) (p ∷ ps) (more h e rest) = all-cons (λ (q : ℕ). q < length rows) p ps h (places-under rows rs ps rest)

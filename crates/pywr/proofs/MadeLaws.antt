@@ -25,8 +25,10 @@ use Rattle.pywr.proofs.ListLaws.{AllMem, all-none, all-cons, all-append
 use Rattle.pywr.proofs.MakerLaws.{varying-makers-length}
 use Rattle.pywr.proofs.ReadLaws.{Sound}
 use Rattle.pywr.proofs.VaryingLaws.{node-places}
-use Rattle.pywr.proofs.ShapeLaws.{AskOk, requests-ok, places-under, nodes-sit, aggregates-sit, virtual-storages-sit}
-use Rattle.pywr.proofs.FitLaws.{idle, forNodes, forAggregates, forVirtualStorages, lengthN, lengthV, aggregates-length, same-places, same-virtual-storages}
+use Rattle.pywr.proofs.ShapeLaws.{AskOk, requests-ok}
+use Rattle.pywr.proofs.JoinLaws.{places-under}
+use Rattle.pywr.proofs.FitLaws.{forNodes, forAggregates, forVirtualStorages, lengthN, lengthV, aggregates-length, same-places, same-virtual-storages}
+use Rattle.pywr.proofs.FitLaws.{nodes-placed, aggregates-placed, virtual-storages-placed}
 use Rattle.pywr.proofs.AskerLaws.{AskedFor, joined-covers, asked-left, asked-right, nodes-ask, in-turn-ask, nodeAsker}
 use Rattle.pywr.proofs.AskerLaws.{first-made, first-within, node-row-asks, nodes-kind, in-turn-kind, sharers-count, first-count, askers-named, varying-found}
 
@@ -116,7 +118,7 @@ module _ (w : Sentinel) (net : Network) where
   shape = programmeOf w net .shape
 
   abbrev joined : List (List Element)
-  joined = forVirtualStorages w net idle .rows
+  joined = forVirtualStorages w net .rows
 
   fixed-all : (P : Maker → Type 0) → ((m : Maker) → Single byMass (length (net .nodes)) m → P m) → ((m : Maker) → Single byNode (length (net .nodes)) m → P m)
       → ((m : Maker) → Single byExclusivity (length (net .aggregates)) m → P m) → AllMem P (fixedMakers w (columnMap net) net)
@@ -149,9 +151,9 @@ module _ (w : Sentinel) (net : Network) where
       found-right (varyingMakers (askers shape) 0 (length joined)) (fixedMakers w (columnMap net) net) r m
       (let l = varying-makers-length (askers shape) 0 (length joined) in omega arith) e
 
-  storage-places : map (λ (v : VirtualStorageShape). v .row) (programmeOf w net .shape .virtualStorages) ≡ forVirtualStorages w net idle .places
+  storage-places : map (λ (v : VirtualStorageShape). v .row) (programmeOf w net .shape .virtualStorages) ≡ forVirtualStorages w net .places
   unfolding programmeOf assemble rowOf
-  storage-places = same-virtual-storages (net .virtualStorages) (forVirtualStorages w net idle .places) (lengthV w net idle)
+  storage-places = same-virtual-storages (net .virtualStorages) (forVirtualStorages w net .places) (lengthV w net)
 
   -- every row that was asked for is a varying row
   joined-under : AllMem (λ (a : Asker). a .row < length joined) (askers (programmeOf w net .shape))
@@ -163,11 +165,11 @@ module _ (w : Sentinel) (net : Network) where
       let aggregates : List Asker = askersInTurn byAggregate 0 (shape .aggregates) in
       let storages : List ℕ = map (λ (v : VirtualStorageShape). v .row) (shape .virtualStorages) in
       let places : AllMem (λ (p : ℕ). p < n) (node-places (shape .nodeRows)) =
-      subst (AllMem (λ (p : ℕ). p < n)) (sym (same-places (requestsFrom (columnMap net) 0 (net .nodes)) (forNodes w net idle .places) (lengthN w net idle)))
-      (places-under joined _ _ (nodes-sit w net)) in
+      subst (AllMem (λ (p : ℕ). p < n)) (sym (same-places (requestsFrom (columnMap net) 0 (net .nodes)) (forNodes w net .places) (lengthN w net)))
+      (places-under joined _ _ (nodes-placed w net)) in
       all-append P (nodes ++ aggregates) (askersInTurn byVirtualStorage 0 storages)
-      (all-append P nodes aggregates (by-nodes-under n (shape .nodeRows) places) (in-turn-under n byAggregate 0 (shape .aggregates) (places-under joined _ _ (aggregates-sit w net))))
-      (in-turn-under n byVirtualStorage 0 storages (subst (AllMem (λ (p : ℕ). p < n)) (sym storage-places) (places-under joined _ _ (virtual-storages-sit w net))))
+      (all-append P nodes aggregates (by-nodes-under n (shape .nodeRows) places) (in-turn-under n byAggregate 0 (shape .aggregates) (places-under joined _ _ (aggregates-placed w net))))
+      (in-turn-under n byVirtualStorage 0 storages (subst (AllMem (λ (p : ℕ). p < n)) (sym storage-places) (places-under joined _ _ (virtual-storages-placed w net))))
 
   pub asked-under : AllMem (λ (a : Asker). a .row < length (programmeOf w net .programme .varying)) (askers (programmeOf w net .shape))
   asked-under = subst (λ (n : ℕ). AllMem (λ (a : Asker). a .row < n) (askers (programmeOf w net .shape))) (sym varying-long) joined-under
@@ -175,7 +177,7 @@ module _ (w : Sentinel) (net : Network) where
   -- every varying row was asked for
   row-asked : (r : ℕ) → r < length joined → AskedFor r (askers (programmeOf w net .shape))
   unfolding programmeOf assemble askers
-  row-asked r h = by-nodes (decLe (suc r) (length (forNodes w net idle .rows)))
+  row-asked r h = by-nodes (decLe (suc r) (length (forNodes w net .rows)))
     where
       nodes : List Asker
       nodes = askersByNodes (shape .nodeRows)
@@ -186,26 +188,26 @@ module _ (w : Sentinel) (net : Network) where
       storages : List Asker
       storages = askersInTurn byVirtualStorage 0 (map (λ (v : VirtualStorageShape). v .row) (shape .virtualStorages))
 
-      by-aggregates : length (forNodes w net idle .rows) ≤ r → Dec (suc r ≤ length (forAggregates w net idle .rows)) → AskedFor r (nodes ++ aggregates ++ storages)
+      by-aggregates : length (forNodes w net .rows) ≤ r → Dec (suc r ≤ length (forAggregates w net .rows)) → AskedFor r (nodes ++ aggregates ++ storages)
       by-aggregates l (yes m) =
           asked-left r (nodes ++ aggregates) storages
           (asked-right r nodes aggregates
-          (in-turn-ask byAggregate 0 (forAggregates w net idle .places) r
-          (joined-covers (map (aggregateRow (columnMap net)) (net .aggregates)) (forNodes w net idle .rows) r l m)))
+          (in-turn-ask byAggregate 0 (forAggregates w net .places) r
+          (joined-covers (map (aggregateRow (columnMap net)) (net .aggregates)) (forNodes w net .rows) r l m)))
       by-aggregates l (no f) =
           asked-right r (nodes ++ aggregates) storages
           (in-turn-ask byVirtualStorage 0 (map (λ (v : VirtualStorageShape). v .row) (shape .virtualStorages)) r
           (subst (λ (ps : List ℕ). List·Memᴰ r ps) (sym storage-places)
-          (joined-covers (map (virtualStorageRow (columnMap net)) (net .virtualStorages)) (forAggregates w net idle .rows) r (let o = lt-of-not-le f in omega arith) h)))
+          (joined-covers (map (virtualStorageRow (columnMap net)) (net .virtualStorages)) (forAggregates w net .rows) r (let o = lt-of-not-le f in omega arith) h)))
 
-      by-nodes : Dec (suc r ≤ length (forNodes w net idle .rows)) → AskedFor r (nodes ++ aggregates ++ storages)
+      by-nodes : Dec (suc r ≤ length (forNodes w net .rows)) → AskedFor r (nodes ++ aggregates ++ storages)
       by-nodes (yes m) =
           asked-left r (nodes ++ aggregates) storages
           (asked-left r nodes aggregates
           (nodes-ask (shape .nodeRows) r
-          (subst (λ (ps : List ℕ). List·Memᴰ r ps) (sym (same-places (requestsFrom (columnMap net) 0 (net .nodes)) (forNodes w net idle .places) (lengthN w net idle)))
+          (subst (λ (ps : List ℕ). List·Memᴰ r ps) (sym (same-places (requestsFrom (columnMap net) 0 (net .nodes)) (forNodes w net .places) (lengthN w net)))
           (joined-covers (map requestedRow (requestsFrom (columnMap net) 0 (net .nodes))) [] r zero-le m))))
-      by-nodes (no f) = by-aggregates (let o = lt-of-not-le f in omega arith) (decLe (suc r) (length (forAggregates w net idle .rows)))
+      by-nodes (no f) = by-aggregates (let o = lt-of-not-le f in omega arith) (decLe (suc r) (length (forAggregates w net .rows)))
 
   -- "its first maker's kind .. and index"
   pub first-asker : (r : ℕ) (m : Maker) → r < length (programmeOf w net .programme .varying) → getElem? (programmeOf w net .makers) r ≡ some m → FirstAsker r (askers (programmeOf w net .shape)) m
@@ -274,7 +276,7 @@ module _ (w : Sentinel) (net : Network) where
     unfolding programmeOf assemble
     nodes-under =
         subst (λ (n : ℕ). AllMem (λ (x : NodeRow). x .node < n) (shape .nodeRows)) (sym nodes-long)
-        (placed-under (length (net .nodes)) (requestsFrom (columnMap net) 0 (net .nodes)) (forNodes w net idle .places)
+        (placed-under (length (net .nodes)) (requestsFrom (columnMap net) 0 (net .nodes)) (forNodes w net .places)
         (λ a m. every-mem (AskOk net sound) (requestsFrom (columnMap net) 0 (net .nodes)) (requests-ok net sound) a m .node-under))
 
     varying-made : (r : ℕ) → r < length joined → Made (programmeOf w net .shape) (makerOf (askers (programmeOf w net .shape)) r)
@@ -292,7 +294,7 @@ module _ (w : Sentinel) (net : Network) where
         fixed-all (Made shape)
         (λ m s. single byMass (length (net .nodes)) m s (lit≤ tt) (omega (arith, nodes-long)))
         (λ m s. single byNode (length (net .nodes)) m s (lit≤ tt) (omega (arith, nodes-long)))
-        (λ m s. single byExclusivity (length (net .aggregates)) m s (lit≤ tt) (omega (arith, aggregates-length w net idle)))
+        (λ m s. single byExclusivity (length (net .aggregates)) m s (lit≤ tt) (omega (arith, aggregates-length w net)))
       where
         single : (k n : ℕ) (m : Maker) → Single k n m → k ≤ byExclusivity → n ≤ makersFor shape k → Made shape m
         single k n m s most u = record { range = of-kind shape k (m .kind) (m .index) (s .of) most (let i = s .index-under in omega arith); shared = (let o = s .once in omega arith) }

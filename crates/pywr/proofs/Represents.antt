@@ -216,7 +216,7 @@ pub data SameColumns : List Row → List Row → Type 0 where
 same-size : (x y : Row) → columnsIn x ≡ columnsIn y → length (x .elements) ≡ length (y .elements)
 same-size x y e = sym (columns-length x) ∙ ap length e ∙ columns-length y
 
-same-length : (xs ys : List Row) → SameColumns xs ys → length xs ≡ length ys
+pub same-length : (xs ys : List Row) → SameColumns xs ys → length xs ≡ length ys
 same-length [] [] none = refl
 same-length (x ∷ xs) (y ∷ ys) (more e s) = ap suc (same-length xs ys s)
 

@@ -73,13 +73,19 @@ adjust-length i r [] = refl
 adjust-length i zero (x ∷ xs) = refl
 adjust-length i (suc r) (x ∷ xs) = ap suc (adjust-length i r xs)
 
+-- a change that leaves the elements of such rows leaves those of row k
+pub adjust-keeps : (change : Row → Row) (Such : List Element → Type 0) → ((x : Row) → Such (x .elements) → change x .elements ≡ x .elements) → (r k : ℕ) (rows : List Row)
+    → Such (elementsAt k rows) → elementsAt k (adjust change r rows) ≡ elementsAt k rows
+unfolding adjust elementsAt
+adjust-keeps change Such keeps r k [] h = refl
+adjust-keeps change Such keeps zero zero (x ∷ xs) h = keeps x h
+adjust-keeps change Such keeps zero (suc k) (x ∷ xs) h = refl
+adjust-keeps change Such keeps (suc r) zero (x ∷ xs) h = refl
+adjust-keeps change Such keeps (suc r) (suc k) (x ∷ xs) h = adjust-keeps change Such keeps r k xs h
+
 pub adjust-elements : (i : Interval) (r k : ℕ) (rows : List Row) → elementsAt k (adjust (applyRowBounds i) r rows) ≡ elementsAt k rows
-unfolding adjust applyRowBounds withBounds elementsAt
-adjust-elements i r k [] = refl
-adjust-elements i zero zero (x ∷ xs) = refl
-adjust-elements i zero (suc k) (x ∷ xs) = refl
-adjust-elements i (suc r) zero (x ∷ xs) = refl
-adjust-elements i (suc r) (suc k) (x ∷ xs) = adjust-elements i r k xs
+unfolding applyRowBounds withBounds
+adjust-elements i r k rows = adjust-keeps (applyRowBounds i) (λ row. Unit {0}) (λ x h. refl) r k rows tt
 
 tighten-sane : (a b : Interval) → IsInterval a → IsInterval b → IsInterval (tighten a b)
 unfolding tighten greater lesser

@@ -20,7 +20,7 @@ use Rattle.pywr.specs.Rows.{Element, addElement, ColumnMap, addActive}
 use Rattle.pywr.specs.Plans.{exact, Plan, unitsInOne}
 use Rattle.pywr.specs.Allows.{onCount}
 use Rattle.pywr.specs.Admits.{onColumn, rowSum}
-use Rattle.pywr.proofs.SumLaws.{AllUpto, add-element, add-element-upto}
+use Rattle.pywr.proofs.SumLaws.{AllUpto, row-weighed, add-element, add-element-upto}
 use Rattle.pywr.proofs.AmountLaws.{one-upto}
 use Rattle.pywr.proofs.ListLaws.{found-get}
 
@@ -150,8 +150,11 @@ module _ (f : ColumnMap) (plan : Plan) where
       let r : ℤ = rowSum f plan row in
       let one : ℤ = exact one64 in
       let carry : onColumn f plan c ≡ cond (plan .on s) unitsInOne 0 = set-column f plan (setNumber s (f .sets)) ∙ ap (λ (x : List ℕ). cond (plan .on x) unitsInOne 0) (number-found s (f .sets) k) in
+      let row-added : rowSum f plan (addElement c one64 row) ≡ one *ℤ pos (onColumn f plan c) +ℤ r =
+      row-weighed f plan (addElement c one64 row) ∙ add-element (onColumn f plan) c one64 b 1 (omega arith) one-upto row us
+      ∙ ap (λ (z : ℤ). one *ℤ pos (onColumn f plan c) +ℤ z) (sym (row-weighed f plan row)) in
       active-sum ss ks (b + 1) (addElement c one64 row) (add-element-upto c one64 b 1 (omega arith) one-upto row us) (omega arith)
-      ∙ ap (λ (z : ℤ). one *ℤ pos (onCount plan ss * unitsInOne) +ℤ z) (add-element f plan c one64 b 1 (omega arith) one-upto row us ∙ ap (λ (n : ℕ). one *ℤ pos n +ℤ r) carry)
+      ∙ ap (λ (z : ℤ). one *ℤ pos (onCount plan ss * unitsInOne) +ℤ z) (row-added ∙ ap (λ (n : ℕ). one *ℤ pos n +ℤ r) carry)
       ∙ sym (+ℤ-assoc (one *ℤ pos (onCount plan ss * unitsInOne)) (one *ℤ pos (cond (plan .on s) unitsInOne 0)) r)
       ∙ ap (λ (z : ℤ). z +ℤ r)
       (+ℤ-comm (one *ℤ pos (onCount plan ss * unitsInOne)) (one *ℤ pos (cond (plan .on s) unitsInOne 0))

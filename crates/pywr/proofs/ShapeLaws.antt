@@ -1,18 +1,16 @@
--- The rows of a sound network's programme rise by column under the column count, places lead to rows with the asked columns, and every row that a varying
--- exclusive node asked for has its set's column. Assumes nothing.
-use mathlib.Core.Path.{_≡_, refl, sym, ap, ap₂, _∙_, subst}
+-- The rows of a sound network's programme rise by column under the column count, and every row that a varying exclusive node asked for has its
+-- set's column. Assumes nothing.
+use mathlib.Core.Path.{_≡_, refl, sym, subst}
 use mathlib.Core.Logic.{_⊎_, inl, inr}
 use Prim.Native.Nat.{ℕ, suc, _+_, _<_, _≤_, suc-le-suc, zero-le}
 use native.Mathlib.Nat.{lt-of-lt-of-le}
 use native.Mathlib.Omega.{arith}
 use mathlib.Core.Bool.{Bool, true, false, cond, not, _&&_, _||_}
-use mathlib.Core.List.{List, [], _∷_, _++_, map, append-nil, append-assoc, List·Memᴰ, List·Memᴰ·head, List·Memᴰ·tail}
-use lib.ListN.{length, getD, length-append, List·getD-append}
-use lib.Seq.{getD-at}
-use lib.Dec.{T, leb, ltb, eqb, eqb→eq, ltb→lt, le→leb, lt→ltb}
+use mathlib.Core.List.{List, [], _∷_, _++_, List·Memᴰ, List·Memᴰ·head, List·Memᴰ·tail}
+use lib.ListN.{length}
+use lib.Dec.{T, leb, ltb, eqb, le→leb, lt→ltb}
 use lib.Ieee.{Float, neg, eq}
-use lib.Ieee.Fits.{and-i, and-l, and-r}
-use borrow.Author.Tests.{ltb-false}
+use lib.Ieee.Fits.{and-i}
 use Rattle.pywr.specs.declared.Sentinel.{Sentinel}
 use Rattle.pywr.specs.Numbers.{double, zero64, one64, high}
 use Rattle.pywr.specs.Network.{output, link, storage, Node, Aggregate, Part, VirtualStorage, Network, kindOf}
@@ -20,24 +18,20 @@ use Rattle.pywr.specs.ColEdgeMap.{columns, mappedEdges}
 use Rattle.pywr.specs.ExclusiveSets.{sameSet, hasSet, exclusiveSets, setNumber, setsWithNode}
 use Rattle.pywr.specs.Rows.{Element, addElement, addOn, ColumnMap, columnMap, columnsInto, columnsOutOf, addNode, nodeRow, massRow}
 use Rattle.pywr.specs.Rows.{addNodes, addSetsOf, aggregateRow, addParts, virtualStorageRow, upperRow, lowerRow, addActive, exclusivityRow}
-use Rattle.pywr.specs.VariableRows.{sameRow, position, addVariableRows, Joined, addVariableRow}
+use Rattle.pywr.specs.VariableRows.{position, addVariableRows, Joined, addVariableRow}
 use Rattle.pywr.specs.Programme.{Row, continuous}
 use Rattle.pywr.specs.VaryingRows.{RowRequest, exclusiveRequests, requestsBySets, requestsFrom}
-use Rattle.pywr.specs.Build.{requestedRow}
 use Rattle.pywr.specs.FixedRows.{massRowsFrom, upperCoefficient, lowerCoefficient, exclusiveRows, constantRows, constantRowsFrom, exclusivityRows}
 use Rattle.pywr.specs.Misshapen.{columnsRise}
 use Rattle.pywr.proofs.MassLaws.{HasColumn, added, Every, every-append}
 use Rattle.pywr.proofs.EvenLaws.{mapped-edge-of}
 use Rattle.pywr.proofs.ElementLaws.{add-none, add-cases}
-use Rattle.pywr.proofs.JoinLaws.{position-found, position-most}
-use Rattle.pywr.proofs.ListLaws.{AllMem, all-none, all-cons, all-snoc, found-mem, found-below, each-of}
+use Rattle.pywr.proofs.JoinLaws.{cols}
+use Rattle.pywr.proofs.ListLaws.{AllMem, all-snoc, found-mem, found-below, each-of}
 use Rattle.pywr.proofs.MembershipLaws.{membership-sound, from-known}
 use Rattle.pywr.proofs.ReadLaws.{Sound}
-use Rattle.pywr.proofs.FitLaws.{each-ask, idle, forNodes, forAggregates, forVirtualStorages}
+use Rattle.pywr.proofs.FitLaws.{each-ask}
 use Rattle.pywr.proofs.FixedLaws.{columns-under}
-
-abbrev pub cols : List Element → List ℕ
-cols row = map (λ (e : Element). e .column) row
 
 -- ---- rising columns
 
@@ -138,9 +132,12 @@ module _ (net : Network) (sound : Sound net) where
   unfolding aggregateRow
   aggregate-good a = widen _ (sets-rise (a .sets) [] Rising.none)
 
-  pub virtual-storage-good : (v : VirtualStorage) → Good-row (virtualStorageRow f v)
+  pub virtual-storage-rises : (v : VirtualStorage) → Rising (columns net .count) 0 (virtualStorageRow (columnMap net) v)
   unfolding virtualStorageRow
-  virtual-storage-good v = widen _ (parts-rise (v .parts) [] Rising.none)
+  virtual-storage-rises v = parts-rise (v .parts) [] Rising.none
+
+  pub virtual-storage-good : (v : VirtualStorage) → Good-row (virtualStorageRow f v)
+  virtual-storage-good v = widen _ (virtual-storage-rises v)
 
   with-set : (n k : ℕ) (x c : Float) → k < sets → Good-row (addElement (edges + k) c (addNode f n x []))
   with-set n k x c h = rising-add (edges + sets) (edges + k) c 0 _ zero-le (omega arith) (widen _ (node-rises n x [] Rising.none))
@@ -263,97 +260,6 @@ module _ (net : Network) (sound : Sound net) where
       go false n u = by-sets-ok n u (setsWithNode n 0 (exclusiveSets net)) (listed-under n)
 
 -- ---- joined rows
-
-same-cols : (a b : List Element) → T (sameRow a b) → cols a ≡ cols b
-unfolding sameRow
-same-cols [] [] h = refl
-same-cols [] (y ∷ ys) h = absurd h
-same-cols (x ∷ xs) [] h = absurd h
-same-cols (x ∷ xs) (y ∷ ys) h =
-    let both : T (eqb (x .column) (y .column) && eq (x .value) (y .value)) = and-l (eqb (x .column) (y .column) && eq (x .value) (y .value)) (sameRow xs ys) h in
-    ap₂ (λ (c : ℕ) (l : List ℕ). c ∷ l) (eqb→eq (x .column) (y .column) (and-l (eqb (x .column) (y .column)) (eq (x .value) (y .value)) both))
-    (same-cols xs ys (and-r (eqb (x .column) (y .column) && eq (x .value) (y .value)) (sameRow xs ys) h))
-
--- each asked row's place is a row of its columns
-pub data Sits (rows : List (List Element)) : List (List Element) → List ℕ → Type 0 where
-  none : Sits rows [] []
-  more : {r : List Element} {rs : List (List Element)} {p : ℕ} {ps : List ℕ} → p < length rows → cols (getD rows p []) ≡ cols r → Sits rows rs ps → Sits rows (r ∷ rs) (p ∷ ps)
-
-sits-later : (rows asked : List (List Element)) (ps : List ℕ) (r : List Element) → Sits rows asked ps → Sits (rows ++ (r ∷ [])) asked ps
-sits-later rows [] [] r Sits.none = Sits.none
-sits-later rows (a ∷ rest) (p ∷ ps) r (Sits.more h e s) =
-    let l = length-append rows (r ∷ []) in
-    let k : p < length (rows ++ (r ∷ [])) = omega arith in
-    Sits.more k (ap cols (List·getD-append rows (r ∷ []) [] p h) ∙ e) (sits-later rows rest ps r s)
-
-sits-snoc : (rows asked : List (List Element)) (ps : List ℕ) (r : List Element) (p : ℕ) → Sits rows asked ps → p < length rows → cols (getD rows p []) ≡ cols r
-    → Sits rows (asked ++ (r ∷ [])) (ps ++ (p ∷ []))
-sits-snoc rows [] [] r p Sits.none h e = Sits.more h e Sits.none
-sits-snoc rows (a ∷ rest) (q ∷ ps) r p (Sits.more k e′ s) h e = Sits.more k e′ (sits-snoc rows rest ps r p s h e)
-
-sits-one : (asked : List (List Element)) (r : List Element) (j : Joined) → Sits (j .rows) asked (j .places) → Sits (addVariableRow r j .rows) (asked ++ (r ∷ [])) (addVariableRow r j .places)
-unfolding addVariableRow
-sits-one asked r j s = go (ltb (position r (j .rows)) (length (j .rows))) refl
-  where
-    p : ℕ
-    p = position r (j .rows)
-
-    go : (b : Bool) → ltb p (length (j .rows)) ≡ b → Sits (cond b (j .rows) (j .rows ++ (r ∷ []))) (asked ++ (r ∷ [])) (j .places ++ (p ∷ []))
-    go true e =
-        let l : p < length (j .rows) = ltb→lt p (length (j .rows)) (subst T (sym e) tt) in
-        sits-snoc (j .rows) asked (j .places) r p s l (same-cols (getD (j .rows) p []) r (position-found r (j .rows) l))
-    go false e =
-        let n = length-append (j .rows) (r ∷ []) in
-        let same : p ≡ length (j .rows) = (let m = position-most r (j .rows) in let g = ltb-false p (length (j .rows)) e in omega arith) in
-        sits-snoc (j .rows ++ (r ∷ [])) asked (j .places) r p (sits-later (j .rows) asked (j .places) r s) (omega arith) (ap cols (getD-at (j .rows) r [] [] p (sym same)))
-
-pub sits-all : (asked before : List (List Element)) (j : Joined) → Sits (j .rows) before (j .places) → Sits (addVariableRows asked j .rows) (before ++ asked) (addVariableRows asked j .places)
-unfolding addVariableRows
-sits-all [] before j s = subst (λ l. Sits (j .rows) l (j .places)) (sym (append-nil before)) s
-sits-all (r ∷ rs) before j s =
-    subst (λ l. Sits (addVariableRows rs (addVariableRow r j) .rows) l (addVariableRows rs (addVariableRow r j) .places)) (append-assoc before (r ∷ []) rs)
-    (sits-all rs (before ++ (r ∷ [])) (addVariableRow r j) (sits-one before r j s))
-
-pub sits-stay : (asked : List (List Element)) (ps : List ℕ) (rs : List (List Element)) (j : Joined) → Sits (j .rows) asked ps → Sits (addVariableRows rs j .rows) asked ps
-unfolding addVariableRows addVariableRow
-sits-stay asked ps [] j s = s
-sits-stay asked ps (r ∷ rs) j s = sits-stay asked ps rs (addVariableRow r j) (go (ltb (position r (j .rows)) (length (j .rows))))
-  where
-    go : (b : Bool) → Sits (cond b (j .rows) (j .rows ++ (r ∷ []))) asked ps
-    go true = s
-    go false = sits-later (j .rows) asked ps r s
-
-pub places-under : (rows asked : List (List Element)) (ps : List ℕ) → Sits rows asked ps → AllMem (λ (p : ℕ). p < length rows) ps
-places-under rows [] [] Sits.none = all-none (λ (p : ℕ). p < length rows)
-places-under rows (r ∷ rs) (p ∷ ps) (Sits.more h e s) = all-cons (λ (q : ℕ). q < length rows) p ps h (places-under rows rs ps s)
-
--- what nodes, aggregates and virtual storages ask for sits among the varying rows
-module _ (w : Sentinel) (net : Network) where
-  abbrev nodesAsk : List (List Element)
-  nodesAsk = map requestedRow (requestsFrom (columnMap net) 0 (net .nodes))
-
-  abbrev aggregatesAsk : List (List Element)
-  aggregatesAsk = map (aggregateRow (columnMap net)) (net .aggregates)
-
-  abbrev storagesAsk : List (List Element)
-  storagesAsk = map (virtualStorageRow (columnMap net)) (net .virtualStorages)
-
-  abbrev afterNodes : Joined
-  afterNodes = record { rows = forNodes w net idle .rows; places = [] }
-
-  abbrev afterAggregates : Joined
-  afterAggregates = record { rows = forAggregates w net idle .rows; places = [] }
-
-  pub nodes-sit : Sits (forVirtualStorages w net idle .rows) (map requestedRow (requestsFrom (columnMap net) 0 (net .nodes))) (forNodes w net idle .places)
-  nodes-sit =
-      sits-stay nodesAsk (forNodes w net idle .places) storagesAsk afterAggregates
-      (sits-stay nodesAsk (forNodes w net idle .places) aggregatesAsk afterNodes (sits-all nodesAsk [] (record { rows = []; places = [] }) Sits.none))
-
-  pub aggregates-sit : Sits (forVirtualStorages w net idle .rows) (map (aggregateRow (columnMap net)) (net .aggregates)) (forAggregates w net idle .places)
-  aggregates-sit = sits-stay aggregatesAsk (forAggregates w net idle .places) storagesAsk afterAggregates (sits-all aggregatesAsk [] afterNodes Sits.none)
-
-  pub virtual-storages-sit : Sits (forVirtualStorages w net idle .rows) (map (virtualStorageRow (columnMap net)) (net .virtualStorages)) (forVirtualStorages w net idle .places)
-  virtual-storages-sit = sits-all storagesAsk [] afterAggregates Sits.none
 
 pub joins-all : (P : List Element → Type 0) (asked : List (List Element)) (j : Joined) → AllMem P asked → AllMem P (j .rows) → AllMem P (addVariableRows asked j .rows)
 unfolding addVariableRows addVariableRow

@@ -14,7 +14,7 @@ use lib.Ieee.Fits.{and-i, and-l, and-r, eq→eqb}
 use Rattle.laws.proofs.Tests.{or-l, or-r, or-elim, by-cases, cond-yes, cond-no}
 use Rattle.pywr.specs.declared.Sentinel.{Sentinel}
 use Rattle.pywr.specs.declared.Interval.{Interval}
-use Rattle.pywr.specs.Network.{link, Node, Aggregate, Part, VirtualStorage, Network, noNode, kindOf, isExclusive}
+use Rattle.pywr.specs.Network.{link, Node, Aggregate, VirtualStorage, Network, noNode, kindOf, isExclusive}
 use Rattle.pywr.specs.ColEdgeMap.{MappedEdge, mappedEdges}
 use Rattle.pywr.specs.ExclusiveSets.{exclusiveSets, setNumber, setsWithNode}
 use Rattle.pywr.specs.Rows.{Element, ColumnMap, columnMap, aggregateRow, virtualStorageRow}
@@ -29,21 +29,21 @@ use Rattle.pywr.specs.Plans.{meets, Plan, timesOne, allFrom}
 use Rattle.pywr.specs.Allows.{allows, inflow, outflow, nodeAmount, setsAmount, partsSum, balanced, ownInterval}
 use Rattle.pywr.specs.Allows.{nodeMeets, aggregateMeets, virtualStorageMeets, exclusiveMeets, memberMeets, setsMeet, onCount, exclusivityMeets}
 use Rattle.pywr.specs.Admits.{admits, carried, equalInColumn, rowSum, rowMet, columnMet}
-use Rattle.pywr.specs.Correspondence.{isWhole, factorsWhole}
+use Rattle.pywr.specs.Correspondence.{factorsIn1024ths}
 use Rattle.pywr.proofs.BoundLaws.{IsInterval}
-use Rattle.pywr.proofs.AmountLaws.{Carries, memberships, aggregate-sum, Factors, no-more, one-more, virtual-storage-sum}
+use Rattle.pywr.proofs.AmountLaws.{Carries, memberships, aggregate-sum, virtual-storage-sum}
 use Rattle.pywr.proofs.EvenLaws.{Balanced, balanced-even, carries}
 use Rattle.pywr.proofs.MassLaws.{Every, every-append, Met, every-met, Joined, mass-met}
-use Rattle.pywr.proofs.JoinLaws.{Placed}
+use Rattle.pywr.proofs.JoinLaws.{Placed, placed-length}
 use Rattle.pywr.proofs.RowLaws.{elementsAt, Fitting}
 use Rattle.pywr.proofs.VaryingLaws.{node-places, node-intervals, Asked, varying-met}
 use Rattle.pywr.proofs.SetLaws.{number-found}
 use Rattle.pywr.proofs.ListLaws.{AllMem, all-cons, found-mem, mem-found, not-found, same-some, found-get, below-found, all-at}
 use Rattle.pywr.proofs.StepReadLaws.{at-interval, IntervalsOk}
 use Rattle.pywr.proofs.MembershipLaws.{From, lists-exclusive, set-from, from-known, membership-sound, exclusive-listed}
-use Rattle.pywr.proofs.ReadLaws.{SetOk, VirtualStorageOk, PartOk, Sound}
-use Rattle.pywr.proofs.FitLaws.{OnlyConstant, requests-are, only-continuous, columns-long, asked, forNodes, forVirtualStorages, lengthN, aggregates-length, placed-length}
-use Rattle.pywr.proofs.CoefficientLaws.{whole-factor}
+use Rattle.pywr.proofs.ReadLaws.{SetOk, Sound}
+use Rattle.pywr.proofs.FitLaws.{OnlyConstant, requests-are, only-continuous, columns-long, asked, forNodes, forVirtualStorages, lengthN, aggregates-length}
+use Rattle.pywr.proofs.FactorLaws.{limitIn1024ths, part-factors, parts-room}
 use Rattle.pywr.proofs.FixedLaws.{bounds, room, node-amount, ConstantMet, constant-met, active-met, columns-met}
 
 -- ---- lists
@@ -54,7 +54,7 @@ kind-found [] n t = absurd t
 kind-found (y ∷ ys) zero t = (y, refl, t)
 kind-found (y ∷ ys) (suc n) t = kind-found ys n t
 
-fresh-elements : (w : Sentinel) (joined : List (List Element)) (p : ℕ) → elementsAt p (map (freshRow w) joined) ≡ getD joined p []
+pub fresh-elements : (w : Sentinel) (joined : List (List Element)) (p : ℕ) → elementsAt p (map (freshRow w) joined) ≡ getD joined p []
 unfolding elementsAt freshRow
 fresh-elements w [] p = refl
 fresh-elements w (r ∷ rs) zero = refl
@@ -62,14 +62,14 @@ fresh-elements w (r ∷ rs) (suc p) = fresh-elements w rs p
 
 -- ---- intervals and places in pairs
 
-module _ (w : Sentinel) (f : ColumnMap) (plan : Plan) (joined : List (List Element)) where
+module _ (w : Sentinel) (joined : List (List Element)) where
   fit-nodes : (is : List Interval) → AllMem IsInterval is → (rows : List NodeRow) (wanted : List (List Element))
-      → Placed f plan joined wanted (node-places rows) → Fitting (length joined) (node-places rows) (node-intervals w is rows)
+      → Placed joined wanted (node-places rows) → Fitting (length joined) (node-places rows) (node-intervals w is rows)
   unfolding node-places node-intervals
   fit-nodes is ok [] [] Placed.none = Fitting.none
   fit-nodes is ok (n ∷ ns) (r ∷ rs) (Placed.more h e rest) = Fitting.more h (at-interval w is (n .node) ok) (fit-nodes is ok ns rs rest)
 
-  fit-plain : (ps : List ℕ) (is : List Interval) (wanted : List (List Element)) → Placed f plan joined wanted ps → length is ≡ length ps → AllMem IsInterval is → Fitting (length joined) ps is
+  fit-plain : (ps : List ℕ) (is : List Interval) (wanted : List (List Element)) → Placed joined wanted ps → length is ≡ length ps → AllMem IsInterval is → Fitting (length joined) ps is
   fit-plain [] [] [] Placed.none l ok = Fitting.none
   fit-plain [] (i ∷ is) [] Placed.none l ok = let z : suc (length is) ≡ 0 = l in absurd (omega arith)
   fit-plain (p ∷ ps) [] (r ∷ rs) (Placed.more h e rest) l ok = let z : 0 ≡ suc (length ps) = l in absurd (omega arith)
@@ -146,7 +146,7 @@ module _ (w : Sentinel) (net : Network) (i : Intervals) (plan : Plan) where
 
 -- ---- both sides, where each edge's column carries its amount
 
-module _ (w : Sentinel) (net : Network) (sound : Sound net) (only : OnlyConstant net) (whole : T (factorsWhole net)) (plan : Plan) (i : Intervals)
+module _ (w : Sentinel) (net : Network) (sound : Sound net) (only : OnlyConstant net) (factors : T (factorsIn1024ths net)) (plan : Plan) (i : Intervals)
     (ok : IntervalsOk (length (net .aggregates)) (length (net .virtualStorages)) i) (each : Carries net plan) where
   abbrev f : ColumnMap
   f = columnMap net
@@ -167,22 +167,8 @@ module _ (w : Sentinel) (net : Network) (sound : Sound net) (only : OnlyConstant
       let y : length (net .edges) * 1 + length (net .edges) * 1 ≤ 1024 = omega arith in
       aggregate-sum net plan (columns-long net) each a (lt-of-le-of-lt (mul-le-mul x y) (lit< tt))
 
-  part-factors : (v : VirtualStorage) → VirtualStorageOk v → T (allFrom (λ (k : ℕ) (p : Part). isWhole p) 0 (v .parts)) → Factors 0 1000000 (v .parts)
-  part-factors v okv t = go (v .parts) (okv .parts) (λ n p e. all-at (λ (k : ℕ) (q : Part). isWhole q) (v .parts) 0 .0 t n p e)
-    where
-      go : (ps : List Part) → AllMem PartOk ps → ((n : ℕ) (p : Part) → getElem? ps n ≡ some p → T (isWhole p)) → Factors 0 1000000 ps
-      go [] k h = no-more
-      go (p ∷ ps) k h = one-more (whole-factor p (k p (List·Memᴰ·head refl)) (h 0 p refl)) (go ps (λ q m. k q (List·Memᴰ·tail m)) (λ n q e. h (suc n) q e))
-
   virtual-storage-amount : (n : ℕ) (v : VirtualStorage) → getElem? (net .virtualStorages) n ≡ some v → rowSum f plan (virtualStorageRow f v) ≡ partsSum net plan (v .parts)
-  unfolding factorsWhole
-  virtual-storage-amount n v e =
-      let okv = sound .good .virtualStorages v (found-mem (net .virtualStorages) n v e) in
-      let few = okv .few in
-      let ne = sound .good .edgeCount in
-      let t = all-at (λ (m : ℕ) (u : VirtualStorage). allFrom (λ (k : ℕ) (p : Part). isWhole p) 0 (u .parts)) (net .virtualStorages) 0 .0 whole n v e in
-      let y : length (net .edges) * 1000000 + length (net .edges) * 1000000 ≤ 1024000000 = omega arith in
-      virtual-storage-sum net plan (columns-long net) each 1000000 v (part-factors v okv t) (lt-of-le-of-lt (mul-le-mul few y) (lit< tt))
+  virtual-storage-amount n v e = virtual-storage-sum net plan (columns-long net) each limitIn1024ths v (part-factors net sound n v e factors) (parts-room net sound n v e)
 
   -- the varying rows
   record VaryingMet : Type 0 where
@@ -193,25 +179,25 @@ module _ (w : Sentinel) (net : Network) (sound : Sound net) (only : OnlyConstant
   nodes-asked : Asked w f plan (map requestedRow (requestsFrom f 0 (net .nodes))) (node-intervals w (i .nodes) (programmeOf w net .shape .nodeRows)) ↔ Every
       (λ (a : RowRequest). T (meets w (ofNodes (a .node)) (rowSum f plan (a .row)))) (requestsFrom f 0 (net .nodes))
   unfolding programmeOf assemble
-  nodes-asked = asked-nodes w f plan (i .nodes) (requestsFrom f 0 (net .nodes)) (forNodes w net plan .places) (lengthN w net plan)
+  nodes-asked = asked-nodes w f plan (i .nodes) (requestsFrom f 0 (net .nodes)) (forNodes w net .places) (lengthN w net)
 
   varying-is : T (allFrom (rowMet w f plan) 0 (stepRows w (programmeOf w net .shape) i (programmeOf w net .programme .varying))) ↔ VaryingMet
   unfolding aggregateMeets virtualStorageMeets
   varying-is =
-      let a = asked w net plan in
-      let joined : List (List Element) = forVirtualStorages w net plan .rows in
+      let a = asked w net in
+      let joined : List (List Element) = forVirtualStorages w net .rows in
       let rows : List Row = programmeOf w net .programme .varying in
       let long : length rows ≡ length joined = ap length (a .varying) ∙ length-map joined (freshRow w) in
       let same : (p : ℕ) → elementsAt p rows ≡ getD joined p [] = (λ p. ap (elementsAt p) (a .varying) ∙ fresh-elements w joined p) in
-      let lA : length (i .aggregates) ≡ length (programmeOf w net .shape .aggregates) = ok .aggregateCount ∙ sym (aggregates-length w net plan) in
+      let lA : length (i .aggregates) ≡ length (programmeOf w net .shape .aggregates) = ok .aggregateCount ∙ sym (aggregates-length w net) in
       let lV : length (i .virtualStorages) ≡ length (map rowOf (programmeOf w net .shape .virtualStorages)) = ok .virtualStorageCount
-      ∙ sym (length-map (net .virtualStorages) (virtualStorageRow f)) ∙ placed-length f plan joined _ _ (a .virtualStorages) in
+      ∙ sym (length-map (net .virtualStorages) (virtualStorageRow f)) ∙ placed-length joined _ _ (a .virtualStorages) in
       let met = varying-met w f plan (programmeOf w net .shape) i joined rows long same (only-continuous w net only)
       (map requestedRow (requestsFrom f 0 (net .nodes))) (map (aggregateRow f) (net .aggregates)) (map (virtualStorageRow f) (net .virtualStorages))
       (a .nodes) (a .aggregates) (a .virtualStorages)
-      (fit-nodes w f plan joined (i .nodes) (ok .nodes) (programmeOf w net .shape .nodeRows) _ (a .nodes))
-      (fit-plain w f plan joined (programmeOf w net .shape .aggregates) (i .aggregates) _ (a .aggregates) lA (ok .aggregates-are))
-      (fit-plain w f plan joined (map rowOf (programmeOf w net .shape .virtualStorages)) (i .virtualStorages) _ (a .virtualStorages) lV (ok .virtual-storages-are)) 0 in
+      (fit-nodes w joined (i .nodes) (ok .nodes) (programmeOf w net .shape .nodeRows) _ (a .nodes))
+      (fit-plain w joined (programmeOf w net .shape .aggregates) (i .aggregates) _ (a .aggregates) lA (ok .aggregates-are))
+      (fit-plain w joined (map rowOf (programmeOf w net .shape .virtualStorages)) (i .virtualStorages) _ (a .virtualStorages) lV (ok .virtual-storages-are)) 0 in
       let n1 = nodes-asked in
       let n2 = requests-are net only (λ (k : RowRequest). T (meets w (ofNodes (k .node)) (rowSum f plan (k .row)))) in
       let g = asked-at w f plan (aggregateRow f) (net .aggregates) (i .aggregates) (sym (ok .aggregateCount)) in
@@ -441,10 +427,10 @@ module _ (w : Sentinel) (net : Network) (i : Intervals) (plan : Plan) where
       let a = at-zero (equalInColumn plan (mappedEdges net)) (mappedEdges net) in
       (λ h n p e. eqb→eq (plan .amount n) (carried plan (p .column) 0 (mappedEdges net)) (a .0 h n p e), λ h. a .1 (λ n p e. eq→eqb (h n p e)))
 
-module _ (w : Sentinel) (net : Network) (sound : Sound net) (only : OnlyConstant net) (whole : T (factorsWhole net)) (plan : Plan) (i : Intervals)
+module _ (w : Sentinel) (net : Network) (sound : Sound net) (only : OnlyConstant net) (factors : T (factorsIn1024ths net)) (plan : Plan) (i : Intervals)
     (ok : IntervalsOk (length (net .aggregates)) (length (net .virtualStorages)) i) where
   -- what the rest of the network's side says, whatever the columns carry
-  allowed : (each : Carries net plan) → T (allows w net i plan) ↔ NetworkMet w net sound only whole plan i ok each
+  allowed : (each : Carries net plan) → T (allows w net i plan) ↔ NetworkMet w net sound only factors plan i ok each
   unfolding allows
   allowed each =
       let a : Bool = allFrom (balanced net plan) 0 (net .nodes) in
@@ -507,12 +493,12 @@ module _ (w : Sentinel) (net : Network) (sound : Sound net) (only : OnlyConstant
             let h3 = and-l (a && b && c) d h in
             let h2 = and-l (a && b) c h3 in
             let each : Carries net plan = carries net plan (sound .noself) (even .0 (and-l a b h2)) in
-            allowed each .1 (rows-are w net sound only whole plan i ok each .0 (subst T cv (and-r (a && b) c h3), subst T df (and-r (a && b && c) d h))),
+            allowed each .1 (rows-are w net sound only factors plan i ok each .0 (subst T cv (and-r (a && b) c h3), subst T df (and-r (a && b && c) d h))),
         λ h.
             let bal : Balanced net plan = allows-balanced h in
             let level = balanced-even net plan (sound .noself) bal in
             let each : Carries net plan = carries net plan (sound .noself) level in
-            let r = rows-are w net sound only whole plan i ok each .1 (allowed each .0 h) in
+            let r = rows-are w net sound only factors plan i ok each .1 (allowed each .0 h) in
             let cols : T b = subst (λ (s : Sentinel). T (allFrom (columnMet s g plan) 0 (p .columns))) (sym hs) (columns-met w g plan (p .columns) hl hu) in
             and-i (a && b && c) d (and-i (a && b) c (and-i a b (even .1 level) cols) (subst T (sym cv) (r .0))) (subst T (sym df) (r .1)),
       )

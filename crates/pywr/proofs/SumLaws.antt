@@ -1,5 +1,6 @@
--- Sums of multiples of 1 / 2 ^ g are exact below 2 ^ 53 of these, and so the sum over a row's columns is the sum over what was added to the row. Assumes nothing.
-use mathlib.Core.Path.{_≡_, sym, ap, ap₂, _∙_}
+-- Sums of multiples of 1 / 2 ^ g are exact below 2 ^ 53 of these, and so a row's elements, each times a weight of its
+-- column, sum to what was added to the row. Assumes nothing.
+use mathlib.Core.Path.{_≡_, refl, sym, ap, ap₂, _∙_}
 use Prim.Native.Nat.{ℕ, suc, _+_, _-_, _*_, _^_, _<_, _≤_}
 use native.Mathlib.Nat.{le-trans, le-of-eq, le-of-lt, add-le-add, add-mul, mul-le-mul-right, zero-mul, suc-mul, add-comm}
 use native.Mathlib.Omega.{arith}
@@ -49,34 +50,46 @@ module _ {g : ℕ} (a b : ℕ) (x y : Float) (room : a + b < 2 ^ 53) (u : Upto g
   add-upto : Upto g (a + b) (add binary64 x y)
   add-upto = record { grain = added .grain; most = le-trans (added .within) together }
 
-module _ {g : ℕ} (f : ColumnMap) (plan : Plan) (c : ℕ) (x : Float) (b n : ℕ) (room : b + n < 2 ^ 53) (u : Upto g n x) where
+-- ---- a row's elements, each times the weight of its column
+
+unfoldable pub weighed : (ℕ → ℕ) → List Element → ℤ
+weighed weight [] = pos 0
+weighed weight (e ∷ es) = exact (e .value) *ℤ pos (weight (e .column)) +ℤ weighed weight es
+
+-- a row's sum is weighed by what its columns carry
+pub row-weighed : (f : ColumnMap) (plan : Plan) (row : List Element) → rowSum f plan row ≡ weighed (onColumn f plan) row
+unfolding rowSum weighed
+row-weighed f plan [] = refl
+row-weighed f plan (e ∷ es) = ap (λ (z : ℤ). exact (e .value) *ℤ pos (onColumn f plan (e .column)) +ℤ z) (row-weighed f plan es)
+
+module _ {g : ℕ} (weight : ℕ → ℕ) (c : ℕ) (x : Float) (b n : ℕ) (room : b + n < 2 ^ 53) (u : Upto g n x) where
   -- the term of an element
   abbrev term : Float → ℕ → ℤ
-  term y k = exact y *ℤ pos (onColumn f plan k)
+  term y k = exact y *ℤ pos (weight k)
 
-  pub add-element : (row : List Element) → AllUpto g b row → rowSum f plan (addElement c x row) ≡ term x c +ℤ rowSum f plan row
-  unfolding rowSum
-  add-element [] none = rw (add-none c x) (ap (λ (y : ℤ). y *ℤ pos (onColumn f plan c) +ℤ pos 0) (add-zero-exact x (u .grain .fit) (u .grain .isFinite)))
+  pub add-element : (row : List Element) → AllUpto g b row → weighed weight (addElement c x row) ≡ term x c +ℤ weighed weight row
+  unfolding weighed
+  add-element [] none = rw (add-none c x) (ap (λ (y : ℤ). y *ℤ pos (weight c) +ℤ pos 0) (add-zero-exact x (u .grain .fit) (u .grain .isFinite)))
   add-element (e ∷ es) (more ue us) =
-      add-cases c x e es (λ (row : List Element). rowSum f plan row ≡ term x c +ℤ rowSum f plan (e ∷ es))
-      (λ h. ap (λ (y : ℤ). y *ℤ pos (onColumn f plan c) +ℤ rowSum f plan (e ∷ es)) (add-zero-exact x (u .grain .fit) (u .grain .isFinite)))
+      add-cases c x e es (λ (row : List Element). weighed weight row ≡ term x c +ℤ weighed weight (e ∷ es))
+      (λ h. ap (λ (y : ℤ). y *ℤ pos (weight c) +ℤ weighed weight (e ∷ es)) (add-zero-exact x (u .grain .fit) (u .grain .isFinite)))
       at
       (λ h. over (add-element es us))
     where
-      at : c ≡ e .column → rowSum f plan (element c (add binary64 (e .value) x) ∷ es) ≡ term x c +ℤ rowSum f plan (e ∷ es)
+      at : c ≡ e .column → weighed weight (element c (add binary64 (e .value) x) ∷ es) ≡ term x c +ℤ weighed weight (e ∷ es)
       at same =
-          ap (λ (y : ℤ). y *ℤ pos (onColumn f plan c) +ℤ rowSum f plan es)
+          ap (λ (y : ℤ). y *ℤ pos (weight c) +ℤ weighed weight es)
           (exact-add b n (e .value) x room ue u)
-          ∙ ap (λ (y : ℤ). y +ℤ rowSum f plan es) (add-mulℤ (exact (e .value)) (exact x) (pos (onColumn f plan c)) ∙ +ℤ-comm (term (e .value) c) (term x c))
-          ∙ +ℤ-assoc (term x c) (term (e .value) c) (rowSum f plan es)
-          ∙ ap (λ (k : ℕ). term x c +ℤ (term (e .value) k +ℤ rowSum f plan es)) same
+          ∙ ap (λ (y : ℤ). y +ℤ weighed weight es) (add-mulℤ (exact (e .value)) (exact x) (pos (weight c)) ∙ +ℤ-comm (term (e .value) c) (term x c))
+          ∙ +ℤ-assoc (term x c) (term (e .value) c) (weighed weight es)
+          ∙ ap (λ (k : ℕ). term x c +ℤ (term (e .value) k +ℤ weighed weight es)) same
 
-      over : rowSum f plan (addElement c x es) ≡ term x c +ℤ rowSum f plan es → rowSum f plan (e ∷ addElement c x es) ≡ term x c +ℤ rowSum f plan (e ∷ es)
+      over : weighed weight (addElement c x es) ≡ term x c +ℤ weighed weight es → weighed weight (e ∷ addElement c x es) ≡ term x c +ℤ weighed weight (e ∷ es)
       over ih =
           ap (λ (y : ℤ). term (e .value) (e .column) +ℤ y) ih
-          ∙ sym (+ℤ-assoc (term (e .value) (e .column)) (term x c) (rowSum f plan es))
-          ∙ ap (λ (y : ℤ). y +ℤ rowSum f plan es) (+ℤ-comm (term (e .value) (e .column)) (term x c))
-          ∙ +ℤ-assoc (term x c) (term (e .value) (e .column)) (rowSum f plan es)
+          ∙ sym (+ℤ-assoc (term (e .value) (e .column)) (term x c) (weighed weight es))
+          ∙ ap (λ (y : ℤ). y +ℤ weighed weight es) (+ℤ-comm (term (e .value) (e .column)) (term x c))
+          ∙ +ℤ-assoc (term x c) (term (e .value) (e .column)) (weighed weight es)
 
 -- ---- the steps of a row's elements after an addition
 
@@ -105,28 +118,28 @@ module _ {g : ℕ} (c : ℕ) (x : Float) (b n : ℕ) (room : b + n < 2 ^ 53) (u 
 
 -- ---- one factor on a list of columns
 
-module _ (f : ColumnMap) (plan : Plan) where
+module _ (weight : ℕ → ℕ) where
   unfoldable pub onColumns : List ℕ → ℕ
   onColumns [] = 0
-  onColumns (c ∷ cs) = onColumn f plan c + onColumns cs
+  onColumns (c ∷ cs) = weight c + onColumns cs
 
   pub add-on : {g : ℕ} (cs : List ℕ) (x : Float) (n : ℕ) → Upto g n x → (b : ℕ) (row : List Element) → AllUpto g b row → b + length cs * n < 2 ^ 53
-      → rowSum f plan (addOn cs x row) ≡ exact x *ℤ pos (onColumns cs) +ℤ rowSum f plan row
+      → weighed weight (addOn cs x row) ≡ exact x *ℤ pos (onColumns cs) +ℤ weighed weight row
   unfolding addOn onColumns
-  add-on [] x n u b row us h = sym (ap (λ (z : ℤ). z +ℤ rowSum f plan row) (*ℤ-zero (exact x)) ∙ +ℤ-idl (rowSum f plan row))
+  add-on [] x n u b row us h = sym (ap (λ (z : ℤ). z +ℤ weighed weight row) (*ℤ-zero (exact x)) ∙ +ℤ-idl (weighed weight row))
   add-on (c ∷ cs) x n u b row us h =
       let m : suc (length cs) * n ≡ n + length cs * n = suc-mul (length cs) n ∙ add-comm (length cs * n) n in
       add-on cs x n u (b + n) (addElement c x row) (add-element-upto c x b n (omega arith) u row us) (omega arith)
-      ∙ ap (λ (z : ℤ). exact x *ℤ pos (onColumns cs) +ℤ z) (add-element f plan c x b n (omega arith) u row us)
-      ∙ sym (+ℤ-assoc (exact x *ℤ pos (onColumns cs)) (exact x *ℤ pos (onColumn f plan c)) (rowSum f plan row))
-      ∙ ap (λ (z : ℤ). z +ℤ rowSum f plan row)
-      (+ℤ-comm (exact x *ℤ pos (onColumns cs)) (exact x *ℤ pos (onColumn f plan c)) ∙ sym (mul-addℤ (exact x) (pos (onColumn f plan c)) (pos (onColumns cs))))
+      ∙ ap (λ (z : ℤ). exact x *ℤ pos (onColumns cs) +ℤ z) (add-element weight c x b n (omega arith) u row us)
+      ∙ sym (+ℤ-assoc (exact x *ℤ pos (onColumns cs)) (exact x *ℤ pos (weight c)) (weighed weight row))
+      ∙ ap (λ (z : ℤ). z +ℤ weighed weight row)
+      (+ℤ-comm (exact x *ℤ pos (onColumns cs)) (exact x *ℤ pos (weight c)) ∙ sym (mul-addℤ (exact x) (pos (weight c)) (pos (onColumns cs))))
 
-  pub add-on-upto : {g : ℕ} (cs : List ℕ) (x : Float) (n : ℕ) → Upto g n x → (b : ℕ) (row : List Element) → AllUpto g b row → b + length cs * n < 2 ^ 53
-      → AllUpto g (b + length cs * n) (addOn cs x row)
-  unfolding addOn
-  add-on-upto [] x n u b row us h = all-wider b (b + 0 * n) row (omega arith) us
-  add-on-upto (c ∷ cs) x n u b row us h =
-      let m : suc (length cs) * n ≡ n + length cs * n = suc-mul (length cs) n ∙ add-comm (length cs * n) n in
-      all-wider (b + n + length cs * n) (b + suc (length cs) * n) (addOn cs x (addElement c x row)) (omega arith)
-      (add-on-upto cs x n u (b + n) (addElement c x row) (add-element-upto c x b n (omega arith) u row us) (omega arith))
+pub add-on-upto : {g : ℕ} (cs : List ℕ) (x : Float) (n : ℕ) → Upto g n x → (b : ℕ) (row : List Element) → AllUpto g b row → b + length cs * n < 2 ^ 53
+    → AllUpto g (b + length cs * n) (addOn cs x row)
+unfolding addOn
+add-on-upto [] x n u b row us h = all-wider b (b + 0 * n) row (omega arith) us
+add-on-upto (c ∷ cs) x n u b row us h =
+    let m : suc (length cs) * n ≡ n + length cs * n = suc-mul (length cs) n ∙ add-comm (length cs * n) n in
+    all-wider (b + n + length cs * n) (b + suc (length cs) * n) (addOn cs x (addElement c x row)) (omega arith)
+    (add-on-upto cs x n u (b + n) (addElement c x row) (add-element-upto c x b n (omega arith) u row us) (omega arith))

@@ -17,9 +17,10 @@ use Rattle.pywr.specs.Interval.{sentinels}
 use Rattle.pywr.specs.StepIntervals.{Intervals}
 use Rattle.pywr.specs.Step.{adjust, withBounds, applyRowBounds, applyInterval, applyNodeRows, applyIntervals, rowOf, stepRows}
 use Rattle.pywr.specs.Plans.{meets, Plan}
-use Rattle.pywr.specs.Admits.{rowSum}
+use Rattle.pywr.specs.Admits.{onColumn, rowSum}
 use Rattle.pywr.proofs.BoundLaws.{IsInterval, high-bound}
 use Rattle.pywr.proofs.RowLaws.{Sane, adjust-length, adjust-elements, adjust-sane, elementsAt, AllMet, Fitting, sums, Applied, apply-met, reset-met}
+use Rattle.pywr.proofs.SumLaws.{row-weighed}
 use Rattle.pywr.proofs.JoinLaws.{Placed}
 
 -- no exclusive node varies: every node row is continuous
@@ -56,13 +57,13 @@ module _ (w : Sentinel) (f : ColumnMap) (plan : Plan) where
   -- from places to rows
   pub applied-asked : (rows : List (List Element)) (sum : ℕ → ℤ) → ((p : ℕ) → p < length rows → sum p ≡ rowSum f plan (getD rows p []))
       → (asked : List (List Element)) (ps : List ℕ) (is : List Interval)
-      → Placed f plan rows asked ps → Applied w f plan sum ps is ↔ Asked asked is
+      → Placed rows asked ps → Applied w f plan sum ps is ↔ Asked asked is
   unfolding Applied Asked
   applied-asked rows sum e [] [] is Placed.none = (λ h. tt, λ h. tt)
   applied-asked rows sum e (r ∷ rs) (p ∷ ps) [] (Placed.more h q rest) = (λ k. tt, λ k. tt)
   applied-asked rows sum e (r ∷ rs) (p ∷ ps) (i ∷ is) (Placed.more h q rest) =
       let ih = applied-asked rows sum e rs ps is rest in
-      let s : sum p ≡ rowSum f plan r = e p h ∙ q in
+      let s : sum p ≡ rowSum f plan r = e p h ∙ row-weighed f plan (getD rows p []) ∙ q .sum (onColumn f plan) ∙ sym (row-weighed f plan r) in
       (λ k. (subst (λ (v : ℤ). T (meets w i v)) s (k .0), ih .0 (k .1)), λ k. (subst (λ (v : ℤ). T (meets w i v)) (sym s) (k .0), ih .1 (k .1)))
 
 -- ---- what a run of intervals leaves alone
@@ -73,7 +74,7 @@ apply-length [] is rows = refl
 apply-length (r ∷ rs) [] rows = refl
 apply-length (r ∷ rs) (i ∷ is) rows = apply-length rs is (adjust (applyRowBounds i) r rows) ∙ adjust-length i r rows
 
-apply-elements : (rs : List ℕ) (is : List Interval) (rows : List Row) (k : ℕ) → elementsAt k (applyIntervals rs is rows) ≡ elementsAt k rows
+pub apply-elements : (rs : List ℕ) (is : List Interval) (rows : List Row) (k : ℕ) → elementsAt k (applyIntervals rs is rows) ≡ elementsAt k rows
 unfolding applyIntervals
 apply-elements [] is rows k = refl
 apply-elements (r ∷ rs) [] rows k = refl
@@ -93,7 +94,7 @@ unfolding withBounds
 reset-sane w [] = Sane.none
 reset-sane w (x ∷ xs) = Sane.more (sentinels-interval w) (reset-sane w xs)
 
-reset-elements : (i : Interval) (rows : List Row) (k : ℕ) → elementsAt k (map (withBounds i) rows) ≡ elementsAt k rows
+pub reset-elements : (i : Interval) (rows : List Row) (k : ℕ) → elementsAt k (map (withBounds i) rows) ≡ elementsAt k rows
 unfolding withBounds elementsAt
 reset-elements i [] k = refl
 reset-elements i (x ∷ xs) zero = refl
@@ -105,9 +106,9 @@ module _ (w : Sentinel) (f : ColumnMap) (plan : Plan) (shape : Shape) (i : Inter
     (long : length rows ≡ length joined) (same : (p : ℕ) → elementsAt p rows ≡ getD joined p [])
     (only : Continuous (shape .nodeRows))
     (askedN askedA askedV : List (List Element))
-    (placedN : Placed f plan joined askedN (node-places (shape .nodeRows)))
-    (placedA : Placed f plan joined askedA (shape .aggregates))
-    (placedV : Placed f plan joined askedV (map rowOf (shape .virtualStorages)))
+    (placedN : Placed joined askedN (node-places (shape .nodeRows)))
+    (placedA : Placed joined askedA (shape .aggregates))
+    (placedV : Placed joined askedV (map rowOf (shape .virtualStorages)))
     (fitN : Fitting (length joined) (node-places (shape .nodeRows)) (node-intervals w (i .nodes) (shape .nodeRows)))
     (fitA : Fitting (length joined) (shape .aggregates) (i .aggregates))
     (fitV : Fitting (length joined) (map rowOf (shape .virtualStorages)) (i .virtualStorages)) where

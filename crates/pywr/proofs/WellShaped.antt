@@ -28,7 +28,7 @@ use Rattle.pywr.specs.Misshapen.{countsFit, startsRise, columnsRise, row
 use Rattle.pywr.specs.Misshapen.{nodeFits, edgeFits, nodeRowFits, aggregateFits, virtualStorageFits, makersOfKind, makerFits}
 use Rattle.pywr.specs.Written.{sentinelWord, rowTypeWord, flagWord, nodeWords, edgeWords, nodeRowWords, virtualStorageWords, makerWords, countWords}
 use Rattle.pywr.specs.Written.{shapeAfter, startsFrom, columnsIn, rowsOf, builtStore}
-use Rattle.pywr.proofs.AmountLaws.{pipes-length}
+use Rattle.pywr.proofs.WeightLaws.{pipes-length}
 use Rattle.pywr.proofs.EvenLaws.{mapped-edge-of}
 use Rattle.pywr.proofs.MassLaws.{Every}
 use Rattle.pywr.proofs.StoreLaws.{Holds, holds-left, holds-right, word-at, first-word, node-wide, pipe-wide, nodeRow-wide}
@@ -38,11 +38,13 @@ use Rattle.pywr.proofs.Represents.{Roomy, Represents, ProgrammeFits, bu
 use Rattle.pywr.proofs.ListLaws.{AllMem, all-none, all-cons, all-append, all-map, every-mem, found-mem, mem-found, not-found, same-some, below-found, found-left, found-map}
 use Rattle.pywr.proofs.MembershipLaws.{mem-listed}
 use Rattle.pywr.proofs.ReadLaws.{Good, Sound, EdgeOk}
-use Rattle.pywr.proofs.FitLaws.{idle, elements-append, columns-long, columns-most, forNodes, forAggregates, forVirtualStorages, integers-all, programme-fits}
+use Rattle.pywr.proofs.JoinLaws.{cols, Placed, places-under}
+use Rattle.pywr.proofs.FitLaws.{elements-append, columns-long, columns-most, forNodes, forAggregates, forVirtualStorages, integers-all, programme-fits}
+use Rattle.pywr.proofs.FitLaws.{nodes-placed, aggregates-placed, virtual-storages-placed}
 use Rattle.pywr.proofs.CountLaws.{sets-under, requests-few}
-use Rattle.pywr.proofs.ShapeLaws.{cols, Good-row, rising-test, aggregate-good, virtual-storage-good, masses-good, constants-good}
+use Rattle.pywr.proofs.ShapeLaws.{Good-row, rising-test, aggregate-good, virtual-storage-good, masses-good, constants-good}
 use Rattle.pywr.proofs.MadeLaws.{makersFor, Made, makers-made}
-use Rattle.pywr.proofs.ShapeLaws.{actives-good, AskOk, requests-ok, Sits, places-under, nodes-sit, aggregates-sit, virtual-storages-sit, joins-all}
+use Rattle.pywr.proofs.ShapeLaws.{actives-good, AskOk, requests-ok, joins-all}
 
 -- ---- tests of entries
 
@@ -124,10 +126,10 @@ module _ (net : Network) (sound : Sound net) (rows : List (List Element)) where
     row-under : n .row < length rows
     has-set : (n .rowType ≡ continuous) ⊎ ((n .set < length (exclusiveSets net)) × List·Memᴰ (columns net .count + n .set) (cols (getD rows (n .row) [])))
 
-  node-rows-ok : (wanted : List RowRequest) (ps : List ℕ) → Sits rows (map requestedRow wanted) ps → Every (AskOk net sound) wanted → AllMem NodeRowOk (placedNodeRows wanted ps)
+  node-rows-ok : (wanted : List RowRequest) (ps : List ℕ) → Placed rows (map requestedRow wanted) ps → Every (AskOk net sound) wanted → AllMem NodeRowOk (placedNodeRows wanted ps)
   unfolding placedNodeRows requestedRow
   node-rows-ok [] ps s h = all-none NodeRowOk
-  node-rows-ok (a ∷ wanted) (p ∷ ps) (Sits.more l e s) h =
+  node-rows-ok (a ∷ wanted) (p ∷ ps) (Placed.more l e s) h =
       all-cons NodeRowOk _ (placedNodeRows wanted ps)
       (record { node-under = h .0 .node-under; row-under = l; has-set = moved (h .0 .has-set) })
       (node-rows-ok wanted ps s (h .1))
@@ -135,7 +137,7 @@ module _ (net : Network) (sound : Sound net) (rows : List (List Element)) where
       moved : (a .rowType ≡ continuous) ⊎ ((a .set < length (exclusiveSets net)) × List·Memᴰ (columns net .count + a .set) (cols (a .row)))
           → (a .rowType ≡ continuous) ⊎ ((a .set < length (exclusiveSets net)) × List·Memᴰ (columns net .count + a .set) (cols (getD rows p [])))
       moved (inl q) = inl q
-      moved (inr q) = inr (q .0, subst (λ (l : List ℕ). List·Memᴰ (columns net .count + a .set) l) (sym e) (q .1))
+      moved (inr q) = inr (q .0, subst (λ (l : List ℕ). List·Memᴰ (columns net .count + a .set) l) (sym (e .columns)) (q .1))
 
 virtual-storages-under : (n : ℕ) (vs : List VirtualStorage) (ps : List ℕ) → AllMem (λ (p : ℕ). p < n) ps → AllMem (λ (v : VirtualStorageShape). v .row < n) (placedVirtualStorages vs ps)
 unfolding placedVirtualStorages
@@ -222,13 +224,13 @@ module _ (w : Sentinel) (net : Network) (sound : Sound net) (old : Store) (room 
   store = builtStore old b
 
   abbrev joined : List (List Element)
-  joined = forVirtualStorages w net idle .rows
+  joined = forVirtualStorages w net .rows
 
   few : length (exclusiveSets net) ≤ 128
   few = sets-under net (programmeOf w net .programme) under
 
   fits : ProgrammeFits b
-  fits = programme-fits w net idle (sound .good) (requests-few net (sound .good) few) under
+  fits = programme-fits w net (sound .good) (requests-few net (sound .good) few) under
 
   counted : (i : ℕ) → i < 11 → getD (shapeAfter (old .shape) b) i 0 ≡ getD (countWords b) i 0
   counted = count-is old b (room .shape) (fits .tables)
@@ -321,9 +323,9 @@ module _ (w : Sentinel) (net : Network) (sound : Sound net) (old : Store) (room 
 
   joined-good : AllMem (Good-row net sound) joined
   joined-good =
-      joins-all (Good-row net sound) (map (virtualStorageRow (columnMap net)) (net .virtualStorages)) (record { rows = forAggregates w net idle .rows; places = [] })
+      joins-all (Good-row net sound) (map (virtualStorageRow (columnMap net)) (net .virtualStorages)) (record { rows = forAggregates w net .rows; places = [] })
       (all-map (Good-row net sound) (virtualStorageRow (columnMap net)) (net .virtualStorages) (λ v m. virtual-storage-good net sound v))
-      (joins-all (Good-row net sound) (map (aggregateRow (columnMap net)) (net .aggregates)) (record { rows = forNodes w net idle .rows; places = [] })
+      (joins-all (Good-row net sound) (map (aggregateRow (columnMap net)) (net .aggregates)) (record { rows = forNodes w net .rows; places = [] })
       (all-map (Good-row net sound) (aggregateRow (columnMap net)) (net .aggregates) (λ a m. aggregate-good net sound a))
       (joins-all (Good-row net sound) (map requestedRow (requestsFrom (columnMap net) 0 (net .nodes))) (record { rows = []; places = [] }) (requests-rise net sound) (all-none (Good-row net sound))))
 
@@ -385,7 +387,7 @@ module _ (w : Sentinel) (net : Network) (sound : Sound net) (old : Store) (room 
 
   built-node-rows : AllMem (NodeRowOk net sound joined) (b .shape .nodeRows)
   unfolding programmeOf assemble
-  built-node-rows = node-rows-ok net sound joined (requestsFrom (columnMap net) 0 (net .nodes)) (forNodes w net idle .places) (nodes-sit w net) (requests-ok net sound)
+  built-node-rows = node-rows-ok net sound joined (requestsFrom (columnMap net) 0 (net .nodes)) (forNodes w net .places) (nodes-placed w net) (requests-ok net sound)
 
   set-listed : (at : ℕ) (x : NodeRow) → NodeRowOk net sound joined x → word store (at + 1) ≡ x .row → word store (at + 2) ≡ rowTypeWord (x .rowType) → word store (at + 3) ≡ x .set
       → (x .rowType ≡ continuous) ⊎ ((x .set < length (exclusiveSets net)) × List·Memᴰ (columns net .count + x .set) (cols (getD joined (x .row) [])))
@@ -433,7 +435,7 @@ module _ (w : Sentinel) (net : Network) (sound : Sound net) (old : Store) (room 
   aggregates-ok =
       subst (λ (n : ℕ). T (allEntries (aggregateFits store) 1 aggregatesAt n)) (sym (counted 9 (lit≤ tt)))
       (row-all (shapeAfter (old .shape) b) (aggregateFits store) (length joined) (λ at x k e. ltb-is (word store at) x (varyingCount store) (length joined) e c5 k)
-      (b .shape .aggregates) aggregatesAt (places-under joined _ _ (aggregates-sit w net)) (aggregates-held (old .shape) b (room .shape) (fits .tables)))
+      (b .shape .aggregates) aggregatesAt (places-under joined _ _ (aggregates-placed w net)) (aggregates-held (old .shape) b (room .shape) (fits .tables)))
 
   virtual-storages-ok : T (allEntries (virtualStorageFits store) 6 virtualStoragesAt (virtualStorageCount store))
   unfolding builtStore virtualStorageFits virtualStorageWords countWords programmeOf assemble
@@ -445,7 +447,7 @@ module _ (w : Sentinel) (net : Network) (sound : Sound net) (old : Store) (room 
       (ltb-is (word store at) (x .row) (varyingCount store) (length joined) (first-word (shapeAfter (old .shape) b) at (virtualStorageWords x) h (lit≤ tt)) c5 k)
       (leb-is (word store (at + 1)) (flagWord (not (x .period .always))) 1 (word-at (shapeAfter (old .shape) b) at (virtualStorageWords x) h 1 (lit≤ tt)) (flag-most (not (x .period .always)))))
       (b .shape .virtualStorages) virtualStoragesAt
-      (virtual-storages-under (length joined) (net .virtualStorages) (forVirtualStorages w net idle .places) (places-under joined _ _ (virtual-storages-sit w net)))
+      (virtual-storages-under (length joined) (net .virtualStorages) (forVirtualStorages w net .places) (places-under joined _ _ (virtual-storages-placed w net)))
       (virtual-storages-held (old .shape) b (room .shape) (fits .tables)))
 
   -- a kind's limit in the store is that in the shape

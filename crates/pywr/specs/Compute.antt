@@ -35,13 +35,14 @@ use Rattle.pywr.specs.Written.{sentinelWord, rowTypeWord, flagWord, node
 use Rattle.pywr.specs.Written.{shapeAfter, startsFrom, columnsIn, valuesIn, lowerOf, upperOf, rowsOf, builtStore, steppedStore}
 use Rattle.pywr.specs.Calls.{cleared, buildRoom, buildAnswer, storeOfBuild, buildStore, buildWords, buildNumbers, stepRoom, stepRead}
 use Rattle.pywr.specs.Calls.{stepIntervals, stepAnswer, storeOfStep, stepStore, stepWork, isAccepted, rowAnswer, partOf, rowPart}
-use Rattle.pywr.specs.Plans.{exact, meets, unitsInOne, signed, isFinite, timesOne, lowerMet, upperMet, allFrom}
+use Rattle.pywr.specs.Plans.{exact, meets, unitsInOne, unitsIn1024th, signed, isFinite, timesOne, lowerMet, upperMet, allFrom}
 use Rattle.pywr.specs.Allows.{allows, flowWith, inflow, outflow, nodeAmount, nodesAmount, setsAmount, partsSum, balanced, ownInterval}
 use Rattle.pywr.specs.Allows.{nodeMeets, aggregateMeets, virtualStorageMeets, onAmount, exclusiveMeets, memberMeets, setsMeet, onCount, exclusivityMeets}
 use Rattle.pywr.specs.Admits.{admits, carried, equalInColumn, onColumn, rowSum, rowMet, columnMet}
 use Rattle.pywr.specs.Correspondence.{storeAfter, reports, lastAccepted, periodsOf, readBy, allowsRead, allowsUnder}
-use Rattle.pywr.specs.Correspondence.{networkAllows, programmeAdmits, exclusiveConstant, isWhole, factorsWhole, anyAccepted}
-use Rattle.pywr.specs.FileBytes.{w16, w32, w64, varying, constant, edge, setBytes, exclusive, virtualStorage, date, nodeStep, aggregateStep, virtualStorageStep}
+use Rattle.pywr.specs.Correspondence.{networkAllows, programmeAdmits, exclusiveConstant, factorLimit, isMultipleToLimit, factorsAreMultiples, factorsIn1024ths, factorsWhole, anyAccepted}
+use Rattle.pywr.specs.ExactElements.{occurrences, nodeTimes, factorSum}
+use Rattle.pywr.specs.FileBytes.{w16, w32, w64, varying, constant, edge, setBytes, exclusive, partBytes, virtualStorageOf, virtualStorage, date, nodeStep, aggregateStep, virtualStorageStep}
 
 -- the doubles
 unfoldable pub rounding : ℕ
@@ -88,15 +89,16 @@ storing = 0
 
 -- plans and the lists of steps
 unfoldable pub planning : ℕ
-unfolding unitsInOne signed exact isFinite timesOne lowerMet upperMet meets allFrom flowWith inflow outflow nodeAmount nodesAmount setsAmount partsSum
+unfolding unitsInOne unitsIn1024th signed exact isFinite timesOne lowerMet upperMet meets allFrom flowWith inflow outflow nodeAmount nodesAmount setsAmount partsSum
     balanced ownInterval nodeMeets aggregateMeets virtualStorageMeets onAmount exclusiveMeets memberMeets setsMeet onCount exclusivityMeets allows
     carried equalInColumn onColumn rowSum rowMet columnMet admits storeAfter reports lastAccepted periodsOf readBy allowsRead allowsUnder
-    networkAllows programmeAdmits exclusiveConstant isWhole factorsWhole anyAccepted
+    networkAllows programmeAdmits exclusiveConstant factorLimit isMultipleToLimit factorsAreMultiples factorsIn1024ths factorsWhole anyAccepted
+    occurrences nodeTimes factorSum
 planning = 0
 
 -- the bytes of files
 unfoldable pub writing : ℕ
-unfolding flatMap w16 w32 w64 varying constant edge setBytes exclusive virtualStorage date nodeStep aggregateStep virtualStorageStep
+unfolding flatMap w16 w32 w64 varying constant edge setBytes exclusive partBytes virtualStorageOf virtualStorage date nodeStep aggregateStep virtualStorageStep
 writing = 0
 
 unfoldable pub computing : ℕ

@@ -1,6 +1,6 @@
 -- Demand 3, as one statement over any list of steps. Assumes nothing.
 use mathlib.Core.Path.{_≡_}
-use Prim.Native.Nat.{ℕ, _/_, _%_}
+use Prim.Native.Nat.{ℕ, _*_, _%_}
 use mathlib.Core.List.{List, [], _∷_, map}
 use mathlib.Core.Bool.{Bool, true, false, cond, not, _&&_, _||_}
 use mathlib.Core.Option.{Option, none, some}
@@ -18,7 +18,7 @@ use Rattle.pywr.specs.StepFile.{StepFile, readStep}
 use Rattle.pywr.specs.StepIntervals.{intervals}
 use Rattle.pywr.specs.Store.{Store, programmeIn}
 use Rattle.pywr.specs.Calls.{buildAnswer, buildStore, stepAnswer, stepStore, isAccepted}
-use Rattle.pywr.specs.Plans.{exact, Plan, unitsInOne, allFrom}
+use Rattle.pywr.specs.Plans.{Amount, exact, Plan, unitsInOne, unitsIn1024th, allFrom}
 use Rattle.pywr.specs.Allows.{allows}
 use Rattle.pywr.specs.Admits.{admits}
 
@@ -83,30 +83,49 @@ programmeAdmits (value net) store plan = admits (columnMap net) (programmeIn sto
 unfoldable pub exclusiveConstant : Network → Bool
 exclusiveConstant net = allFrom (λ (number : ℕ) (node : Node). not (isExclusive (net .aggregates) number) || node .constant) 0 (net .nodes)
 
--- virtual-storage factors are whole, at most 1,000,000 in magnitude
-unfoldable pub isWhole : Part → Bool
-isWhole part = eqb (natAbs (exact (part .factor)) % unitsInOne) 0 && leb (natAbs (exact (part .factor)) / unitsInOne) 1000000
+-- the most that a factor may be in magnitude
+unfoldable pub factorLimit : Amount
+factorLimit = 1000000 * unitsInOne
 
+-- a virtual storage's factor is a whole multiple of the amount, and at most 1,000,000 in magnitude
+unfoldable pub isMultipleToLimit : Amount → Part → Bool
+isMultipleToLimit amount part = eqb (natAbs (exact (part .factor)) % amount) 0 && leb (natAbs (exact (part .factor))) factorLimit
+
+-- so is every factor of the network
+unfoldable pub factorsAreMultiples : Amount → Network → Bool
+factorsAreMultiples amount net =
+    allFrom (λ (number : ℕ) (v : VirtualStorage). allFrom (λ (index : ℕ) (part : Part). isMultipleToLimit amount part) 0 (v .parts)) 0 (net .virtualStorages)
+
+-- document 02, L14: "factors are whole multiples of 1/1024, at most 1,000,000 in magnitude". That "the sum of factors on each column" is then exact is no
+-- premise: `ExactElements`
+unfoldable pub factorsIn1024ths : Network → Bool
+factorsIn1024ths net = factorsAreMultiples unitsIn1024th net
+
+-- whole factors, a special case (`whole-in-1024ths`)
 unfoldable pub factorsWhole : Network → Bool
-factorsWhole net =
-    allFrom (λ (number : ℕ) (v : VirtualStorage). allFrom (λ (index : ℕ) (part : Part). isWhole part) 0 (v .parts)) 0 (net .virtualStorages)
+factorsWhole net = factorsAreMultiples unitsInOne net
 
 unfoldable pub anyAccepted : List Report → Bool
 anyAccepted [] = false
 anyAccepted (report ∷ rest) = report .accepted || anyAccepted rest
 
--- Demand 3: for every list of steps, refused ones included, from the store that any accepted build left: after the list, if at least one was accepted,
+-- For every list of steps, refused ones included, from the store that any accepted build left: after the list, if at least one was accepted,
 -- the programme admits each plan exactly if the network allows it under the last accepted step.
--- The build and each step have a work area of any length and content. Premises: nothing but these steps writes the store (`storeAfter`), and the two above.
-abbrev pub Correspondence : Type 0
-Correspondence =
+-- The build and each step have a work area of any length and content. Premises: nothing but these steps writes the store (`storeAfter`), exclusive nodes have
+-- constant bounds, and what is said of factors.
+abbrev pub CorrespondenceWhere : (Network → Bool) → Type 0
+CorrespondenceWhere factorsAllowed =
     (networkFile : List ℕ) (s : Sentinel) (old : Store) (words : List ℕ) (numbers : List Float) (net : Network)
     → parseNetwork networkFile ≡ value net
     → isAccepted (buildAnswer s networkFile old words numbers) ≡ true
     → exclusiveConstant net ≡ true
-    → factorsWhole net ≡ true
+    → factorsAllowed net ≡ true
     → (calls : List Call)
     → anyAccepted (reports (buildStore s networkFile old words numbers) calls) ≡ true
     → (plan : Plan)
     → programmeAdmits (parseNetwork networkFile) (storeAfter (buildStore s networkFile old words numbers) calls) plan
     ≡ networkAllows (parseNetwork networkFile) s (reports (buildStore s networkFile old words numbers) calls) plan
+
+-- Demand 3
+abbrev pub Correspondence : Type 0
+Correspondence = CorrespondenceWhere factorsIn1024ths

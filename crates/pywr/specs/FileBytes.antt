@@ -4,6 +4,7 @@ use mathlib.Core.List.{List, [], _∷_, _++_, flatMap}
 use lib.ListN.{length}
 use lib.Ieee.{Float, binary64, toBits}
 use Rattle.pywr.specs.Numbers.{zero64}
+use Rattle.pywr.specs.Network.{Part}
 
 -- an integer of two bytes, of four, and a double, little-endian
 unfoldable pub w16 : ℕ → List ℕ
@@ -32,9 +33,15 @@ setBytes set = length set ∷ flatMap w16 set
 unfoldable pub exclusive : ℕ → ℕ → List (List ℕ) → List ℕ
 exclusive least most sets = 65 ∷ 71 ∷ 1 ∷ length sets ∷ w32 least ++ w32 most ++ flatMap setBytes sets
 
--- a virtual storage of one node; a period is five bytes, 0 throughout for always
+unfoldable pub partBytes : Part → List ℕ
+partBytes part = w16 (part .node) ++ w64 (part .factor)
+
+-- a virtual storage, and one of one part; a period is five bytes, 0 throughout for always
+unfoldable pub virtualStorageOf : List ℕ → List Part → List ℕ
+virtualStorageOf period parts = 86 ∷ 83 ∷ period ++ length parts ∷ flatMap partBytes parts
+
 unfoldable pub virtualStorage : List ℕ → ℕ → Float → List ℕ
-virtualStorage period node factor = 86 ∷ 83 ∷ period ++ 1 ∷ w16 node ++ w64 factor
+virtualStorage period node factor = virtualStorageOf period (record { node = node; factor = factor } ∷ [])
 
 -- the records of a step file: `ST`, `NB`, `GB`, `VB`
 unfoldable pub date : ℕ → ℕ → Float → List ℕ

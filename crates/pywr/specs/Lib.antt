@@ -29,6 +29,7 @@ pub mod Plans
 pub mod Allows
 pub mod Admits
 pub mod Correspondence
+pub mod ExactElements
 pub mod RowMakers
 pub mod PortRun
 pub mod FileBytes

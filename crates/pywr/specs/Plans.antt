@@ -25,9 +25,12 @@ Product = ℤ
 abbrev pub product : SignedAmount → SignedAmount → Product
 product a b = a *ℤ b
 
--- 1.0 as an amount
+-- 1.0 as an amount, and 1/1024
 unfoldable pub unitsInOne : Amount
 unitsInOne = 2 ^ 1074
+
+unfoldable pub unitsIn1024th : Amount
+unitsIn1024th = 2 ^ 1064
 
 -- an amount as a product: it times 1.0
 unfoldable pub timesOne : SignedAmount → Product

@@ -6,10 +6,11 @@ import struct
 import sys
 
 FOLDER = pathlib.Path(__file__).resolve().parent.parent
-sys.path.append(str(FOLDER.parent.parent / "examples"))  # the records of network and step files: make.py, steps.py
+sys.path.append(str(FOLDER.parent.parent / "examples"))  # the records of network and step files: make.py, steps.py, returns.py
 
 from build_cases import CASES
 from commands import build, commands, counted, expected, title
+from factor_cases import factors
 from maker_cases import makers
 from step_cases import steps
 
@@ -40,6 +41,7 @@ def sample_of(data):  # from the title that starts with the mark
 builds()
 steps()
 makers()
+factors()
 stdin, stdout = FOLDER / "stdin", FOLDER / "stdout"
 lines = stdout.read_text().splitlines(keepends=True)
 kept = next((k for k, line in enumerate(lines) if line.startswith(MARK)), len(lines))

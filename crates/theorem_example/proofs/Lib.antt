@@ -1,3 +1,6 @@
+pub mod Sides
+pub mod FactorExample
+pub mod ReturnExample
 pub mod WorkedExample
 pub mod UncrossedExample
 pub mod EdgeExample

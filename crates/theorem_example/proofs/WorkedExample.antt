@@ -4,10 +4,9 @@ use mathlib.Core.Path.{_≡_, refl}
 use Prim.Native.Nat.{ℕ, suc, _*_}
 use mathlib.Core.List.{List, [], _∷_, _++_, map}
 use mathlib.Core.Bool.{Bool, true, false}
-use lib.ListN.{getD, replicate}
+use lib.ListN.{getD}
 use lib.IntN.{ℤ, pos, negℤ, negsuc}
 use lib.Ieee.{Float, fin, inf, neg}
-use Rattle.layout.specs.Layout.{wordsLength, numbersLength}
 use Rattle.pywr.specs.declared.Sentinel.the-variants.{Infinity}
 use Rattle.pywr.specs.declared.Interval.{Interval}
 use Rattle.pywr.specs.Result.{value, Result, refused}
@@ -18,14 +17,15 @@ use Rattle.pywr.specs.Rows.{element}
 use Rattle.pywr.specs.Programme.{Column, Row, Programme}
 use Rattle.pywr.specs.StepFile.{StepFile}
 use Rattle.pywr.specs.StepIntervals.{intervals}
-use Rattle.pywr.specs.Store.{Store, programmeIn}
-use Rattle.pywr.specs.Calls.{buildStore, stepAnswer}
+use Rattle.pywr.specs.Store.{programmeIn}
+use Rattle.pywr.specs.Calls.{stepAnswer}
 use Rattle.pywr.specs.Plans.{Plan, unitsInOne}
 use Rattle.pywr.specs.Allows.{nodeAmount, ownInterval}
-use Rattle.pywr.specs.Correspondence.{Call, storeAfter, Report, reports, periodsOf, readBy, networkAllows, programmeAdmits, exclusiveConstant, factorsWhole}
+use Rattle.pywr.specs.Correspondence.{storeAfter, periodsOf, readBy, exclusiveConstant, factorsIn1024ths}
 use Rattle.pywr.specs.FileBytes.{varying, constant, edge, date, nodeStep}
 use Rattle.pywr.specs.Compute.{computing}
 use Rattle.pywr.specs.Cases.{blank, work, whole, times, minusWhole}
+use Rattle.theorem_example.proofs.Sides.{ofNetwork, built, call, allowed, admitted}
 
 -- ---- the files
 
@@ -54,10 +54,6 @@ crossed : List ℕ
 crossed = step 3 (double 25) (double 20) 40
 
 -- ---- the network's side
-
-ofNetwork : {A : Type 0} → (Network → A) → A → Result Network → A
-ofNetwork get none (value net) = get net
-ofNetwork get none (refused number place) = none
 
 numbered : {A B : Type 0} → (ℕ → A → B) → ℕ → List A → List B
 numbered get n [] = []
@@ -89,12 +85,6 @@ planC = plan 25 24 28
 
 -- ---- both sides after a list of steps
 
-built : Store
-built = buildStore Infinity network blank (replicate wordsLength 0) (replicate numbersLength zero64)
-
-call : List ℕ → Call
-call file = record { file = file; work = work }
-
 -- the programme's costs and rows, and what either side says of the three plans
 pub record Outcome : Type 0 where
   costs : List Float
@@ -104,14 +94,12 @@ pub record Outcome : Type 0 where
 
 outcome : List (List ℕ) → Outcome
 outcome files =
-    let store : Store = storeAfter built (map call files) in
-    let told : List Report = reports built (map call files) in
-    let p : Programme = programmeIn store in
+    let p : Programme = programmeIn (storeAfter (built network) (map call files)) in
     record {
       costs = map (λ (c : Column). c .cost) (p .columns);
       rows = p .varying ++ p .fixed;
-      allowed = map (networkAllows (parseNetwork network) Infinity told) (planA ∷ planB ∷ planC ∷ []);
-      admitted = map (programmeAdmits (parseNetwork network) store) (planA ∷ planB ∷ planC ∷ []);
+      allowed = allowed network files (planA ∷ planB ∷ planC ∷ []);
+      admitted = admitted network files (planA ∷ planB ∷ planC ∷ []);
     }
 
 refusal : Result StepFile → ℕ × ℕ
@@ -136,7 +124,7 @@ interval lower upper = record { lower = lower; upper = upper }
 pub record Example : Type 0 where
   -- the premises of `Correspondence`
   constantOnly : ofNetwork exclusiveConstant false (parseNetwork network) ≡ true
-  wholeOnly : ofNetwork factorsWhole false (parseNetwork network) ≡ true
+  factors : ofNetwork factorsIn1024ths false (parseNetwork network) ≡ true
   -- 48.5, 40, −10 to 35 and 30; then 20, 40, −15 to 30 and 30
   firstIntervals : intervalsUnder first ≡ interval zero64 (fin false 97 (negsuc 0)) ∷ interval zero64 (times 5 3) ∷ interval (fin true 5 (pos 1)) (whole 35) ∷ interval zero64 (times 15 1) ∷ []
   secondIntervals : intervalsUnder second ≡ interval zero64 (times 5 2) ∷ interval zero64 (times 5 3) ∷ interval (minusWhole 15) (times 15 1) ∷ interval zero64 (times 15 1) ∷ []
@@ -149,16 +137,17 @@ pub record Example : Type 0 where
   afterSecond : outcome (first ∷ second ∷ [])
       ≡ record { costs = stepCostsAre; rows = rowsWith zero64 (times 5 2) (minusWhole 15) (times 15 1); allowed = false ∷ true ∷ false ∷ []; admitted = false ∷ true ∷ false ∷ [] }
   -- 14 at node 0, and all else as after the first
-  refused14 : refusal (stepAnswer built crossed work) ≡ (14, 0)
+  refused14 : refusal (stepAnswer (built network) crossed work) ≡ (14, 0)
   afterCrossed : outcome (first ∷ crossed ∷ [])
       ≡ record { costs = stepCostsAre; rows = rowsWith zero64 (times 5 3) (fin true 5 (pos 1)) (whole 35); allowed = true ∷ false ∷ false ∷ []; admitted = true ∷ false ∷ false ∷ [] }
 
 pub example : Example
-unfolding computing blank work network step first second crossed ofNetwork numbered ofStep intervalsUnder amountsOf plan planA planB planC built call outcome refusal rowsWith stepCostsAre interval
+unfolding computing blank work ofNetwork built call allowed admitted network step first second crossed numbered ofStep intervalsUnder amountsOf plan planA planB planC
+    outcome refusal rowsWith stepCostsAre interval
 example =
     record {
       constantOnly = refl;
-      wholeOnly = refl;
+      factors = refl;
       firstIntervals = refl;
       secondIntervals = refl;
       amountsA = refl;

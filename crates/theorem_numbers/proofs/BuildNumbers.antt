@@ -24,7 +24,7 @@ use Rattle.pywr.specs.Build.{edgeColumn, setColumn, allColumns, requestedRow, a
 use Rattle.pywr.proofs.BoundLaws.{IsBound, high-bound}
 use Rattle.pywr.proofs.MassLaws.{Every, every-append}
 use Rattle.pywr.proofs.ListLaws.{AllMem, all-none, all-append, all-map, every-mem}
-use Rattle.pywr.proofs.AmountLaws.{pipes-length}
+use Rattle.pywr.proofs.WeightLaws.{pipes-length}
 use Rattle.pywr.proofs.FitLaws.{columns-long}
 use Rattle.pywr.proofs.ShapeLaws.{joins-all}
 use Rattle.pywr.proofs.ReadLaws.{NodeOk, AggregateOk, Good}

@@ -21,7 +21,7 @@ use Rattle.pywr.proofs.ElementLaws.{add-none, add-cases}
 use Rattle.pywr.proofs.BoundLaws.{IsBound}
 use Rattle.pywr.proofs.MassLaws.{Every}
 use Rattle.pywr.proofs.ListLaws.{AllMem}
-use Rattle.pywr.proofs.AmountLaws.{columns-few}
+use Rattle.pywr.proofs.WeightLaws.{columns-few}
 use Rattle.pywr.proofs.ReadLaws.{AggregateOk, SetOk}
 use Rattle.theorem_numbers.proofs.SumBounds.{Within, mostTerms, add-within, wider, neg-within, zero-within, one-within, add-plain}
 use Rattle.theorem_numbers.proofs.ReadBounds.{SmallPart, SmallFactors}

@@ -5,7 +5,9 @@ mod chains;
 mod damage;
 pub mod encode;
 mod exclusive;
+pub mod fitted;
 mod numbers;
+pub mod plans;
 pub mod sized;
 mod small;
 mod steps;
@@ -43,9 +45,15 @@ const KINDS: [Kind; 9] = [
     ("bytes", 2, damage::bytes),
 ];
 
+/// The kind of a case, without the case.
+pub fn kind(seed: u64, index: u64) -> &'static str {
+    draw(&mut Random::of_case(seed, index)).0
+}
+
 pub fn case(seed: u64, index: u64) -> Case {
     let r = &mut Random::of_case(seed, index);
-    let (kind, network) = draw(r);
+    let (kind, _, make) = draw(r);
+    let network = make(r);
     let sentinel = if r.chance(50) { Sentinel::Infinity } else { Sentinel::LargestFinite };
     let steps = match NetworkFile::read(&network) {
         Ok(file) if file.check().is_ok() => steps::steps(r, &file),
@@ -54,13 +62,13 @@ pub fn case(seed: u64, index: u64) -> Case {
     Case { kind, network, sentinel, steps }
 }
 
-fn draw(r: &mut Random) -> (&'static str, Vec<u8>) {
+fn draw(r: &mut Random) -> Kind {
     let mut at = r.below(KINDS.iter().map(|k| k.1).sum());
-    for (name, share, make) in KINDS {
-        if at < share {
-            return (name, make(r));
+    for kind in KINDS {
+        if at < kind.1 {
+            return kind;
         }
-        at -= share;
+        at -= kind.1;
     }
     unreachable!()
 }

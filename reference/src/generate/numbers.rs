@@ -3,6 +3,7 @@ use crate::random::Random;
 
 const LEAST: f64 = f64::from_bits(1);
 const LARGEST_SUBNORMAL: f64 = f64::from_bits(0x000f_ffff_ffff_ffff);
+const MOST_1024THS: usize = 1_024_000_000;
 
 /// A flow bound: anything but NaN.
 pub fn flow(r: &mut Random) -> f64 {
@@ -82,6 +83,17 @@ pub fn amount(r: &mut Random) -> f64 {
         0..5 => everyday(r),
         5..9 => *r.pick(&limits),
         _ => Some(f64::from_bits(r.bits())).filter(|x| x.abs() <= 1e12).unwrap_or(2.0),
+    }
+}
+
+/// A factor that is a whole multiple of 1/1024, at most 1,000,000 in magnitude.
+pub fn in_1024ths(r: &mut Random) -> f64 {
+    let least = 1.0 / 1024.0;
+    let limits = [0.75, -0.75, 0.25, -0.5, 1.5, least, -least, 1.0 - least, 1e6, -1e6, 1e6 - least, least - 1e6];
+    match r.below(10) {
+        0..5 => *r.pick(&limits),
+        5..7 => (r.below(8193) as f64 - 4096.0) / 1024.0,
+        _ => (r.below(2 * MOST_1024THS + 1) as f64 - MOST_1024THS as f64) / 1024.0,
     }
 }
 

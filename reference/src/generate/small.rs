@@ -1,5 +1,5 @@
 //! Small networks of every kind of node, with aggregates and virtual storages.
-use super::numbers::{amount, interval};
+use super::numbers::{amount, in_1024ths, interval};
 use crate::NetworkFile;
 use crate::network_file::KINDS;
 use crate::random::Random;
@@ -96,9 +96,13 @@ pub fn add_virtual_storages(r: &mut Random, network: &mut NetworkFile, most: usi
     }
 }
 
+/// Its factors are small whole numbers, or multiples of 1/1024, or any.
 pub fn virtual_storage(r: &mut Random, count: usize, size: usize) -> VirtualStorageParts {
-    let whole = r.chance(40);
-    let factor = |r: &mut Random| if whole { r.below(7) as f64 - 3.0 } else { amount(r) };
+    let factor: fn(&mut Random) -> f64 = match r.below(10) {
+        0..3 => |r| r.below(7) as f64 - 3.0,
+        3..6 => in_1024ths,
+        _ => amount,
+    };
     VirtualStorageParts {
         period: r.chance(60).then(|| period(r)),
         nodes: (0..size).map(|_| (r.below(count), factor(r))).collect(),

@@ -1,0 +1,179 @@
+//! Document 01's rules for plans by hand, both sides: what each bound, sentinel, set and period lets pass.
+mod records;
+
+use pywr_reference::exact::Whole;
+use pywr_reference::plans::{Plan, network_allows, programme_admits};
+use pywr_reference::{NetworkFile, Reference, Sentinel};
+use records::*;
+
+const INF: f64 = f64::INFINITY;
+
+fn units(x: f64) -> Whole {
+    Whole::of_double(x)
+}
+
+/// The smallest unit more.
+fn over(x: f64) -> Whole {
+    &units(x) + &Whole::from(1)
+}
+
+fn under(x: f64) -> Whole {
+    &units(x) - &Whole::from(1)
+}
+
+/// Both sides' answer to a plan, which must be one.
+fn allowed(network: &[Vec<u8>], sentinel: Sentinel, step: &[Vec<u8>], amounts: &[Whole], on: &[bool]) -> bool {
+    let (network, step) = (network.concat(), step.concat());
+    let plan = Plan { amounts: amounts.to_vec(), on: on.to_vec() };
+    let mut reference = Reference::build(&network, sentinel).unwrap_or_else(|r| panic!("refused: {r}"));
+    reference.step(&step).unwrap_or_else(|r| panic!("refused: {r}"));
+    let allowed = network_allows(&NetworkFile::read(&network).unwrap(), sentinel, &step, &plan);
+    assert_eq!(programme_admits(reference.programme(), &reference.columns_of_edges(), sentinel, &plan), allowed, "{plan}");
+    allowed
+}
+
+fn free() -> Vec<u8> {
+    nb(0.0, -INF, INF, 0.0)
+}
+
+/// A storage that gives up to 1e15 a day, to an output.
+fn giving() -> [Vec<u8>; 3] {
+    [nd(STORAGE), nd(OUTPUT), ed(0, 1)]
+}
+
+fn day(days: f64) -> Vec<u8> {
+    st(6, 1, days)
+}
+
+/// Of the pair's amount, by the interval of an aggregate.
+#[test]
+fn sentinels_and_infinities() {
+    let max = f64::MAX;
+    let beyond = units(max).shifted(1);
+    let cases = [
+        ((-INF, INF), beyond.clone(), [true, true]),
+        ((INF, INF), beyond.clone(), [false, false]),
+        ((-INF, -INF), units(0.0), [false, false]),
+        ((0.0, max), units(max), [true, true]),
+        ((0.0, max), over(max), [false, true]),
+        ((0.0, max.next_down()), over(max.next_down()), [false, false]),
+        ((max, INF), units(max), [true, true]),
+        ((max, INF), under(max), [false, false]),
+        ((3.0, 2.0), units(2.5), [false, false]),
+        ((-0.0, 0.0), units(0.0), [true, true]),
+        ((0.0, 0.1), units(0.1), [true, true]),
+        ((0.0, 0.1), over(0.1), [false, false]),
+        ((0.1, 1.0), under(0.1), [false, false]),
+    ];
+    for ((lower, upper), amount, due) in cases {
+        for (sentinel, due) in [Sentinel::Infinity, Sentinel::LargestFinite].into_iter().zip(due) {
+            let step = [day(1.0), free(), free(), gb(lower, upper)];
+            let answer = allowed(&[pair(), plain(&[&[0]])], sentinel, &step, std::slice::from_ref(&amount), &[]);
+            assert_eq!(answer, due, "{lower} to {upper}, {sentinel:?}, {amount}");
+        }
+    }
+}
+
+/// The low sentinel: an aggregate of a storage three times, whose amount is under 0.
+#[test]
+fn the_low_sentinel_binds_nothing() {
+    let network = [&giving()[..], &[plain(&[&[0, 0], &[0]])]].concat();
+    let of = |lower: f64, sentinel| {
+        let step = [day(1.0 / 1024.0), nb(0.0, -1e12, 1e12, 1e12), free(), gb(lower, INF)];
+        allowed(&network, sentinel, &step, &[units(1e15)], &[])
+    };
+    assert!(of(-3e15, Sentinel::Infinity) && !of(-3e15 + 1.0, Sentinel::Infinity));
+    assert!(of(-INF, Sentinel::LargestFinite) && of(f64::MIN, Sentinel::LargestFinite) && of(f64::MIN, Sentinel::Infinity));
+}
+
+#[test]
+fn links_balance() {
+    let network = [nd(INPUT), nd(LINK), nd(OUTPUT), nd(OUTPUT), ed(0, 1), ed(1, 2), ed(1, 3)];
+    let step = [day(1.0), free(), free(), free(), free()];
+    let of = |amounts: [Whole; 3]| allowed(&network, Sentinel::Infinity, &step, &amounts, &[]);
+    assert!(of([units(5.0), units(2.0), units(3.0)]));
+    assert!(!of([units(5.0), units(2.0), over(3.0)]) && !of([under(5.0), units(2.0), units(3.0)]));
+    // One column for both edges of a link with one edge in and one out.
+    let chain = [nd(INPUT), nd(LINK), nd(OUTPUT), ed(0, 1), ed(1, 2)];
+    let of = |amounts: [Whole; 2]| allowed(&chain, Sentinel::Infinity, &step[..4], &amounts, &[]);
+    assert!(of([over(1.0), over(1.0)]) && !of([units(1.0), over(1.0)]));
+}
+
+/// A constant exclusive input, with its set on and off.
+#[test]
+fn exclusive_nodes() {
+    let of = |(min, max): (f64, f64), amount: Whole, on: bool| {
+        let network = [constant(INPUT, min, max), nd(OUTPUT), ed(0, 1), exclusive(&[&[0]], 0, 1)];
+        let step = [day(1.0), free(), free(), gb(-INF, INF)];
+        allowed(&network, Sentinel::Infinity, &step, &[amount], &[on])
+    };
+    assert!(of((0.0, 5.0), units(5.0), true) && !of((0.0, 5.0), over(5.0), true));
+    assert!(of((0.0, 5.0), units(0.0), true) && of((0.0, 5.0), units(0.0), false) && !of((0.0, 5.0), over(0.0), false));
+    assert!(of((0.0, 2e6), units(1e6), true) && !of((0.0, INF), over(1e6), true));
+    assert!(of((-3.0, 5.0), units(1e-6), true) && !of((-3.0, 5.0), under(1e-6), true) && of((-3.0, 5.0), units(0.0), false));
+    assert!(of((2.0, 5.0), units(2.0), true) && !of((2.0, 5.0), under(2.0), true) && of((2.0, 5.0), units(0.0), false));
+    assert!(of((1e-7, 5.0), units(1e-6), true) && !of((-INF, 5.0), units(1e-7), true));
+    assert!(!of((2e6, 3e6), units(2e6), true) && !of((-2.0, -1.0), units(0.0), true) && of((-2.0, -1.0), units(0.0), false));
+}
+
+/// Repeats count; sets in another order are other sets, and a node obeys each of its sets.
+#[test]
+fn sets_that_are_on() {
+    let of = |sets: &[&[u16]], min_active: u32, max_active: u32, amount: f64, on: &[bool]| {
+        let node = |kind| constant(kind, 0.0, 9.0);
+        let network = [node(INPUT), node(OUTPUT), ed(0, 1), exclusive(sets, min_active, max_active)];
+        allowed(&network, Sentinel::Infinity, &[day(1.0), free(), free(), gb(-INF, INF)], &[units(amount)], on)
+    };
+    assert!(of(&[&[0], &[0]], 2, 2, 4.0, &[true]) && !of(&[&[0], &[0]], 1, 1, 4.0, &[true]));
+    assert!(of(&[&[0], &[0]], 0, 1, 0.0, &[false]) && !of(&[&[0], &[0]], 1, 2, 0.0, &[false]));
+    assert!(of(&[&[0, 1], &[1, 0]], 2, 2, 4.0, &[true, true]) && !of(&[&[0, 1], &[1, 0]], 1, 1, 4.0, &[true, false]));
+    assert!(!of(&[&[0], &[1]], 1, 1, 4.0, &[true, false]) && of(&[&[0], &[1]], 1, 1, 0.0, &[false, true]));
+    assert!(!of(&[&[0]], u32::MAX, u32::MAX, 0.0, &[true]) && of(&[&[0]], 0, u32::MAX, 9.0, &[true]));
+}
+
+/// Volume 30 in a range of 10 to 100, 2 days: from -10 to 35.
+#[test]
+fn storages() {
+    let gives = |amount| {
+        let step = [day(2.0), nb(0.0, 10.0, 100.0, 30.0), free()];
+        allowed(&giving(), Sentinel::Infinity, &step, &[amount], &[])
+    };
+    assert!(gives(units(10.0)) && !gives(over(10.0)));
+    let takes = |amount| {
+        let step = [day(2.0), free(), nb(0.0, 10.0, 100.0, 30.0)];
+        allowed(&[nd(INPUT), nd(STORAGE), ed(0, 1)], Sentinel::Infinity, &step, &[amount], &[])
+    };
+    assert!(takes(units(35.0)) && !takes(over(35.0)));
+    // A third of a day's worth is the nearest double's.
+    let third = |amount| {
+        let step = [day(3.0), nb(0.0, 0.0, 1.0, 1.0), free()];
+        allowed(&giving(), Sentinel::Infinity, &step, &[amount], &[])
+    };
+    assert!(third(units(1.0 / 3.0)) && !third(over(1.0 / 3.0)));
+}
+
+/// 4 left of 10, from November to mid-February.
+#[test]
+fn virtual_storages_and_their_periods() {
+    let of = |(month, date): (u8, u8), factor: f64, amount: Whole| {
+        let network = [pair(), vs(Some([11, 1, 2, 15]), &[(0, factor)])];
+        let step = [st(month, date, 1.0), free(), free(), vb(0.0, 10.0, 4.0)];
+        allowed(&network, Sentinel::Infinity, &step, &[amount], &[])
+    };
+    assert!(of((12, 31), 1.0, units(4.0)) && !of((12, 31), 1.0, over(4.0)) && !of((2, 15), 1.0, over(4.0)));
+    assert!(of((2, 16), 1.0, over(4.0)) && of((10, 31), 1.0, units(1e300)) && !of((11, 1), 1.0, over(4.0)));
+    assert!(of((1, 1), -1.0, units(6.0)) && !of((1, 1), -1.0, over(6.0)));
+    assert!(of((1, 1), 0.75, units(5.25)) && !of((1, 1), 0.75, units(5.5)));
+    // Inactive it has the sentinels, which bind nothing beyond them either.
+    let network = [pair(), vs(Some([1, 1, 1, 1]), &[(0, 1.0)])];
+    let step = [day(1.0), free(), free(), vb(0.0, 1.0, 0.0)];
+    let beyond = [units(f64::MAX).shifted(1)];
+    assert!([Sentinel::Infinity, Sentinel::LargestFinite].iter().all(|&s| allowed(&network, s, &step, &beyond, &[])));
+    // Overdrawn or overfull, it lets nothing pass on that side.
+    let full = |min: f64, max: f64, factor: f64, amount: Whole| {
+        let step = [day(1.0), free(), free(), vb(min, max, 4.0)];
+        allowed(&[pair(), vs(None, &[(0, factor)])], Sentinel::Infinity, &step, &[amount], &[])
+    };
+    assert!(full(5.0, 10.0, 1.0, units(0.0)) && !full(5.0, 10.0, 1.0, over(0.0)) && full(5.0, 10.0, -1.0, units(6.0)));
+    assert!(full(0.0, 3.0, -1.0, units(0.0)) && !full(0.0, 3.0, -1.0, over(0.0)));
+}
