@@ -1,34 +1,57 @@
 //! Plans of generated networks, tried on both sides: where the premises hold, the network allows exactly what the programme admits.
+use crate::exact::Whole;
 use crate::generate::encode::{network_records, step_records};
-use crate::generate::fitted::fitted;
-use crate::generate::plans::{Planner, nearby, pushed};
+use crate::generate::fitted::{Fitted, fitted};
+use crate::generate::plans::{Planner, ones, pushed, units};
 use crate::generate::{self, Case};
 use crate::plans::*;
 use crate::random::Random;
 use crate::{NetworkFile, Programme, Reference, Sentinel, case_file};
 use pywr_core::network::VirtualStorageParts;
 use pywr_core::node::NodeType;
-use std::collections::BTreeMap;
+use std::collections::{BTreeMap, HashSet};
+use std::fmt;
 
 /// How much was tried.
-#[derive(Debug, Default)]
+#[derive(Default)]
 pub struct Tried {
+    /// Networks on which plans were tried; those with a fractional factor; with a column on which several parts of a virtual storage add.
     pub networks: usize,
-    /// Networks with a fractional factor; with a column on which several parts of a virtual storage add.
     pub with_fractions: usize,
     pub with_several_parts: usize,
-    /// Programmes after a step, once one was accepted.
+    /// Programmes after an accepted step.
     pub programmes: usize,
+    /// Plans that a network and a step were made to fit, and how many of them are allowed.
+    pub fitted: usize,
+    pub fitted_allowed: usize,
     pub plans: usize,
     pub allowed: usize,
-    pub forbidden: usize,
-    /// Forbidden by one rule alone: balance, node, aggregate, virtual storage, exclusive node, active sets.
-    pub by_one_rule: [usize; 6],
-    /// Allowed, with an amount of a virtual storage, which is not 0, on its bound: with whole factors, with a fractional one.
-    pub on_a_bound: [usize; 2],
-    /// A unit or 1 beside such a plan, and forbidden by that virtual storage alone.
-    pub a_unit_beside: [usize; 2],
-    pub one_beside: [usize; 2],
+    pub forbidden_by_one: ByRule,
+    /// Allowed, with an amount of a virtual storage, which is not 0, on its bound: once for each such virtual storage.
+    pub on_a_bound: ByFactors,
+    /// A unit or 1 beside such a plan, and forbidden by one of these virtual storages alone.
+    pub a_unit_beside: ByFactors,
+    pub one_beside: ByFactors,
+    /// The plans tried on the last programme: each is tried once.
+    seen: HashSet<Plan>,
+}
+
+/// Plans that one rule alone forbids.
+#[derive(Default)]
+pub struct ByRule {
+    balance: usize,
+    node: usize,
+    aggregate: usize,
+    virtual_storage: usize,
+    exclusive_node: usize,
+    active_sets: usize,
+}
+
+/// By the factors of the virtual storage.
+#[derive(Default)]
+pub struct ByFactors {
+    whole: usize,
+    fractional: usize,
 }
 
 impl Tried {
@@ -39,20 +62,91 @@ impl Tried {
         self.with_several_parts += file.virtual_storages.iter().any(several) as usize;
     }
 
+    fn start_programme(&mut self) {
+        self.programmes += 1;
+        self.seen.clear();
+    }
+
     fn count_plan(&mut self, broken: &[Rule]) {
         self.plans += 1;
-        *if broken.is_empty() { &mut self.allowed } else { &mut self.forbidden } += 1;
-        if let [rule] = broken {
-            let rule = match rule {
-                Rule::Balance(_) => 0,
-                Rule::Interval(Bounded::Node(_)) => 1,
-                Rule::Interval(Bounded::Aggregate(_)) => 2,
-                Rule::Interval(Bounded::VirtualStorage(_)) => 3,
-                Rule::Exclusive(..) => 4,
-                Rule::Active(_) => 5,
-            };
-            self.by_one_rule[rule] += 1;
+        match broken {
+            [] => self.allowed += 1,
+            [rule] => self.forbidden_by_one.count(*rule),
+            _ => {}
         }
+    }
+
+    pub fn forbidden(&self) -> usize {
+        self.plans - self.allowed
+    }
+}
+
+impl ByRule {
+    fn count(&mut self, rule: Rule) {
+        let plans = match rule {
+            Rule::Balance(_) => &mut self.balance,
+            Rule::Interval(Bounded::Node(_)) => &mut self.node,
+            Rule::Interval(Bounded::Aggregate(_)) => &mut self.aggregate,
+            Rule::Interval(Bounded::VirtualStorage(_)) => &mut self.virtual_storage,
+            Rule::Exclusive(..) => &mut self.exclusive_node,
+            Rule::Active(_) => &mut self.active_sets,
+        };
+        *plans += 1;
+    }
+
+    pub fn least(&self) -> usize {
+        let Self { balance, node, aggregate, virtual_storage, exclusive_node, active_sets } = *self;
+        [balance, node, aggregate, virtual_storage, exclusive_node, active_sets].into_iter().min().unwrap()
+    }
+}
+
+impl ByFactors {
+    fn count(&mut self, storage: &VirtualStorageParts) {
+        if has_fractions(storage) {
+            self.fractional += 1;
+        } else {
+            self.whole += 1;
+        }
+    }
+
+    pub fn least(&self) -> usize {
+        self.whole.min(self.fractional)
+    }
+}
+
+/// One line for each count.
+impl fmt::Display for Tried {
+    fn fmt(&self, f: &mut fmt::Formatter<'_>) -> fmt::Result {
+        writeln!(f, "networks: {}", self.networks)?;
+        writeln!(f, "  with fractional factors: {}", self.with_fractions)?;
+        writeln!(f, "  with several parts on a column: {}", self.with_several_parts)?;
+        writeln!(f, "programmes: {}", self.programmes)?;
+        if self.fitted > 0 {
+            writeln!(f, "fitted plans: {}", self.fitted)?;
+            writeln!(f, "  allowed: {}", self.fitted_allowed)?;
+        }
+        writeln!(f, "plans: {}", self.plans)?;
+        writeln!(f, "  allowed: {}", self.allowed)?;
+        writeln!(f, "  forbidden: {}", self.forbidden())?;
+        writeln!(f, "forbidden by one rule alone: {}", self.forbidden_by_one)?;
+        writeln!(f, "on a virtual storage's bound: {}", self.on_a_bound)?;
+        writeln!(f, "  2^-1074 beside: {}", self.a_unit_beside)?;
+        writeln!(f, "  1 beside: {}", self.one_beside)
+    }
+}
+
+impl fmt::Display for ByRule {
+    fn fmt(&self, f: &mut fmt::Formatter<'_>) -> fmt::Result {
+        let Self { balance, node, aggregate, virtual_storage, exclusive_node, active_sets } = self;
+        write!(f, "balance {balance}, node {node}, aggregate {aggregate}, virtual storage {virtual_storage}, ")?;
+        write!(f, "exclusive node {exclusive_node}, active sets {active_sets}")
+    }
+}
+
+impl fmt::Display for ByFactors {
+    fn fmt(&self, f: &mut fmt::Formatter<'_>) -> fmt::Result {
+        let Self { whole, fractional } = self;
+        write!(f, "{} (whole factors {whole}, fractional {fractional})", whole + fractional)
     }
 }
 
@@ -90,48 +184,69 @@ struct Sides<'a> {
 }
 
 impl Sides<'_> {
-    /// The rules that the plan breaks; an error if the sides differ.
-    fn compare(&self, plan: &Plan, tried: &mut Tried) -> Result<Vec<Rule>, String> {
+    /// The rules that the plan breaks, or none if it was tried before; an error if the sides differ.
+    fn compare(&self, plan: &Plan, tried: &mut Tried) -> Result<Option<Vec<Rule>>, String> {
+        if !tried.seen.insert(plan.clone()) {
+            return Ok(None);
+        }
         let broken: Vec<Rule> = self.network.broken(plan).collect();
         tried.count_plan(&broken);
+        if broken.is_empty() {
+            self.on_bounds(plan).iter().for_each(|&v| tried.on_a_bound.count(self.storage(v)));
+        }
         match first_miss(self.programme, self.columns_of_edges, self.sentinel, plan) {
             None if !broken.is_empty() => Err(format!("admitted, but the network forbids it by {broken:?}: {plan}")),
             Some(missed) if broken.is_empty() => Err(format!("allowed, but the programme misses {missed:?}: {plan}")),
-            _ => Ok(broken),
+            _ => Ok(Some(broken)),
         }
     }
 
-    /// Tries plans and, where one is allowed and on a virtual storage's bound, those beside it.
+    fn storage(&self, storage: usize) -> &VirtualStorageParts {
+        &self.network.file().virtual_storages[storage]
+    }
+
+    /// The virtual storages with an amount that is a bound of theirs, one that binds.
+    fn on_bounds(&self, plan: &Plan) -> Vec<usize> {
+        let binds = |bound: f64| bound.abs() < self.sentinel.high();
+        let is_on = |&v: &usize| {
+            let what = Bounded::VirtualStorage(v);
+            let (amount, (lower, upper)) = (self.network.amount(what, plan), self.network.interval(what));
+            !amount.is_zero() && [lower, upper].into_iter().any(|bound| binds(bound) && in_product_units(bound) == amount)
+        };
+        (0..self.network.file().virtual_storages.len()).filter(is_on).collect()
+    }
+
+    /// Tries plans and, where one is allowed and on bounds of virtual storages, those beside it.
     fn try_plans(&self, r: &mut Random, plans: &[Plan], tried: &mut Tried) -> Result<(), String> {
-        tried.programmes += 1;
         for plan in plans {
-            if self.compare(plan, tried)?.is_empty() {
-                let storages = 0..self.network.file().virtual_storages.len();
-                storages.filter(|&v| self.is_on_a_bound(v, plan)).try_for_each(|v| self.try_beside(r, plan, v, tried))?;
+            if self.compare(plan, tried)?.is_some_and(|broken| broken.is_empty()) {
+                self.try_beside(r, plan, tried)?;
             }
         }
         Ok(())
     }
 
-    /// Whether a virtual storage has an amount, and that is one of its bounds.
-    fn is_on_a_bound(&self, storage: usize, plan: &Plan) -> bool {
-        let what = Bounded::VirtualStorage(storage);
-        let (amount, (lower, upper)) = (self.network.amount(what, plan), self.network.interval(what));
-        !amount.is_zero() && [lower, upper].into_iter().any(|x| x.is_finite() && bound(x) == amount)
-    }
-
-    fn try_beside(&self, r: &mut Random, plan: &Plan, storage: usize, tried: &mut Tried) -> Result<(), String> {
-        let what = Bounded::VirtualStorage(storage);
-        let fractions = has_fractions(&self.network.file().virtual_storages[storage]) as usize;
-        tried.on_a_bound[fractions] += 1;
-        let Some(walk) = Planner::new(&self.network).walk_that_moves(r, what) else { return Ok(()) };
-        for (k, more) in nearby().iter().enumerate() {
-            let Some(beside) = pushed(plan, &walk, more) else { continue };
-            let alone = self.compare(&beside, tried)? == [Rule::Interval(what)];
-            let counts = if k % 2 == 0 { &mut tried.a_unit_beside } else { &mut tried.one_beside };
-            counts[fractions] += alone as usize;
+    fn try_beside(&self, r: &mut Random, plan: &Plan, tried: &mut Tried) -> Result<(), String> {
+        let on_bounds = self.on_bounds(plan);
+        for &v in &on_bounds {
+            let Some(walk) = Planner::new(&self.network).walk_that_moves(r, Bounded::VirtualStorage(v)) else { continue };
+            let alone = self.try_moved(plan, &walk, &units(), tried)?;
+            alone.iter().filter(|v| on_bounds.contains(v)).for_each(|&v| tried.a_unit_beside.count(self.storage(v)));
+            let alone = self.try_moved(plan, &walk, &ones(), tried)?;
+            alone.iter().filter(|v| on_bounds.contains(v)).for_each(|&v| tried.one_beside.count(self.storage(v)));
         }
         Ok(())
+    }
+
+    /// Tries the plan with each amount more along a walk. Of each that a virtual storage alone forbids, the virtual storage.
+    fn try_moved(&self, plan: &Plan, walk: &[usize], amounts: &[Whole], tried: &mut Tried) -> Result<Vec<usize>, String> {
+        let mut alone = Vec::new();
+        for moved in amounts.iter().filter_map(|more| pushed(plan, walk, more)) {
+            if let Some(&[Rule::Interval(Bounded::VirtualStorage(v))]) = self.compare(&moved, tried)?.as_deref() {
+                alone.push(v);
+            }
+        }
+        Ok(alone)
     }
 }
 
@@ -151,9 +266,11 @@ pub fn try_generated(seed: u64, index: u64, tried: &mut Tried) -> Result<(), Str
     }
     let Ok(mut reference) = Reference::build(&case.network, case.sentinel) else { return Ok(()) };
     let (columns_of_edges, r, mut accepted) = (reference.columns_of_edges(), &mut Random::of_case(!seed, index), None);
-    tried.count_network(&file, &columns_of_edges);
     for (k, step) in case.steps.iter().enumerate() {
-        accepted = reference.step(step).ok().map(|()| step).or(accepted);
+        if reference.step(step).is_ok() {
+            accepted = Some(step);
+            tried.start_programme();
+        }
         let Some(accepted) = accepted else { continue };
         let network = NetworkSide::new(&file, case.sentinel, accepted);
         let plans = Planner::new(&network).plans(r);
@@ -162,28 +279,63 @@ pub fn try_generated(seed: u64, index: u64, tried: &mut Tried) -> Result<(), Str
         let tell = |e| case_file::write(&case, &format!("seed {seed}, index {index}, step {k}: {e}"));
         sides.try_plans(r, &plans, tried).map_err(tell)?;
     }
+    if accepted.is_some() {
+        tried.count_network(&file, &columns_of_edges);
+    }
     Ok(())
 }
 
-/// Tries a network and a step that fit a plan, made from a case and taken behind its steps; `change` may put a fault into the programme.
-pub fn try_fitted(seed: u64, index: u64, change: fn(&mut Programme), tried: &mut Tried) -> Result<(), String> {
-    let Some(mut case) = case(seed, index) else { return Ok(()) };
-    let Ok(file) = NetworkFile::read(&case.network).and_then(|file| file.check().map(|()| file)) else { return Ok(()) };
-    let r = &mut Random::of_case(!seed, index);
-    let fit = fitted(r, file);
-    assert!(factors_are_in_1024ths(&fit.network) && exclusive_nodes_are_constant(&fit.network));
-    let last = step_records(&fit.step).concat();
-    case.network = network_records(&fit.network).concat();
-    case.steps.push(last.clone());
-    let Ok(mut reference) = Reference::build(&case.network, case.sentinel) else { return Ok(()) };
-    let answer = case.steps.iter().map(|step| reference.step(step)).last();
-    assert_eq!(answer, Some(Ok(())), "seed {seed}, index {index}: the step that fits");
-    let (columns_of_edges, mut programme) = (reference.columns_of_edges(), reference.programme().clone());
-    change(&mut programme);
-    tried.count_network(&fit.network, &columns_of_edges);
-    let network = NetworkSide::new(&fit.network, case.sentinel, &last);
-    let plans = Planner::new(&network).around(r, &fit.plan);
-    let sides = Sides { network, programme: &programme, columns_of_edges: &columns_of_edges, sentinel: case.sentinel };
-    let tell = |e| case_file::write(&case, &format!("seed {seed}, index {index}, fitted: {e}"));
-    sides.try_plans(r, &plans, tried).map_err(tell)
+/// A case whose network and last step were made to fit a plan, with the programme after its steps.
+pub struct FittedCase {
+    name: String,
+    case: Case,
+    network: NetworkFile,
+    plan: Plan,
+    programme: Programme,
+    columns_of_edges: Vec<usize>,
+    /// For the plans around the fitted one.
+    seed: u64,
+}
+
+impl FittedCase {
+    /// None if the case is left out, or its network is refused as generated or as changed.
+    pub fn new(seed: u64, index: u64) -> Option<Self> {
+        let mut case = case(seed, index)?;
+        let file = NetworkFile::read(&case.network).ok().filter(|file| file.check().is_ok())?;
+        let r = &mut Random::of_case(!seed, index);
+        let Fitted { network, step, plan } = fitted(r, file);
+        assert!(factors_are_in_1024ths(&network) && exclusive_nodes_are_constant(&network));
+        case.network = network_records(&network).concat();
+        case.steps.push(step_records(&step).concat());
+        let mut reference = Reference::build(&case.network, case.sentinel).ok()?;
+        let answer = case.steps.iter().map(|step| reference.step(step)).last();
+        assert_eq!(answer, Some(Ok(())), "seed {seed}, index {index}: the step that fits");
+        let (programme, columns_of_edges) = (reference.programme().clone(), reference.columns_of_edges());
+        let name = format!("seed {seed}, index {index}, fitted");
+        Some(Self { name, case, network, plan, programme, columns_of_edges, seed: r.bits() })
+    }
+
+    /// Tries the plan and others around it. An error is a case file, as of `try_generated`.
+    pub fn try_plans(&self, tried: &mut Tried) -> Result<(), String> {
+        tried.count_network(&self.network, &self.columns_of_edges);
+        self.compare(&self.programme, tried).map_err(|e| case_file::write(&self.case, &format!("{}: {e}", self.name)))
+    }
+
+    /// Whether the same plans tell that the programme has a fault.
+    pub fn finds(&self, fault: impl Fn(&mut Programme)) -> bool {
+        let mut programme = self.programme.clone();
+        fault(&mut programme);
+        self.compare(&programme, &mut Tried::default()).is_err()
+    }
+
+    fn compare(&self, programme: &Programme, tried: &mut Tried) -> Result<(), String> {
+        let (sentinel, step) = (self.case.sentinel, &self.case.steps[self.case.steps.len() - 1]);
+        let network = NetworkSide::new(&self.network, sentinel, step);
+        tried.start_programme();
+        tried.fitted += 1;
+        tried.fitted_allowed += network.allows(&self.plan) as usize;
+        let r = &mut Random::new(self.seed);
+        let plans = Planner::new(&network).around(r, &self.plan);
+        Sides { network, programme, columns_of_edges: &self.columns_of_edges, sentinel }.try_plans(r, &plans, tried)
+    }
 }

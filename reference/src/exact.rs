@@ -1,13 +1,14 @@
-//! Whole numbers of any size, with a sign. A finite double is a whole number of units of 2^-1074 and a product of two one of units of 2^-2148, so
-//! sums of either are exact.
+//! Whole numbers of any size, with a sign. A finite double is a whole number of units of 2^-1074, and a product of two doubles is a whole number
+//! of units of 2^-2148, so sums of doubles and sums of products are exact.
 use std::cmp::Ordering;
 use std::fmt;
+use std::iter::Sum;
 use std::ops::{Add, Mul, Neg, Sub};
 
-/// 1 is 2^ONE units of 2^-1074.
-pub const ONE: usize = 1074;
+/// 1 is 2^BITS_OF_ONE units of 2^-1074.
+pub const BITS_OF_ONE: usize = 1074;
 
-#[derive(Debug, Clone, Default, PartialEq, Eq)]
+#[derive(Debug, Clone, Default, PartialEq, Eq, Hash)]
 pub struct Whole {
     negative: bool,
     /// The magnitude, lowest limb first. The last limb is not 0; zero has no limb and no sign.
@@ -183,6 +184,18 @@ impl Mul for &Whole {
 
     fn mul(self, other: &Whole) -> Whole {
         Whole::new(self.negative != other.negative, product(&self.limbs, &other.limbs))
+    }
+}
+
+impl Sum for Whole {
+    fn sum<I: Iterator<Item = Whole>>(parts: I) -> Whole {
+        parts.fold(Whole::zero(), |sum, part| &sum + &part)
+    }
+}
+
+impl<'a> Sum<&'a Whole> for Whole {
+    fn sum<I: Iterator<Item = &'a Whole>>(parts: I) -> Whole {
+        parts.fold(Whole::zero(), |sum, part| &sum + part)
     }
 }
 

@@ -1,13 +1,14 @@
 //! Plans of document 01: which the network allows under a step, and which the programme admits. Each side is written from the document by
-//! itself; they share exact arithmetic and the test of a sum against two bounds.
-use crate::exact::{ONE, Whole};
+//! itself. They share exact arithmetic, the test of a sum against two bounds, and the readers of both files (`NetworkFile::read`,
+//! `step_file::read`), to which `compare` holds the port.
+use crate::exact::{BITS_OF_ONE, Whole};
 use crate::programme::Column;
 use crate::{NetworkFile, Programme, Sentinel, step_file};
 use pywr_core::node::NodeType;
 use pywr_core::state::State;
 use std::fmt;
 
-#[derive(Debug, Clone, PartialEq)]
+#[derive(Debug, Clone, PartialEq, Eq, Hash)]
 pub struct Plan {
     /// Of each edge, in units of 2^-1074; at least 0.
     pub amounts: Vec<Whole>,
@@ -24,6 +25,10 @@ impl Plan {
     pub fn of_doubles(amounts: &[f64], on: &[bool]) -> Self {
         Self { amounts: amounts.iter().map(|&x| Whole::of_double(x)).collect(), on: on.to_vec() }
     }
+
+    fn sum_over(&self, edges: &[usize]) -> Whole {
+        edges.iter().map(|&e| &self.amounts[e]).sum()
+    }
 }
 
 /// Amounts in units of 2^-1074, then the sets that are on.
@@ -37,7 +42,7 @@ impl fmt::Display for Plan {
 
 /// Premise of the correspondence: whole multiples of 1/1024, at most 1,000,000 in magnitude.
 pub fn is_in_1024ths(factor: f64) -> bool {
-    factor.abs() <= 1e6 && Whole::of_double(factor).is_multiple_of_power(ONE - 10)
+    factor.abs() <= 1e6 && Whole::of_double(factor).is_multiple_of_power(BITS_OF_ONE - 10)
 }
 
 pub fn factors_are_in_1024ths(file: &NetworkFile) -> bool {
@@ -51,28 +56,24 @@ pub fn exclusive_nodes_are_constant(file: &NetworkFile) -> bool {
 }
 
 /// A double in units of 2^-2148.
-pub fn bound(x: f64) -> Whole {
-    Whole::of_double(x).shifted(ONE)
+pub fn in_product_units(x: f64) -> Whole {
+    Whole::of_double(x).shifted(BITS_OF_ONE)
 }
 
 /// "lower +infinity [..] is met by none". Sums are in units of 2^-2148.
 fn at_least(sum: &Whole, lower: f64) -> bool {
-    if lower.is_finite() { *sum >= bound(lower) } else { lower < 0.0 }
+    if lower.is_finite() { *sum >= in_product_units(lower) } else { lower < 0.0 }
 }
 
 /// "upper -infinity is met by none".
 fn at_most(sum: &Whole, upper: f64) -> bool {
-    if upper.is_finite() { *sum <= bound(upper) } else { upper > 0.0 }
+    if upper.is_finite() { *sum <= in_product_units(upper) } else { upper > 0.0 }
 }
 
 /// "A lower bound at or under the low sentinel, or an upper at or over the high, binds nothing".
 fn lies_within(sum: &Whole, (lower, upper): (f64, f64), sentinel: Sentinel) -> bool {
     let high = sentinel.high();
     (lower <= -high || at_least(sum, lower)) && (upper >= high || at_most(sum, upper))
-}
-
-fn total<'a>(parts: impl Iterator<Item = &'a Whole>) -> Whole {
-    parts.fold(Whole::zero(), |sum, part| &sum + part)
 }
 
 /// What has an amount and an interval.
@@ -173,33 +174,29 @@ impl<'a> NetworkSide<'a> {
     }
 
     fn balances(&self, link: usize, plan: &Plan) -> bool {
-        let sum = |edges: &[usize]| total(edges.iter().map(|&e| &plan.amounts[e]));
-        sum(&self.incoming[link]) == sum(&self.outgoing[link])
+        plan.sum_over(&self.incoming[link]) == plan.sum_over(&self.outgoing[link])
     }
 
     /// "input and link use outgoing edges, output incoming, storage + incoming - outgoing", in units of 2^-1074.
     fn node_amount(&self, node: usize, plan: &Plan) -> Whole {
-        let sum = |edges: &[usize]| total(edges.iter().map(|&e| &plan.amounts[e]));
         match self.file.nodes[node].kind {
-            NodeType::Input | NodeType::Link => sum(&self.outgoing[node]),
-            NodeType::Output => sum(&self.incoming[node]),
-            NodeType::Storage => &sum(&self.incoming[node]) - &sum(&self.outgoing[node]),
+            NodeType::Input | NodeType::Link => plan.sum_over(&self.outgoing[node]),
+            NodeType::Output => plan.sum_over(&self.incoming[node]),
+            NodeType::Storage => &plan.sum_over(&self.incoming[node]) - &plan.sum_over(&self.outgoing[node]),
         }
     }
 
     /// In units of 2^-2148. An aggregate has "the node rows of every node listed", a virtual storage "minus factor times node row".
     pub fn amount(&self, what: Bounded, plan: &Plan) -> Whole {
         match what {
-            Bounded::Node(n) => self.node_amount(n, plan).shifted(ONE),
+            Bounded::Node(n) => self.node_amount(n, plan).shifted(BITS_OF_ONE),
             Bounded::Aggregate(a) => {
                 let listed = self.file.aggregates[a].sets.iter().flatten();
-                let amounts: Vec<Whole> = listed.map(|&n| self.node_amount(n, plan)).collect();
-                total(amounts.iter()).shifted(ONE)
+                listed.map(|&n| self.node_amount(n, plan)).sum::<Whole>().shifted(BITS_OF_ONE)
             }
             Bounded::VirtualStorage(v) => {
                 let parts = self.file.virtual_storages[v].nodes.iter();
-                let amounts = parts.map(|&(n, factor)| &Whole::of_double(factor) * &self.node_amount(n, plan));
-                -&total(amounts.collect::<Vec<_>>().iter())
+                -&parts.map(|&(n, factor)| &Whole::of_double(factor) * &self.node_amount(n, plan)).sum::<Whole>()
             }
         }
     }
@@ -231,8 +228,10 @@ impl<'a> NetworkSide<'a> {
 
     /// "at most min(max, 1e6) when on and 0 when off, and if min isn't 0 at least max(min, 1e-6) when on and 0 when off".
     fn obeys(&self, node: usize, on: bool, plan: &Plan) -> bool {
+        let kind = self.file.nodes[node].kind;
+        assert!(kind != NodeType::Storage, "an exclusive storage is never constant: the premise leaves it out");
         let (min, max) = self.interval(Bounded::Node(node));
-        let amount = self.node_amount(node, plan).shifted(ONE);
+        let amount = self.node_amount(node, plan).shifted(BITS_OF_ONE);
         let (least, most) = if on { (min.max(1e-6), max.min(1e6)) } else { (0.0, 0.0) };
         at_most(&amount, most) && (min == 0.0 || at_least(&amount, least))
     }
@@ -288,16 +287,15 @@ pub fn first_miss(programme: &Programme, columns_of_edges: &[usize], sentinel: S
     let amounts: Vec<&Whole> = amounts.into_iter().map(|amount| amount.expect("a column of an edge or of a set")).collect();
     let is_missed = |(column, amount): (&Column, &&Whole)| {
         let bounds = (column.lower, column.upper);
-        !lies_within(&amount.shifted(ONE), bounds, sentinel)
+        !lies_within(&amount.shifted(BITS_OF_ONE), bounds, sentinel)
     };
-    let missed = programme.columns.iter().zip(&amounts).map(is_missed).position(|missed| missed);
+    let missed = programme.columns.iter().zip(&amounts).position(is_missed);
     missed.map(Miss::Column).or_else(|| first_missed_row(programme, &amounts, sentinel))
 }
 
 fn first_missed_row(programme: &Programme, amounts: &[&Whole], sentinel: Sentinel) -> Option<Miss> {
     let missed = programme.rows.iter().position(|row| {
-        let parts = row.elements.iter().map(|&(column, element)| &Whole::of_double(element) * amounts[column]);
-        let sum = parts.fold(Whole::zero(), |sum, part| &sum + &part);
+        let sum = row.elements.iter().map(|&(column, element)| &Whole::of_double(element) * amounts[column]).sum();
         !lies_within(&sum, (row.lower, row.upper), sentinel)
     });
     missed.map(Miss::Row)

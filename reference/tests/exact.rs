@@ -1,5 +1,5 @@
 //! Exact arithmetic: beside i128, beside what doubles tell of their own rounding, and the laws that it must have.
-use pywr_reference::exact::{ONE, Whole};
+use pywr_reference::exact::{BITS_OF_ONE, Whole};
 use pywr_reference::random::Random;
 
 fn whole(n: i128) -> Whole {
@@ -27,6 +27,10 @@ fn units(x: f64) -> Whole {
     Whole::of_double(x)
 }
 
+fn magnitude(a: &Whole) -> Whole {
+    if a.is_negative() { -a } else { a.clone() }
+}
+
 #[test]
 fn as_i128_has_it() {
     let r = &mut Random::new(1);
@@ -51,8 +55,8 @@ fn as_i128_has_it() {
 fn units_of_doubles() {
     assert_eq!(units(f64::from_bits(1)), whole(1));
     assert_eq!(units(f64::MIN_POSITIVE), whole(1 << 52));
-    assert_eq!(units(-1.0), whole(-1).shifted(ONE));
-    assert_eq!(units(0.75), whole(3).shifted(ONE - 2));
+    assert_eq!(units(-1.0), whole(-1).shifted(BITS_OF_ONE));
+    assert_eq!(units(0.75), whole(3).shifted(BITS_OF_ONE - 2));
     assert_eq!(units(f64::MAX), whole((1 << 53) - 1).shifted(2045));
     assert!(units(0.0).is_zero() && units(-0.0).is_zero());
     assert!(std::panic::catch_unwind(|| units(f64::INFINITY)).is_err() && std::panic::catch_unwind(|| units(f64::NAN)).is_err());
@@ -77,7 +81,7 @@ fn sums_and_products_with_the_rests_of_their_roundings() {
         assert_eq!(&units(a) + &units(b), &units(sum) + &units(rest));
         let product = a * b;
         let rest = a.mul_add(b, -product);
-        assert_eq!(&units(a) * &units(b), (&units(product) + &units(rest)).shifted(ONE));
+        assert_eq!(&units(a) * &units(b), (&units(product) + &units(rest)).shifted(BITS_OF_ONE));
     }
 }
 
@@ -95,6 +99,27 @@ fn laws_over_the_whole_range() {
         assert_eq!((&a * &divisor).divided_by(&divisor), (!divisor.is_zero()).then_some(a));
     }
     assert_eq!(whole(1).divided_by(&whole(1 << 64 | 1)), None);
+}
+
+/// The quotient of numbers of several limbs is towards 0: the rest is under the divisor in magnitude and has not the other sign.
+#[test]
+fn quotients_with_a_rest() {
+    let r = &mut Random::new(5);
+    let mut rests = 0;
+    for _ in 0..20_000 {
+        let a = &(&units(double(r)) * &units(double(r))) + &units(double(r));
+        let limb = whole((r.bits() >> r.below(64)) as i128).shifted(r.below(2000));
+        let divisor = if r.chance(50) { -&limb } else { limb };
+        let Some(quotient) = a.divided_by(&divisor) else {
+            assert!(divisor.is_zero());
+            continue;
+        };
+        let rest = &a - &(&quotient * &divisor);
+        assert!(magnitude(&rest) < magnitude(&divisor), "{a} by {divisor}: {quotient}");
+        assert!(rest.is_zero() || rest.is_negative() == a.is_negative(), "{a} by {divisor}: {quotient}");
+        rests += (!rest.is_zero() && magnitude(&quotient) > whole(1).shifted(128)) as usize;
+    }
+    assert!(rests > 10_000, "{rests}");
 }
 
 #[test]

@@ -1,10 +1,12 @@
 //! Document 01's rules for plans by hand, both sides: what each bound, sentinel, set and period lets pass.
 mod records;
+mod sides;
 
+use pywr_reference::Sentinel;
 use pywr_reference::exact::Whole;
-use pywr_reference::plans::{Plan, network_allows, programme_admits};
-use pywr_reference::{NetworkFile, Reference, Sentinel};
+use pywr_reference::plans::Plan;
 use records::*;
+use sides::answers;
 
 const INF: f64 = f64::INFINITY;
 
@@ -23,12 +25,9 @@ fn under(x: f64) -> Whole {
 
 /// Both sides' answer to a plan, which must be one.
 fn allowed(network: &[Vec<u8>], sentinel: Sentinel, step: &[Vec<u8>], amounts: &[Whole], on: &[bool]) -> bool {
-    let (network, step) = (network.concat(), step.concat());
     let plan = Plan { amounts: amounts.to_vec(), on: on.to_vec() };
-    let mut reference = Reference::build(&network, sentinel).unwrap_or_else(|r| panic!("refused: {r}"));
-    reference.step(&step).unwrap_or_else(|r| panic!("refused: {r}"));
-    let allowed = network_allows(&NetworkFile::read(&network).unwrap(), sentinel, &step, &plan);
-    assert_eq!(programme_admits(reference.programme(), &reference.columns_of_edges(), sentinel, &plan), allowed, "{plan}");
+    let (allowed, admitted) = answers(&network.concat(), sentinel, &step.concat(), &plan);
+    assert_eq!(allowed, admitted, "{plan}");
     allowed
 }
 
@@ -74,9 +73,9 @@ fn sentinels_and_infinities() {
     }
 }
 
-/// The low sentinel: an aggregate of a storage three times, whose amount is under 0.
+/// An aggregate of a storage three times, whose amount is -3e15.
 #[test]
-fn the_low_sentinel_binds_nothing() {
+fn lower_bounds_of_an_amount_under_0() {
     let network = [&giving()[..], &[plain(&[&[0, 0], &[0]])]].concat();
     let of = |lower: f64, sentinel| {
         let step = [day(1.0 / 1024.0), nb(0.0, -1e12, 1e12, 1e12), free(), gb(lower, INF)];
@@ -84,6 +83,16 @@ fn the_low_sentinel_binds_nothing() {
     };
     assert!(of(-3e15, Sentinel::Infinity) && !of(-3e15 + 1.0, Sentinel::Infinity));
     assert!(of(-INF, Sentinel::LargestFinite) && of(f64::MIN, Sentinel::LargestFinite) && of(f64::MIN, Sentinel::Infinity));
+}
+
+/// An inactive virtual storage has the sentinels: an amount under -f64::MAX passes, and one over f64::MAX.
+#[test]
+fn sentinels_bind_nothing_beyond_the_largest_double() {
+    for (sentinel, factor) in [Sentinel::Infinity, Sentinel::LargestFinite].into_iter().flat_map(|s| [(s, 1.0), (s, -1.0)]) {
+        let network = [pair(), vs(Some([1, 1, 1, 1]), &[(0, factor)])];
+        let step = [day(1.0), free(), free(), vb(0.0, 1.0, 0.0)];
+        assert!(allowed(&network, sentinel, &step, &[units(f64::MAX).shifted(1)], &[]), "{sentinel:?}, {factor}");
+    }
 }
 
 #[test]
@@ -97,6 +106,46 @@ fn links_balance() {
     let chain = [nd(INPUT), nd(LINK), nd(OUTPUT), ed(0, 1), ed(1, 2)];
     let of = |amounts: [Whole; 2]| allowed(&chain, Sentinel::Infinity, &step[..4], &amounts, &[]);
     assert!(of([over(1.0), over(1.0)]) && !of([units(1.0), over(1.0)]));
+}
+
+/// An input's constant 1 to 4, an output's 2 to 3 by the step.
+#[test]
+fn inputs_and_outputs_by_their_own_bounds() {
+    let of = |network: &[Vec<u8>], output: Vec<u8>, amount: Whole| {
+        allowed(network, Sentinel::Infinity, &[day(1.0), free(), output], &[amount], &[])
+    };
+    let input = |amount| of(&[constant(INPUT, 1.0, 4.0), nd(OUTPUT), ed(0, 1)], free(), amount);
+    assert!(input(units(1.0)) && !input(under(1.0)) && input(units(4.0)) && !input(over(4.0)));
+    let output = |amount| of(&[pair()], nb(0.0, 2.0, 3.0, 0.0), amount);
+    assert!(output(units(2.0)) && !output(under(2.0)) && output(units(3.0)) && !output(over(3.0)));
+}
+
+/// A link of 5 to 7, constant or by the step, has the sum of its two outgoing edges.
+#[test]
+fn links_by_their_own_bounds() {
+    let edges = [ed(0, 1), ed(1, 2), ed(1, 3)];
+    for (link, bounds) in [(constant(LINK, 5.0, 7.0), free()), (nd(LINK), nb(0.0, 5.0, 7.0, 0.0))] {
+        let network = [&[nd(INPUT), link, nd(OUTPUT), nd(OUTPUT)][..], &edges].concat();
+        let step = [day(1.0), free(), bounds, free(), free()];
+        let of = |sum: Whole, rest: Whole| allowed(&network, Sentinel::Infinity, &step, &[sum, units(2.0), rest], &[]);
+        assert!(of(units(5.0), units(3.0)) && !of(under(5.0), under(3.0)) && !of(units(2.0), units(0.0)));
+        assert!(of(units(7.0), units(5.0)) && !of(over(7.0), over(5.0)));
+    }
+}
+
+/// The amount of a node without edges is 0: bounds without 0 between them allow no plan, others forbid none.
+#[test]
+fn nodes_without_edges() {
+    let of = |(min, max): (f64, f64), amount: f64| {
+        [(constant(INPUT, min, max), free()), (nd(OUTPUT), nb(0.0, min, max, 0.0))].map(|(node, bounds)| {
+            let (network, step) = ([nd(INPUT), nd(OUTPUT), node, ed(0, 1)], [day(1.0), free(), free(), bounds]);
+            allowed(&network, Sentinel::Infinity, &step, &[units(amount)], &[])
+        })
+    };
+    for amount in [0.0, 1.0, 1.5] {
+        assert_eq!([(1.0, 2.0), (f64::from_bits(1), INF), (-2.0, -1.0)].map(|bounds| of(bounds, amount)), [[false; 2]; 3]);
+        assert_eq!([(-1.0, 1.0), (0.0, 2.0), (0.0, 0.0)].map(|bounds| of(bounds, amount)), [[true; 2]; 3]);
+    }
 }
 
 /// A constant exclusive input, with its set on and off.
@@ -114,6 +163,24 @@ fn exclusive_nodes() {
     assert!(of((2.0, 5.0), units(2.0), true) && !of((2.0, 5.0), under(2.0), true) && of((2.0, 5.0), units(0.0), false));
     assert!(of((1e-7, 5.0), units(1e-6), true) && !of((-INF, 5.0), units(1e-7), true));
     assert!(!of((2e6, 3e6), units(2e6), true) && !of((-2.0, -1.0), units(0.0), true) && of((-2.0, -1.0), units(0.0), false));
+}
+
+/// A max at the finite sentinel still means at most 1e6.
+#[test]
+fn exclusive_nodes_under_the_finite_sentinel() {
+    let network = [constant(INPUT, 0.0, f64::MAX), nd(OUTPUT), ed(0, 1), exclusive(&[&[0]], 0, 1)];
+    let step = [day(1.0), free(), free(), gb(-INF, INF)];
+    let of = |amount, on| allowed(&network, Sentinel::LargestFinite, &step, &[amount], &[on]);
+    assert!(of(units(1e6), true) && !of(over(1e6), true) && of(units(0.0), false) && !of(over(0.0), false));
+}
+
+/// Of an input up to 9 in a set that is on: the aggregate's 2 to 3 bind too.
+#[test]
+fn exclusive_aggregates_by_their_own_bounds() {
+    let network = [constant(INPUT, 0.0, 9.0), nd(OUTPUT), ed(0, 1), exclusive(&[&[0]], 0, 1)];
+    let step = [day(1.0), free(), free(), gb(2.0, 3.0)];
+    let of = |amount| allowed(&network, Sentinel::Infinity, &step, &[amount], &[true]);
+    assert!(of(units(3.0)) && !of(over(3.0)) && !of(units(4.0)) && of(units(2.0)) && !of(under(2.0)));
 }
 
 /// Repeats count; sets in another order are other sets, and a node obeys each of its sets.
@@ -164,11 +231,6 @@ fn virtual_storages_and_their_periods() {
     assert!(of((2, 16), 1.0, over(4.0)) && of((10, 31), 1.0, units(1e300)) && !of((11, 1), 1.0, over(4.0)));
     assert!(of((1, 1), -1.0, units(6.0)) && !of((1, 1), -1.0, over(6.0)));
     assert!(of((1, 1), 0.75, units(5.25)) && !of((1, 1), 0.75, units(5.5)));
-    // Inactive it has the sentinels, which bind nothing beyond them either.
-    let network = [pair(), vs(Some([1, 1, 1, 1]), &[(0, 1.0)])];
-    let step = [day(1.0), free(), free(), vb(0.0, 1.0, 0.0)];
-    let beyond = [units(f64::MAX).shifted(1)];
-    assert!([Sentinel::Infinity, Sentinel::LargestFinite].iter().all(|&s| allowed(&network, s, &step, &beyond, &[])));
     // Overdrawn or overfull, it lets nothing pass on that side.
     let full = |min: f64, max: f64, factor: f64, amount: Whole| {
         let step = [day(1.0), free(), free(), vb(min, max, 4.0)];

@@ -15,7 +15,7 @@ pub struct Fitted {
     pub plan: Plan,
 }
 
-/// Keeps of a network, and of a generated step, what is not in the plan's way.
+/// Puts other numbers into a network and a generated step where theirs forbid the plan, and in some places where they allow it.
 pub fn fitted(r: &mut Random, mut network: NetworkFile) -> Fitted {
     keep_premises(r, &mut network);
     let amounts = amounts(r, &network);

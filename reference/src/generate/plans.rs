@@ -1,15 +1,16 @@
 //! Plans for a network under a step: amounts that balance at links, moved onto a bound and beside it; sets on where they must be.
 use crate::NetworkFile;
-use crate::exact::{ONE, Whole};
-use crate::plans::{Bounded, NetworkSide, Plan, Rule, bound};
+use crate::exact::{BITS_OF_ONE, Whole};
+use crate::plans::{Bounded, NetworkSide, Plan, Rule, in_product_units};
 use crate::random::Random;
 use pywr_core::node::NodeType;
+use std::mem::discriminant;
 
 /// How often a plan is moved onto a bound that it misses.
 const ROUNDS: usize = 12;
 
 /// Edges one behind the other, with links between them.
-pub type Walk = Vec<usize>;
+type Walk = Vec<usize>;
 
 /// Walks of a network.
 pub struct Walks<'a> {
@@ -36,7 +37,7 @@ impl<'a> Walks<'a> {
     }
 
     /// A walk over an edge of the node; none if it has no edge.
-    pub fn through(&self, r: &mut Random, node: usize) -> Option<Walk> {
+    fn through(&self, r: &mut Random, node: usize) -> Option<Walk> {
         let edges = [&self.incoming[node][..], &self.outgoing[node][..]].concat();
         (!edges.is_empty()).then(|| {
             let edge = *r.pick(&edges);
@@ -93,10 +94,14 @@ fn amount(r: &mut Random) -> Whole {
     }
 }
 
-/// The smallest unit and 1, each more and less.
-pub fn nearby() -> [Whole; 4] {
-    let (unit, one) = (Whole::from(1), Whole::from(1).shifted(ONE));
-    [-&unit, -&one, unit, one]
+/// The smallest unit, less and more.
+pub fn units() -> [Whole; 2] {
+    [Whole::from(-1), Whole::from(1)]
+}
+
+/// 1, less and more.
+pub fn ones() -> [Whole; 2] {
+    units().map(|unit| unit.shifted(BITS_OF_ONE))
 }
 
 /// Plans for one network under one step.
@@ -110,19 +115,19 @@ impl<'a> Planner<'a> {
         Self { side, walks: Walks::new(side.file()) }
     }
 
-    pub fn zero(&self) -> Plan {
+    fn zero(&self) -> Plan {
         Plan::zero(self.side.file().edges.len(), self.side.sets().len())
     }
 
     /// Amounts that mostly do not balance, on any set.
-    pub fn unbalanced(&self, r: &mut Random) -> Plan {
+    fn unbalanced(&self, r: &mut Random) -> Plan {
         let mut plan = self.zero();
         plan.amounts.iter_mut().for_each(|a| *a = if r.chance(50) { amount(r) } else { Whole::zero() });
         plan.on.iter_mut().for_each(|on| *on = r.chance(50));
         plan
     }
 
-    pub fn balanced(&self, r: &mut Random) -> Plan {
+    fn balanced(&self, r: &mut Random) -> Plan {
         let mut plan = self.zero();
         for _ in 0..r.between(1, 4) {
             let walk = self.walks.any(r);
@@ -132,7 +137,7 @@ impl<'a> Planner<'a> {
     }
 
     /// From the plan on, again and again onto a bound that it misses, if it then breaks no more rules than before.
-    pub fn repaired(&self, r: &mut Random, plan: Plan) -> Plan {
+    fn repaired(&self, r: &mut Random, plan: Plan) -> Plan {
         let mut plan = self.switched(r, plan);
         let mut broken: Vec<Rule> = self.side.broken(&plan).collect();
         for _ in 0..ROUNDS {
@@ -154,20 +159,20 @@ impl<'a> Planner<'a> {
     }
 
     /// Onto a bound of something, or as near to it as whole units come, by one walk: the bound that it misses if it misses one.
-    pub fn onto_bound(&self, r: &mut Random, plan: &Plan, what: Bounded) -> Option<(Plan, Walk)> {
+    fn onto_bound(&self, r: &mut Random, plan: &Plan, what: Bounded) -> Option<(Plan, Walk)> {
         let (lower, upper) = self.side.interval(what);
         let amount = self.side.amount(what, plan);
-        let misses_lower = lower.is_finite() && amount < bound(lower);
-        let misses_upper = upper.is_finite() && amount > bound(upper);
+        let misses_lower = lower.is_finite() && amount < in_product_units(lower);
+        let misses_upper = upper.is_finite() && amount > in_product_units(upper);
         let first = if misses_lower || !misses_upper && r.chance(50) { lower } else { upper };
         let target = [first, lower, upper].into_iter().find(|bound| bound.is_finite())?;
         let walk = self.walk_that_moves(r, what)?;
-        let more = (&bound(target) - &amount).divided_by(&self.slope(what, &walk))?;
+        let more = (&in_product_units(target) - &amount).divided_by(&self.slope(what, &walk))?;
         Some((pushed(plan, &walk, &more)?, walk))
     }
 
     /// What one unit along a walk makes of an amount.
-    pub fn slope(&self, what: Bounded, walk: &[usize]) -> Whole {
+    fn slope(&self, what: Bounded, walk: &[usize]) -> Whole {
         self.side.amount(what, &pushed(&self.zero(), walk, &Whole::from(1)).unwrap())
     }
 
@@ -188,7 +193,7 @@ impl<'a> Planner<'a> {
     }
 
     /// On are the sets with a node that has an amount, and others until each aggregate has enough.
-    pub fn switched(&self, r: &mut Random, mut plan: Plan) -> Plan {
+    fn switched(&self, r: &mut Random, mut plan: Plan) -> Plan {
         let file = self.side.file();
         let sets = self.side.sets();
         plan.on = (sets.iter())
@@ -221,7 +226,8 @@ impl<'a> Planner<'a> {
         plans
     }
 
-    /// A plan, and others around it: a unit more on one edge, a set switched; onto bounds and beside them, those of virtual storages first.
+    /// A plan, and others around it: a unit more on one edge, a set switched; onto bounds of up to three nodes, aggregates and virtual storages each,
+    /// and beside them.
     pub fn around(&self, r: &mut Random, plan: &Plan) -> Vec<Plan> {
         let edge = r.below(plan.amounts.len());
         let mut plans = vec![plan.clone(), pushed(plan, &[edge], &Whole::from(1)).unwrap()];
@@ -231,17 +237,18 @@ impl<'a> Planner<'a> {
             plans.push(switched);
         }
         let mut bounded: Vec<Bounded> = self.side.bounded().collect();
-        r.shuffle(&mut bounded);
-        bounded.sort_by_key(|what| !matches!(what, Bounded::VirtualStorage(_)));
-        for what in bounded.into_iter().take(5) {
-            plans.extend(self.onto_bound_and_beside(r, plan, what));
+        for kind in bounded.chunk_by_mut(|a, b| discriminant(a) == discriminant(b)) {
+            r.shuffle(kind);
+            for &what in kind.iter().take(3) {
+                plans.extend(self.onto_bound_and_beside(r, plan, what));
+            }
         }
         plans
     }
 
     fn onto_bound_and_beside(&self, r: &mut Random, plan: &Plan, what: Bounded) -> Vec<Plan> {
         let Some((plan, walk)) = self.onto_bound(r, plan, what) else { return Vec::new() };
-        let beside = nearby().map(|more| pushed(&plan, &walk, &more));
-        beside.into_iter().chain([Some(plan)]).flatten().collect()
+        let beside: Vec<Plan> = units().into_iter().chain(ones()).filter_map(|more| pushed(&plan, &walk, &more)).collect();
+        [vec![plan], beside].concat()
     }
 }
