@@ -21,6 +21,7 @@ use Rattle.pywr.proofs.ExactLaws.{finite-is}
 use Rattle.pywr.proofs.SumLaws.{AllUpto, weighed, onColumns}
 use Rattle.pywr.proofs.WeightLaws.{Factors, nodeWeight, partsWeight, nodeRoom, parts-weighed, parts-upto}
 use Rattle.pywr.proofs.JoinLaws.{cols, Alike, alike-is}
+use Rattle.pywr.proofs.ExclusiveLaws.{Under}
 use Rattle.pywr.proofs.FitLaws.{columns-long}
 use Rattle.pywr.proofs.FactorLaws.{limitIn1024ths, part-factors, parts-room}
 use Rattle.pywr.proofs.ReadLaws.{Sound, read-sound}
@@ -68,9 +69,9 @@ rising-least : (n least : ℕ) (row : List Element) → Rising n least row → (
 rising-least n least (x ∷ xs) (Rising.more a b r) e (List·Memᴰ·head q) = subst (λ (y : Element). least ≤ y .column) (sym q) a
 rising-least n least (x ∷ xs) (Rising.more a b r) e (List·Memᴰ·tail m) = let h = rising-least n (x .column + 1) xs r e m in omega arith
 
-pub rising-most : (n least : ℕ) (row : List Element) → Rising n least row → (e : Element) → List·Memᴰ e row → e .column < n
-rising-most n least (x ∷ xs) (Rising.more a b r) e (List·Memᴰ·head q) = subst (λ (y : Element). y .column < n) (sym q) b
-rising-most n least (x ∷ xs) (Rising.more a b r) e (List·Memᴰ·tail m) = rising-most n (x .column + 1) xs r e m
+pub rising-under : (n least : ℕ) (row : List Element) → Rising n least row → Under n row
+rising-under n least [] Rising.none = Under.none
+rising-under n least (x ∷ xs) (Rising.more a b r) = Under.more b (rising-under n (x .column + 1) xs r)
 
 -- where columns rise, an element is alone on its column
 alone : (n least : ℕ) (row : List Element) → Rising n least row → (e : Element) → List·Memᴰ e row → weighed (oneOn (e .column)) row ≡ exact (e .value)

@@ -5,7 +5,7 @@ use mathlib.Core.Logic.{_≢_}
 use Prim.Native.Nat.{ℕ, zero, suc, _+_, _<_}
 use native.Mathlib.Omega.{arith}
 use mathlib.Core.Bool.{Bool, true, cond}
-use mathlib.Core.List.{List, [], _∷_, map, List·Memᴰ·head, List·Memᴰ·tail}
+use mathlib.Core.List.{List, [], _∷_, map}
 use mathlib.Core.Option.{Option, none as no-file, some}
 use lib.ListN.{length, getD, getElem?, length-map}
 use lib.Ieee.{Float, neg}
@@ -29,32 +29,30 @@ use Rattle.pywr.specs.Calls.{buildAnswer, buildStore, isAccepted}
 use Rattle.pywr.specs.Correspondence.{Call, storeAfter, reports, lastAccepted, factorsIn1024ths}
 use Rattle.pywr.specs.ExactElements.{RowExact, ExactElementsKept}
 use Rattle.pywr.proofs.RowLaws.{elementsAt, adjust-keeps}
+use Rattle.pywr.proofs.ExclusiveLaws.{Under}
 use Rattle.pywr.proofs.JoinLaws.{Alike, Placed}
 use Rattle.pywr.proofs.AgainLaws.{step-columns}
 use Rattle.pywr.proofs.Represents.{Represents, programme-back, same-length}
 use Rattle.pywr.proofs.RunLaws.{after, after-held, Reached, run}
 use Rattle.pywr.proofs.VaryingLaws.{apply-elements, reset-elements}
-use Rattle.pywr.proofs.ListLaws.{AllMem, found-get, below-found, found-below, found-map, found-from-map, same-some, not-found}
+use Rattle.pywr.proofs.ListLaws.{found-get, below-found, found-below, found-map, found-from-map, same-some, not-found}
 use Rattle.pywr.proofs.ReadLaws.{Sound, read-sound}
 use Rattle.pywr.proofs.FitLaws.{asked, forVirtualStorages}
 use Rattle.pywr.proofs.StepMeets.{fresh-elements}
 use Rattle.pywr.proofs.ShapeLaws.{virtual-storage-rises}
-use Rattle.pywr.proofs.ElementSums.{rising-alike, rising-most, alike-exact}
+use Rattle.pywr.proofs.ElementSums.{rising-alike, rising-under, alike-exact}
 use Rattle.pywr.proofs.DemandThree.{build-accepted, build-represents}
 use Rattle.pywr.proofs.AcceptedLaws.{shape-is}
 
 -- ---- a step and a row without columns of sets
 
-abbrev Under : ℕ → List Element → Type 0
-Under n row = AllMem (λ (e : Element). e .column < n) row
-
 set-absent : (n k : ℕ) (x : Float) (row : List Element) → Under n row → setCoefficient (n + k) x row ≡ row
 unfolding setCoefficient
-set-absent n k x [] under = refl
-set-absent n k x (e ∷ es) under =
-    let apart : e .column ≢ n + k = (λ same. let h = under e (List·Memᴰ·head refl) in absurd (omega arith)) in
+set-absent n k x [] Under.none = refl
+set-absent n k x (e ∷ es) (Under.more h under) =
+    let apart : e .column ≢ n + k = (λ same. absurd (omega arith)) in
     ap (λ (b : Bool). cond b (element (n + k) x ∷ es) (e ∷ setCoefficient (n + k) x es)) (ne-eqb (e .column) (n + k) apart)
-    ∙ ap (λ (l : List Element). e ∷ l) (set-absent n k x es (λ y m. under y (List·Memᴰ·tail m)))
+    ∙ ap (λ (l : List Element). e ∷ l) (set-absent n k x es under)
 
 interval-keeps : (n k : ℕ) (type : RowType) (i : Interval) (x : Row) → Under n (x .elements) → applyInterval type (n + k) i x .elements ≡ x .elements
 unfolding applyInterval applyRowBounds withBounds withCoefficient
@@ -133,7 +131,7 @@ module _ (networkFile : List ℕ) (s : Sentinel) (old : Store) (words : List ℕ
     unfolding programmeOf assemble columnMap
     no-sets =
         subst (Under (columns net .count)) (sym built-elements)
-        (rising-most (columns net .count) 0 (getD joined p [])
+        (rising-under (columns net .count) 0 (getD joined p [])
         (rising-alike (columns net .count) 0 (getD joined p []) (virtualStorageRow (columnMap net) v) (same .columns) (virtual-storage-rises net sound v)))
 
     record Kept (t : Store) : Type 0 where
