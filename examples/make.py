@@ -1,7 +1,7 @@
 #!/usr/bin/env python3
 # Writes the example network files beside this script (flows in Ml/d).
-#   make.py           writes worked.network, supply.network, returns.network, intake.network, and refused/ with slips in the last
-#   make.py --dump    prints the records of the first four in hexadecimal, each with what it is
+#   make.py           writes worked.network, supply.network, returns.network, intake.network, pumps.network, and refused/ with slips in intake.network
+#   make.py --dump    prints the records of the first five in hexadecimal, each with what it is
 #   make.py --check   reads the written files by the rules and says what they hold, or how they are refused
 import itertools
 import math
@@ -91,6 +91,8 @@ INTAKE = [
     ("virtual storage 0, annual licence from 04-01 to 03-31 on the intake", virtual_storage([(0, 1.0)], (4, 1, 3, 31))),
     ("virtual storage 1, summer licence from 06-01 to 09-30 on the intake", virtual_storage([(0, 1.0)], (6, 1, 9, 30))),
 ]
+# intake.network with pumps whose limits each step brings
+PUMPS = INTAKE[:3] + [("node 3, pump 1, varying", node(LINK)), ("node 4, pump 2, varying", node(LINK))] + INTAKE[5:]
 # intake.network with one edge keyed wrongly: its number, its record, and the number of the refusal
 SLIPS = {
     "into_input": (5, edge(2, 1), 5),  # catchment inflow to reservoir, turned round
@@ -188,8 +190,10 @@ def check(name, records, data):
 
 
 here = pathlib.Path(__file__).resolve().parent
+NETWORKS = {"worked": WORKED, "supply": SUPPLY, "returns": RETURNS, "intake": INTAKE, "pumps": PUMPS}
 if __name__ == "__main__":
-    for name, records in (("worked.network", WORKED), ("supply.network", SUPPLY), ("returns.network", RETURNS), ("intake.network", INTAKE)):
+    for name, records in NETWORKS.items():
+        name += ".network"
         if "--dump" in sys.argv:
             print("# " + name)
             at = 0

@@ -2,7 +2,7 @@
 # A licence that counts a returned litre as three quarters: a step of one day for returns.network, and plans on the licence's bound and beside it (Ml/d).
 #   returns.py            writes returns.step, and returns.listing with what the stepper writes of it
 #   returns.py --dump     prints the step's records in hexadecimal, each with what it is
-#   returns.py --check    reads the written step by rules 12 to 14
+#   returns.py --check    reads the written step by rules 12 to 14 and 21
 #   returns.py --plans    prints what the licence counts under each plan, and whether the network allows it, in exact arithmetic
 import sys
 from fractions import Fraction

@@ -1,4 +1,5 @@
-# Step files as document 01 has them: their records, a reader by rules 12 to 14, and the text of a programme. Used by year.py, returns.py and for the cases of crates/test_cases.
+# Step files as document 01 has them: their records, a reader by rules 12 to 14 and 21, and the text of a programme. Used by year.py, pumps.py, returns.py
+# and for the cases of crates/test_cases.
 import math
 import struct
 
@@ -49,8 +50,17 @@ def tightened(held, by):  # larger lower, smaller upper
     return max(held[0], by[0]), min(held[1], by[1])
 
 
-def read_step(nodes, aggregates, storages, data):
-    # (kind, constant) of each node, the other counts and a file: its date, days, and the fields of its records, or Refused(number, place).
+def exclusive_rows(row, column, interval, maker, high=math.inf):
+    # a varying node's upper and lower row for a set's column, with the interval whose bounds stand; (1.0, 1.0) gives a fresh build's
+    least, most = interval
+    upper = {**{c: -x for c, x in row.items()}, column: most}
+    lower = {**row, column: -least}
+    return [(0.0, high, elements, maker) for elements in (upper, lower)]
+
+
+def read_step(nodes, aggregates, storages, data, exclusive=()):
+    # (kind, constant) of each node, the other counts and a file, the nodes that exclusive sets list: the file's date, days, and the fields of its
+    # records, or Refused(number, place) under the infinite sentinel.
     # 15 is retired: minus a number that is at least 0, over days, is not over one that is at least 0, over days
     at = place = 0
 
@@ -88,6 +98,7 @@ def read_step(nodes, aggregates, storages, data):
     for n, ((kind, constant), (_, low, high, volume)) in enumerate(zip(nodes, records[0])):
         low, high = storage_interval(low, high, volume, days) if kind == STORAGE else (low, high)
         ask(constant or low <= high, 14, n)
+        ask(constant or n not in exclusive or math.isfinite(low) and math.isfinite(high), 21, n)
     return ((month, day), days, *records)
 
 

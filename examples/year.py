@@ -2,7 +2,7 @@
 # Writes the example year: twelve monthly step files for intake.network (flows in Ml/d, volumes in Ml).
 #   year.py           writes year/01.step .. year/12.step
 #   year.py --dump    prints the records in hexadecimal, each with what it is
-#   year.py --check   reads the written files by rules 12 to 14 and says what they hold
+#   year.py --check   reads the written files by rules 12 to 14 and 21 and says what they hold
 import itertools
 import math
 import sys
@@ -39,9 +39,10 @@ def costs(month):
     return [WINTER[n] if n in WINTER and month in (11, 12, 1, 2) else cost for n, cost in enumerate(COSTS)]
 
 
-def records(month):  # each record with what it is
+def records(month, limits={}):  # each record with what it is; limits: lower and upper of pumps that vary, by node
     days, inflow, reservoir, service, works, town, pumps, annual, summer = YEAR[month - 1]
     varying = {1: (inflow, inflow, 0.0), 2: (500.0, 4000.0, reservoir), 7: (*works, 0.0), 9: (20.0, 80.0, service), 10: (*town, 0.0)}
+    varying.update({n: (*pair, 0.0) for n, pair in limits.items()})
     yield "%02d-01, %d days" % (month, days), date(month, 1, float(days))
     for n, cost in enumerate(costs(month)):
         yield "node %d, %s" % (n, NAMES[n]), node_step(cost, *varying.get(n, ()))
@@ -51,8 +52,8 @@ def records(month):  # each record with what it is
     yield "virtual storage 1, left of the summer licence", storage_step(0.0, 1200.0, summer)
 
 
-def step_file(month):
-    return b"".join(record for _, record in records(month))
+def step_file(month, make_records=records):
+    return b"".join(record for _, record in make_records(month))
 
 
 # The programme of intake.network: the column of each edge, the varying rows' elements, the fixed rows, who made the rows
@@ -69,14 +70,16 @@ MAKERS += [by(MASS, 5), by(MASS, 7)] + [by(NODE, n) for n in (0, 3, 4, 4, 5, 6, 
 PERIODS = [((4, 1), (3, 31)), ((6, 1), (9, 30))]
 NETWORK = read(b"".join(record for _, record in INTAKE))
 KINDS = [kind for kind, _, _ in NETWORK[0]]
-CONSTANT = [n not in (1, 2, 7, 9, 10) for n in range(13)]
+VARYING_NODES = 1, 2, 7, 9, 10
+EXCLUSIVE = [n for listed in NETWORK[2] for n in listed]
 
 
-def read_month(data):
-    return read_step(list(zip(KINDS, CONSTANT)), 2, 2, data)
+def read_month(data, varying=VARYING_NODES):
+    nodes = [(kind, n not in varying) for n, kind in enumerate(KINDS)]
+    return read_step(nodes, 2, 2, data, EXCLUSIVE)
 
 
-def programme(step):  # the text after an accepted step
+def rows(step):  # the varying and the fixed rows after an accepted step
     day, days, nodes, aggregates, storages = step
     pair = [n[1:3] for n in nodes]
     bounds = [pair[1], storage_interval(*nodes[2][1:], days), pair[7], storage_interval(*nodes[9][1:], days), pair[10], *aggregates]
@@ -84,43 +87,51 @@ def programme(step):  # the text after an accepted step
     for period, volumes in zip(PERIODS, storages):
         if is_active(period, day):
             licence = tightened(licence, virtual_interval(*volumes, days))
-    edges = [(*edge, column) for edge, column in zip(NETWORK[1], EDGE_COLUMNS)]
-    costs = column_costs(KINDS, edges, [n[0] for n in nodes]) + [0.0, 0.0]
     varying = [(*b, row, maker) for b, row, maker in zip([*bounds, licence], VARYING, MAKERS)]
-    return programme_text(9, costs, varying, [(*row, maker) for row, maker in zip(FIXED, MAKERS[len(VARYING) :])])
+    return varying, [(*row, maker) for row, maker in zip(FIXED, MAKERS[len(VARYING) :])]
 
 
-def answer(data):
+def programme(step, make_rows=rows):  # the text after an accepted step
+    edges = [(*edge, column) for edge, column in zip(NETWORK[1], EDGE_COLUMNS)]
+    edge_costs = column_costs(KINDS, edges, [n[0] for n in step[2]])
+    return programme_text(9, [*edge_costs, 0.0, 0.0], *make_rows(step))
+
+
+def answer(data, varying=VARYING_NODES, make_rows=rows):
     try:
-        return programme(read_month(data))
+        return programme(read_month(data, varying), make_rows)
     except Refused as refused:
         return ["N %d %d" % refused.args]
 
 
-def check(month, data):
+def listing(make_records=records, find_answer=answer):  # what the stepper writes of the twelve files
+    return [line for month in range(1, 13) for line in ["S %d" % (month - 1), *find_answer(step_file(month, make_records))]]
+
+
+def check(month, data, make_records=records, find_answer=answer):
     name = "%02d.step" % month
-    assert data == step_file(month), name + " is not what this script writes"
-    starts = [0, *itertools.accumulate(len(record) for _, record in records(month))]
+    assert data == step_file(month, make_records), name + " is not what this script writes"
+    starts = [0, *itertools.accumulate(len(record) for _, record in make_records(month))]
     for start, end in zip(starts, starts[1:]):  # cut inside a record, the file is refused with 12 there
-        assert all(answer(data[:cut]) == ["N 12 %d" % start] for cut in range(start, end))
-    assert answer(data + b"\0") == ["N 12 %d" % len(data)]  # and with a byte left over
-    lines = answer(data)
+        assert all(find_answer(data[:cut]) == ["N 12 %d" % start] for cut in range(start, end))
+    assert find_answer(data + b"\0") == ["N 12 %d" % len(data)]  # and with a byte left over
+    lines = find_answer(data)
     print("%s: %d bytes; %s" % (name, len(data), "accepted" if len(lines) > 1 else "refused, " + lines[0]))
 
 
-def dump():
+def dump(make_records=records):
     for month in range(1, 13):
         print("# %02d.step" % month)
         at = 0
-        for what, record in records(month):
+        for what, record in make_records(month):
             print("# %d: %s\n%s" % (at, what, record.hex(" ")))
             at += len(record)
 
 
-def write(folder):
+def write(folder, make_records=records):
     folder.mkdir(parents=True, exist_ok=True)
     for month in range(1, 13):
-        (folder / ("%02d.step" % month)).write_bytes(step_file(month))
+        (folder / ("%02d.step" % month)).write_bytes(step_file(month, make_records))
 
 
 if __name__ == "__main__":

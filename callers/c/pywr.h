@@ -17,7 +17,7 @@
  * A run may be longer. What lies beyond the counts is left as it was. A refused call leaves the store as it was, byte for byte.
  *
  * An answer is a number, 0 where the call is accepted, and a place. pywr_refusal_text has the words of each number, pywr_place_text what
- * its place is. 1 to 11, 19 and 20 are for the modeller (pywr_build), 12 to 14 for the data feed (pywr_step), 16 to 18 for the calling program:
+ * its place is. 1 to 11, 19 and 20 are for the modeller (pywr_build), 12 to 14 and 21 for the data feed (pywr_step), 16 to 18 for the calling program:
  * 16 from any call, 17 from pywr_step and pywr_row, 18 from pywr_row. 15: retired, never answered.
  */
 #ifndef PYWR_H
@@ -97,7 +97,7 @@ PywrAnswer pywr_build(
     uint32_t *row_starts, size_t row_starts_length, uint16_t *shape, size_t shape_length,
     uint16_t *words, size_t words_length, double *numbers, size_t numbers_length);
 
-/* Writes a step file's costs, bounds and coefficients into a built store, or refuses with 12 to 14, 16 or 17. */
+/* Writes a step file's costs, bounds and coefficients into a built store, or refuses with 12 to 14, 16, 17 or 21. */
 PywrAnswer pywr_step(
     const uint8_t *file, size_t file_length,
     const double *col_lower, size_t col_lower_length, const double *col_upper, size_t col_upper_length,
@@ -170,6 +170,7 @@ static inline const char *pywr_refusal_text(uint64_t number)
     case 18: return "row not under the count";
     case 19: return "edge from a node to itself";
     case 20: return "edge repeating the pair of an earlier edge";
+    case 21: return "varying exclusive node's bound at or beyond a sentinel";
     default: return "unknown refusal";
     }
 }
@@ -180,7 +181,7 @@ static inline const char *pywr_place_text(uint64_t number)
 {
     switch (number) {
     case 1: case 2: case 3: case 4: case 5: case 6: case 12: case 13: case 19: case 20: return "byte";
-    case 8: case 9: case 10: case 14: return "node";
+    case 8: case 9: case 10: case 14: case 21: return "node";
     case 18: return "row";
     default: return "";
     }

@@ -6,7 +6,7 @@
 
 int main(void)
 {
-    for (uint64_t number = 0; number <= 21; number++)
+    for (uint64_t number = 0; number <= 22; number++)
         printf("%" PRIu64 "|%s|%s\n", number, pywr_refusal_text(number), pywr_place_text(number));
     return 0;
 }

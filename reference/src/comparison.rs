@@ -1,6 +1,7 @@
 //! Runs the port beside the reference on one case.
 use crate::generate::Case;
 use crate::port::{Answer, Port};
+use crate::reference::InBoth;
 use crate::{LARGEST, RETIRED, Reference, Refusal, Sentinel};
 
 /// How often each answer came: at 0 accepted, at n refused with number n.
@@ -39,6 +40,7 @@ pub struct Tally {
     pub steps: Answers,
     pub builds_compared: u64,
     pub steps_compared: u64,
+    pub in_both: InBoth,
 }
 
 impl Tally {
@@ -49,6 +51,12 @@ impl Tally {
             Err(refusal) if refusal.number == RETIRED => Err(format!("the Rust answers {refusal}, which is retired")),
             _ => Ok(()),
         }
+    }
+
+    /// Counts what the altered and the unaltered Rust both ran of a case.
+    fn count_in_both(&mut self, reference: &Reference) {
+        self.in_both.builds += reference.in_both().builds;
+        self.in_both.steps += reference.in_both().steps;
     }
 
     /// How often the Rust reached the retired number.
@@ -74,7 +82,9 @@ pub fn compare(case: &Case, port: &mut Option<Box<dyn Port>>, tally: &mut Tally)
             if port.columns_of_edges().is_some_and(|columns| columns != reference.columns_of_edges()) {
                 return Err("build: the columns of edges differ".into());
             }
-            compare_steps(case, &mut reference, port, tally)
+            compare_steps(case, &mut reference, port, tally)?;
+            tally.count_in_both(&reference);
+            Ok(())
         }
         Err(_) => Ok(()),
     }
@@ -101,6 +111,7 @@ fn run_alone(case: &Case, sentinel: Sentinel, tally: &mut Tally) -> Result<(), S
         for (k, step) in case.steps.iter().enumerate() {
             tally.count_step(reference.step(step)).map_err(|e| format!("step {k}: {e}"))?;
         }
+        tally.count_in_both(&reference);
     }
     Ok(())
 }

@@ -1,9 +1,10 @@
-//! Plans of generated networks, tried on both sides: where the premises hold, the network allows exactly what the programme admits.
-use crate::exact::Whole;
+//! Plans of generated networks, tried on both sides: where the premise on factors holds, the network allows exactly what the programme admits.
+use crate::exact::{BITS_OF_ONE, Whole};
 use crate::generate::encode::{network_records, step_records};
 use crate::generate::fitted::{Fitted, fitted};
 use crate::generate::plans::{Planner, ones, pushed, units};
 use crate::generate::{self, Case};
+use crate::makers::have_equal_rows;
 use crate::plans::*;
 use crate::random::Random;
 use crate::{NetworkFile, Programme, Reference, Sentinel, case_file};
@@ -19,6 +20,8 @@ pub struct Tried {
     pub networks: usize,
     pub with_fractions: usize,
     pub with_several_parts: usize,
+    /// With a varying exclusive node.
+    pub with_varying_exclusive: usize,
     /// Programmes after an accepted step.
     pub programmes: usize,
     /// Plans that a network and a step were made to fit, and how many of them are allowed.
@@ -32,6 +35,12 @@ pub struct Tried {
     /// A unit or 1 beside such a plan, and forbidden by one of these virtual storages alone.
     pub a_unit_beside: ByFactors,
     pub one_beside: ByFactors,
+    /// Allowed, with an amount of a varying exclusive node, which is not 0, on its bound: once for each such node and set, which is on.
+    pub on_an_exclusive_bound: OfExclusive,
+    /// Forbidden by a varying exclusive node alone, whose set is on and whose amount is a unit beyond a bound.
+    pub a_unit_beyond: OfExclusive,
+    /// Forbidden by varying exclusive nodes of one set alone, which is off.
+    pub off: OfExclusive,
     /// The plans tried on the last programme: each is tried once.
     seen: HashSet<Plan>,
 }
@@ -43,8 +52,17 @@ pub struct ByRule {
     node: usize,
     aggregate: usize,
     virtual_storage: usize,
-    exclusive_node: usize,
+    constant_exclusive: usize,
+    varying_exclusive: usize,
     active_sets: usize,
+}
+
+/// By the rows of the varying exclusive node: its set's alone, or shared with another varying node of the set; of these two, storages.
+#[derive(Default)]
+pub struct OfExclusive {
+    own_rows: usize,
+    shared_rows: usize,
+    storages: usize,
 }
 
 /// By the factors of the virtual storage.
@@ -60,6 +78,7 @@ impl Tried {
         self.networks += 1;
         self.with_fractions += file.virtual_storages.iter().any(has_fractions) as usize;
         self.with_several_parts += file.virtual_storages.iter().any(several) as usize;
+        self.with_varying_exclusive += !file.varying_exclusive_nodes().is_empty() as usize;
     }
 
     fn start_programme(&mut self) {
@@ -88,15 +107,23 @@ impl ByRule {
             Rule::Interval(Bounded::Node(_)) => &mut self.node,
             Rule::Interval(Bounded::Aggregate(_)) => &mut self.aggregate,
             Rule::Interval(Bounded::VirtualStorage(_)) => &mut self.virtual_storage,
-            Rule::Exclusive(..) => &mut self.exclusive_node,
+            Rule::ConstantExclusive(..) => &mut self.constant_exclusive,
+            Rule::VaryingExclusive(..) => &mut self.varying_exclusive,
             Rule::Active(_) => &mut self.active_sets,
         };
         *plans += 1;
     }
 
     pub fn least(&self) -> usize {
-        let Self { balance, node, aggregate, virtual_storage, exclusive_node, active_sets } = *self;
-        [balance, node, aggregate, virtual_storage, exclusive_node, active_sets].into_iter().min().unwrap()
+        let Self { balance, node, aggregate, virtual_storage, constant_exclusive, varying_exclusive, active_sets } = *self;
+        let exclusive = constant_exclusive.min(varying_exclusive);
+        [balance, node, aggregate, virtual_storage, exclusive, active_sets].into_iter().min().unwrap()
+    }
+}
+
+impl OfExclusive {
+    pub fn least(&self) -> usize {
+        self.own_rows.min(self.shared_rows).min(self.storages)
     }
 }
 
@@ -120,6 +147,7 @@ impl fmt::Display for Tried {
         writeln!(f, "networks: {}", self.networks)?;
         writeln!(f, "  with fractional factors: {}", self.with_fractions)?;
         writeln!(f, "  with several parts on a column: {}", self.with_several_parts)?;
+        writeln!(f, "  with varying exclusive nodes: {}", self.with_varying_exclusive)?;
         writeln!(f, "programmes: {}", self.programmes)?;
         if self.fitted > 0 {
             writeln!(f, "fitted plans: {}", self.fitted)?;
@@ -131,15 +159,25 @@ impl fmt::Display for Tried {
         writeln!(f, "forbidden by one rule alone: {}", self.forbidden_by_one)?;
         writeln!(f, "on a virtual storage's bound: {}", self.on_a_bound)?;
         writeln!(f, "  2^-1074 beside: {}", self.a_unit_beside)?;
-        writeln!(f, "  1 beside: {}", self.one_beside)
+        writeln!(f, "  1 beside: {}", self.one_beside)?;
+        writeln!(f, "on a varying exclusive node's bound: {}", self.on_an_exclusive_bound)?;
+        writeln!(f, "  2^-1074 beyond: {}", self.a_unit_beyond)?;
+        writeln!(f, "forbidden by varying exclusive nodes of one set that is off: {}", self.off)
     }
 }
 
 impl fmt::Display for ByRule {
     fn fmt(&self, f: &mut fmt::Formatter<'_>) -> fmt::Result {
-        let Self { balance, node, aggregate, virtual_storage, exclusive_node, active_sets } = self;
+        let Self { balance, node, aggregate, virtual_storage, constant_exclusive, varying_exclusive, active_sets } = self;
         write!(f, "balance {balance}, node {node}, aggregate {aggregate}, virtual storage {virtual_storage}, ")?;
-        write!(f, "exclusive node {exclusive_node}, active sets {active_sets}")
+        write!(f, "exclusive node, constant {constant_exclusive}, varying {varying_exclusive}, active sets {active_sets}")
+    }
+}
+
+impl fmt::Display for OfExclusive {
+    fn fmt(&self, f: &mut fmt::Formatter<'_>) -> fmt::Result {
+        let Self { own_rows, shared_rows, storages } = self;
+        write!(f, "{} (own rows {own_rows}, shared {shared_rows}; storages {storages})", own_rows + shared_rows)
     }
 }
 
@@ -152,6 +190,10 @@ impl fmt::Display for ByFactors {
 
 pub fn has_fractions(storage: &VirtualStorageParts) -> bool {
     storage.nodes.iter().any(|&(_, factor)| factor.fract() != 0.0)
+}
+
+fn is_of_set(rule: &Rule, set: usize) -> bool {
+    matches!(rule, Rule::VaryingExclusive(_, k) if *k == set)
 }
 
 /// What a virtual storage's parts add to each column, in the order of the parts: "minus factor times node row".
@@ -191,14 +233,61 @@ impl Sides<'_> {
         }
         let broken: Vec<Rule> = self.network.broken(plan).collect();
         tried.count_plan(&broken);
-        if broken.is_empty() {
-            self.on_bounds(plan).iter().for_each(|&v| tried.on_a_bound.count(self.storage(v)));
-        }
+        self.count_bounds(plan, &broken, tried);
         match first_miss(self.programme, self.columns_of_edges, self.sentinel, plan) {
             None if !broken.is_empty() => Err(format!("admitted, but the network forbids it by {broken:?}: {plan}")),
             Some(missed) if broken.is_empty() => Err(format!("allowed, but the programme misses {missed:?}: {plan}")),
             _ => Ok(Some(broken)),
         }
+    }
+
+    /// Counts what stands on bounds in an allowed plan, and the varying exclusive nodes that alone forbid another.
+    fn count_bounds(&self, plan: &Plan, broken: &[Rule], tried: &mut Tried) {
+        match *broken {
+            [] => {
+                self.on_bounds(plan).iter().for_each(|&v| tried.on_a_bound.count(self.storage(v)));
+                for (n, k) in self.on_exclusive_bounds(plan) {
+                    self.count_exclusive(&mut tried.on_an_exclusive_bound, n, k);
+                }
+            }
+            [Rule::VaryingExclusive(n, k), ..] if !plan.on[k] && broken.iter().all(|rule| is_of_set(rule, k)) => {
+                self.count_exclusive(&mut tried.off, n, k)
+            }
+            [Rule::VaryingExclusive(n, k)] if self.is_a_unit_beyond(n, plan) => {
+                self.count_exclusive(&mut tried.a_unit_beyond, n, k)
+            }
+            _ => {}
+        }
+    }
+
+    fn count_exclusive(&self, counts: &mut OfExclusive, node: usize, set: usize) {
+        let file = self.network.file();
+        let equal = |m: usize| have_equal_rows(file, self.columns_of_edges, m, node);
+        let shares = |&m: &usize| m != node && file.nodes[m].constant.is_none() && equal(m);
+        if self.network.sets()[set].iter().any(shares) {
+            counts.shared_rows += 1;
+        } else {
+            counts.own_rows += 1;
+        }
+        counts.storages += (file.nodes[node].kind == NodeType::Storage) as usize;
+    }
+
+    /// The varying exclusive nodes with an amount, which is not 0, on a bound, and their sets that are on.
+    fn on_exclusive_bounds(&self, plan: &Plan) -> Vec<(usize, usize)> {
+        let is_on_bound = |n: usize| {
+            let (lower, upper) = self.network.interval(Bounded::Node(n));
+            let amount = self.network.amount(Bounded::Node(n), plan);
+            !amount.is_zero() && [lower, upper].map(in_product_units).contains(&amount)
+        };
+        let varies = |n: usize| self.network.file().nodes[n].constant.is_none();
+        self.network.listed().filter(|&(n, k)| plan.on[k] && varies(n) && is_on_bound(n)).collect()
+    }
+
+    fn is_a_unit_beyond(&self, node: usize, plan: &Plan) -> bool {
+        let (lower, upper) = self.network.interval(Bounded::Node(node));
+        let amount = self.network.amount(Bounded::Node(node), plan);
+        let unit = Whole::from(1).shifted(BITS_OF_ONE);
+        [&in_product_units(lower) - &unit, &in_product_units(upper) + &unit].contains(&amount)
     }
 
     fn storage(&self, storage: usize) -> &VirtualStorageParts {
@@ -261,7 +350,7 @@ pub fn case(seed: u64, index: u64) -> Option<Case> {
 pub fn try_generated(seed: u64, index: u64, tried: &mut Tried) -> Result<(), String> {
     let Some(case) = case(seed, index) else { return Ok(()) };
     let Ok(file) = NetworkFile::read(&case.network) else { return Ok(()) };
-    if !factors_are_in_1024ths(&file) || !exclusive_nodes_are_constant(&file) {
+    if !factors_are_in_1024ths(&file) {
         return Ok(());
     }
     let Ok(mut reference) = Reference::build(&case.network, case.sentinel) else { return Ok(()) };
@@ -304,7 +393,7 @@ impl FittedCase {
         let file = NetworkFile::read(&case.network).ok().filter(|file| file.check().is_ok())?;
         let r = &mut Random::of_case(!seed, index);
         let Fitted { network, step, plan } = fitted(r, file);
-        assert!(factors_are_in_1024ths(&network) && exclusive_nodes_are_constant(&network));
+        assert!(factors_are_in_1024ths(&network));
         case.network = network_records(&network).concat();
         case.steps.push(step_records(&step).concat());
         let mut reference = Reference::build(&case.network, case.sentinel).ok()?;

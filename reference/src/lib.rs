@@ -32,6 +32,7 @@ pub mod replay;
 pub mod sample;
 pub mod sentinel;
 pub mod solver;
+pub mod step_checks;
 pub mod step_file;
 #[cfg(feature = "library")]
 pub mod store_shape;

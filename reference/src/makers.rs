@@ -58,6 +58,13 @@ pub fn of(file: &NetworkFile, columns_of_edges: &[usize], fresh: &Programme) -> 
     Ok(makers)
 }
 
+/// Whether two nodes have the same row, so that in one set they share both of theirs.
+pub fn have_equal_rows(file: &NetworkFile, columns_of_edges: &[usize], one: usize, other: usize) -> bool {
+    let edge_columns = columns_of_edges.iter().max().map_or(0, |last| last + 1);
+    let network = Gatherer::new(file, columns_of_edges, edge_columns);
+    network.node_row(one, 1.0) == network.node_row(other, 1.0)
+}
+
 /// The first that finds a row is its maker; each that finds it is counted.
 fn makers_of_varying(askers: Vec<Asker>, rows: &[Row]) -> Result<Vec<Maker>, String> {
     let mut makers: Vec<Option<Maker>> = vec![None; rows.len()];
@@ -86,7 +93,7 @@ fn makers_of_fixed(askers: Vec<Asker>, rows: &[Row]) -> Result<Vec<Maker>, Strin
 }
 
 /// A row that is being gathered: elements rise by column; repeats add, from 0.0.
-#[derive(Default)]
+#[derive(Default, PartialEq)]
 struct Gathered(BTreeMap<usize, f64>);
 
 impl Gathered {

@@ -27,8 +27,13 @@ impl NetworkFile {
         Ok(())
     }
 
-    fn is_exclusive(&self, node: usize) -> bool {
+    /// "A node is exclusive if an exclusive aggregate lists it."
+    pub fn is_exclusive(&self, node: usize) -> bool {
         self.aggregates.iter().any(|a| a.exclusive.is_some() && a.sets.iter().any(|set| set.contains(&node)))
+    }
+
+    pub fn varying_exclusive_nodes(&self) -> Vec<usize> {
+        (0..self.nodes.len()).filter(|&n| self.nodes[n].constant.is_none() && self.is_exclusive(n)).collect()
     }
 
     /// How many sets the exclusive aggregates list, equal ordered lists counted once.

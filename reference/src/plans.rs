@@ -3,6 +3,7 @@
 //! `step_file::read`), to which `compare` holds the port.
 use crate::exact::{BITS_OF_ONE, Whole};
 use crate::programme::Column;
+use crate::step_checks::node_interval;
 use crate::{NetworkFile, Programme, Sentinel, step_file};
 use pywr_core::node::NodeType;
 use pywr_core::state::State;
@@ -49,12 +50,6 @@ pub fn factors_are_in_1024ths(file: &NetworkFile) -> bool {
     file.virtual_storages.iter().flat_map(|v| &v.nodes).all(|&(_, factor)| is_in_1024ths(factor))
 }
 
-/// Premise of the correspondence: nodes in exclusive sets have constant bounds.
-pub fn exclusive_nodes_are_constant(file: &NetworkFile) -> bool {
-    let exclusive = file.aggregates.iter().filter(|a| a.exclusive.is_some());
-    exclusive.flat_map(|a| a.sets.iter().flatten()).all(|&n| file.nodes[n].constant.is_some())
-}
-
 /// A double in units of 2^-2148.
 pub fn in_product_units(x: f64) -> Whole {
     Whole::of_double(x).shifted(BITS_OF_ONE)
@@ -91,8 +86,10 @@ pub enum Rule {
     Balance(usize),
     /// "has its amount [..] in its interval".
     Interval(Bounded),
-    /// An exclusive node's own rule: the node and the set.
-    Exclusive(usize, usize),
+    /// A constant exclusive node's own rule: the node and the set.
+    ConstantExclusive(usize, usize),
+    /// A varying one's.
+    VaryingExclusive(usize, usize),
     /// An aggregate's "on sets [..] lie in min_active..max_active".
     Active(usize),
 }
@@ -153,11 +150,10 @@ impl<'a> NetworkSide<'a> {
         assert_eq!((plan.amounts.len(), plan.on.len()), (self.file.edges.len(), self.sets.len()));
         assert!(plan.amounts.iter().all(|amount| !amount.is_negative()), "{plan}");
         let links = (0..self.file.nodes.len()).filter(|&n| self.file.nodes[n].kind == NodeType::Link);
-        let listed = self.sets.iter().enumerate().flat_map(|(k, set)| set.iter().map(move |&n| (n, k)));
         let aggregates = 0..self.file.aggregates.len();
         (links.filter(|&n| !self.balances(n, plan)).map(Rule::Balance))
             .chain(self.bounded().filter(|&what| !self.is_within(what, plan)).map(Rule::Interval))
-            .chain(listed.filter(|&(n, k)| !self.obeys(n, plan.on[k], plan)).map(|(n, k)| Rule::Exclusive(n, k)))
+            .chain(self.listed().filter(|&(n, k)| !self.obeys(n, plan.on[k], plan)).map(|(n, k)| self.rule_of_listed(n, k)))
             .chain(aggregates.filter(|&a| !self.is_active_enough(a, plan)).map(Rule::Active))
     }
 
@@ -167,6 +163,27 @@ impl<'a> NetworkSide<'a> {
         nodes
             .chain((0..self.file.aggregates.len()).map(Bounded::Aggregate))
             .chain((0..self.file.virtual_storages.len()).map(Bounded::VirtualStorage))
+    }
+
+    /// The varying exclusive nodes, whose intervals bind where their sets are on.
+    pub fn varying_exclusive(&self) -> impl Iterator<Item = Bounded> {
+        self.file.varying_exclusive_nodes().into_iter().map(Bounded::Node)
+    }
+
+    /// Each exclusive node with each set that lists it, one that is listed twice in a set once.
+    pub fn listed(&self) -> impl Iterator<Item = (usize, usize)> {
+        let of_set = |(k, set): (usize, &&'a [usize])| {
+            let set = *set;
+            (0..set.len()).filter(|&i| !set[..i].contains(&set[i])).map(move |i| (set[i], k))
+        };
+        self.sets.iter().enumerate().flat_map(of_set)
+    }
+
+    fn rule_of_listed(&self, node: usize, set: usize) -> Rule {
+        match self.file.nodes[node].constant {
+            Some(_) => Rule::ConstantExclusive(node, set),
+            None => Rule::VaryingExclusive(node, set),
+        }
     }
 
     fn is_within(&self, what: Bounded, plan: &Plan) -> bool {
@@ -201,20 +218,10 @@ impl<'a> NetworkSide<'a> {
         }
     }
 
-    /// "a constant node's min and max; the step file's pair for any other node but storage, and for an aggregate".
+    /// A node's by its own rule; "the step file's pair [..] for an aggregate"; a virtual storage's by its volumes.
     pub fn interval(&self, what: Bounded) -> (f64, f64) {
         match what {
-            Bounded::Node(n) => {
-                let (node, numbers) = (self.file.nodes[n], self.numbers.nodes[n]);
-                match node.constant {
-                    Some(bounds) => bounds,
-                    None if node.kind == NodeType::Storage => {
-                        let (available, missing) = (numbers.volume - numbers.min, numbers.max - numbers.volume);
-                        (-available / self.days, missing / self.days)
-                    }
-                    None => (numbers.min, numbers.max),
-                }
-            }
+            Bounded::Node(n) => node_interval(&self.file.nodes[n], &self.numbers.nodes[n], self.days),
             Bounded::Aggregate(a) => (self.numbers.aggregates[a].lower, self.numbers.aggregates[a].upper),
             Bounded::VirtualStorage(v) if is_active(self.file.virtual_storages[v].period, self.today) => {
                 let numbers = self.numbers.virtual_storages[v];
@@ -226,14 +233,18 @@ impl<'a> NetworkSide<'a> {
         }
     }
 
-    /// "at most min(max, 1e6) when on and 0 when off, and if min isn't 0 at least max(min, 1e-6) when on and 0 when off".
+    /// A constant node's: "at most min(max, 1e6) when on and 0 when off, and if min isn't 0 at least max(min, 1e-6) when on and 0 when off". A varying
+    /// one's: "flow between lower and upper when on, 0 when off".
     fn obeys(&self, node: usize, on: bool, plan: &Plan) -> bool {
-        let kind = self.file.nodes[node].kind;
-        assert!(kind != NodeType::Storage, "an exclusive storage is never constant: the premise leaves it out");
-        let (min, max) = self.interval(Bounded::Node(node));
+        let (lower, upper) = self.interval(Bounded::Node(node));
         let amount = self.node_amount(node, plan).shifted(BITS_OF_ONE);
-        let (least, most) = if on { (min.max(1e-6), max.min(1e6)) } else { (0.0, 0.0) };
-        at_most(&amount, most) && (min == 0.0 || at_least(&amount, least))
+        let is_constant = self.file.nodes[node].constant.is_some();
+        let (least, most) = match (on, is_constant) {
+            (false, _) => (0.0, 0.0),
+            (true, true) => (lower.max(1e-6), upper.min(1e6)),
+            (true, false) => (lower, upper),
+        };
+        at_most(&amount, most) && (is_constant && lower == 0.0 || at_least(&amount, least))
     }
 
     /// "the on sets of each exclusive aggregate, repeats counted".

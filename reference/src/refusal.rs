@@ -8,7 +8,7 @@ pub const RETIRED: u8 = 15;
 pub const OF_A_NETWORK: [usize; 14] = [0, 1, 2, 3, 4, 5, 6, 7, 8, 9, 10, 11, 19, 20];
 
 /// The largest number of a refusal.
-pub const LARGEST: usize = 20;
+pub const LARGEST: usize = 21;
 
 #[derive(Debug, Clone, Copy, PartialEq, Eq)]
 pub struct Refusal {

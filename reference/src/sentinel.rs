@@ -12,4 +12,9 @@ impl Sentinel {
             Self::LargestFinite => f64::MAX,
         }
     }
+
+    /// Whether a bound is at or beyond either sentinel.
+    pub fn is_reached_by(self, bound: f64) -> bool {
+        bound <= -self.high() || bound >= self.high()
+    }
 }

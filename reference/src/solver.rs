@@ -59,8 +59,8 @@ macro_rules! solver {
 }
 
 solver!(
-    /// The sets are walked in order of first appearance.
-    InOrder,
+    /// With the alterations that README.md names.
+    Altered,
     builder
 );
 solver!(

@@ -97,7 +97,7 @@ fn the_sample() {
     );
     let [builds, steps] = [sample.tally.builds, sample.tally.steps];
     assert!(OF_A_NETWORK.iter().all(|&n| builds.of(n) >= 2), "{}", builds.text());
-    assert!([0, 12, 13, 14].iter().all(|&n| steps.of(n) >= 2), "{}", steps.text());
+    assert!([0, 12, 13, 14, 21].iter().all(|&n| steps.of(n) >= 2), "{}", steps.text());
 }
 
 #[test]

@@ -1,6 +1,7 @@
 //! The comparison finds what a port does wrong, with steps too.
 use pywr_reference::comparison::{Tally, compare};
 use pywr_reference::port::{Answer, Port};
+use pywr_reference::programme::Row;
 use pywr_reference::{Programme, Reference, Sentinel, generate};
 
 /// A port that is the reference, but for one fault.
@@ -8,9 +9,11 @@ struct Faulty {
     fault: Fault,
     reference: Option<Reference>,
     refused: bool,
+    /// A step was accepted.
+    stepped: bool,
 }
 
-#[derive(Clone, Copy, PartialEq)]
+#[derive(Debug, Clone, Copy, PartialEq)]
 enum Fault {
     None,
     Place,
@@ -21,13 +24,35 @@ enum Fault {
     SharedBy,
     StoreAfterRefusal,
     OtherSentinel,
+    NumberOfTwentyOne,
+    ExclusiveRowsReset,
 }
 
+const ALL: [Fault; 11] = {
+    use Fault::*;
+    [
+        None,
+        Place,
+        Bound,
+        Element,
+        MakerKind,
+        MakerIndex,
+        SharedBy,
+        StoreAfterRefusal,
+        OtherSentinel,
+        NumberOfTwentyOne,
+        ExclusiveRowsReset,
+    ]
+};
+
 impl Faulty {
-    fn misplace(&self, answer: Answer) -> Answer {
+    fn with_fault(&self, answer: Answer) -> Answer {
         answer.map(|a| {
             a.map_err(|mut r| {
                 r.place += (self.fault == Fault::Place) as usize;
+                if self.fault == Fault::NumberOfTwentyOne && r.number == 21 {
+                    r.number = 14;
+                }
                 r
             })
         })
@@ -45,15 +70,16 @@ impl Port for Faulty {
 
     fn build(&mut self, network: &[u8], sentinel: Sentinel) -> Answer {
         let sentinel = if self.fault == Fault::OtherSentinel { Sentinel::Infinity } else { sentinel };
-        self.refused = false;
+        (self.refused, self.stepped) = (false, false);
         let build = Reference::build(network, sentinel).map(|built| self.reference = Some(built));
-        self.misplace(Ok(build))
+        self.with_fault(Ok(build))
     }
 
     fn step(&mut self, step: &[u8]) -> Answer {
         let answer = self.reference.as_mut().unwrap().step(step);
         self.refused = answer.is_err();
-        self.misplace(Ok(answer))
+        self.stepped |= answer.is_ok();
+        self.with_fault(Ok(answer))
     }
 
     fn programme(&mut self) -> Result<Programme, String> {
@@ -64,6 +90,11 @@ impl Port for Faulty {
             Fault::MakerKind => programme.makers.iter_mut().for_each(|m| m.kind ^= 1),
             Fault::MakerIndex => programme.makers.iter_mut().for_each(|m| m.index += 1),
             Fault::SharedBy => programme.makers.iter_mut().for_each(|m| m.shared_by = 1),
+            Fault::ExclusiveRowsReset if self.stepped => {
+                let integer: Vec<bool> = programme.columns.iter().map(|c| c.integer).collect();
+                let is_varying_exclusive = |r: &&mut Row| r.varying && r.elements.iter().any(|e| integer[e.0]);
+                programme.rows.iter_mut().filter(is_varying_exclusive).for_each(|r| r.lower = -r.upper);
+            }
             Fault::StoreAfterRefusal if self.refused => programme.columns[0].cost += 1.0,
             _ => {}
         }
@@ -75,13 +106,14 @@ impl Port for Faulty {
 
 #[test]
 fn faults_are_found() {
-    use Fault::*;
-    for fault in [None, Place, Bound, Element, MakerKind, MakerIndex, SharedBy, StoreAfterRefusal, OtherSentinel] {
-        let mut port: Option<Box<dyn Port>> = Some(Box::new(Faulty { fault, reference: Option::None, refused: false }));
+    for fault in ALL {
+        let port = Faulty { fault, reference: None, refused: false, stepped: false };
+        let mut port: Option<Box<dyn Port>> = Some(Box::new(port));
         let mut tally = Tally::default();
         let cases = (0..200).map(|i| generate::case(4, i));
         let failures = cases.filter(|case| compare(case, &mut port, &mut tally).is_err()).count();
         assert_eq!(tally.builds_compared, 200);
-        assert!(if fault == None { failures == 0 && tally.steps_compared > 200 } else { failures > 10 }, "{failures} failures");
+        let is_due = if fault == Fault::None { failures == 0 && tally.steps_compared > 200 } else { failures > 10 };
+        assert!(is_due, "{fault:?}: {failures} failures");
     }
 }

@@ -1,6 +1,7 @@
-//! Document 01's worked example and its cases marked with a dot.
+//! Document 01's worked example, its cases marked with a dot, and document 02's L3.
 mod records;
 
+use pywr_reference::programme::Row;
 use pywr_reference::{Reference, Sentinel};
 use records::*;
 
@@ -124,4 +125,52 @@ fn periods() {
     assert!(!active(winter, 2, 16) && !active(winter, 10, 31));
     let nearly_all = [3, 10, 3, 5];
     assert!(active(nearly_all, 3, 5) && !active(nearly_all, 3, 7) && active(nearly_all, 3, 10));
+}
+
+/// Their bounds and elements.
+fn rows_of_varying_exclusive_nodes(reference: &Reference) -> Vec<((f64, f64), Vec<(usize, f64)>)> {
+    let programme = reference.programme();
+    let has_set = |row: &&Row| row.varying && row.elements.iter().any(|e| programme.columns[e.0].integer);
+    programme.rows.iter().filter(has_set).map(|row| ((row.lower, row.upper), row.elements.clone())).collect()
+}
+
+/// Two pumps with limits by the step: 1 and -1 as built, then the upper and minus the lower, bounds 0 and the high sentinel.
+#[test]
+fn varying_exclusive_rows() {
+    let network = [nd(INPUT), nd(INPUT), nd(OUTPUT), ed(0, 2), ed(1, 2), exclusive(&[&[0], &[1]], 0, 1)].concat();
+    for (sentinel, high) in [(Sentinel::Infinity, INF), (Sentinel::LargestFinite, f64::MAX)] {
+        let mut reference = Reference::build(&network, sentinel).unwrap();
+        let rows = |coefficients: [f64; 4]| {
+            let flows = [(0, -1.0, 2), (0, 1.0, 2), (1, -1.0, 3), (1, 1.0, 3)];
+            let row = |((edge, flow, set), x): ((usize, f64, usize), f64)| ((0.0, high), vec![(edge, flow), (set, x)]);
+            flows.into_iter().zip(coefficients).map(row).collect::<Vec<_>>()
+        };
+        assert_eq!(rows_of_varying_exclusive_nodes(&reference), rows([1.0, -1.0, 1.0, -1.0]));
+        for limits in [[(2.0, 2e6), (-1.0, 3.0)], [(0.0, 0.0), (1e-9, 1.0)]] {
+            let nodes = limits.map(|(lower, upper)| nb(0.0, lower, upper, 0.0)).concat();
+            reference.step(&[st(1, 1, 1.0), nodes, nb(0.0, 0.0, INF, 0.0), gb(-INF, INF)].concat()).unwrap();
+            let [first, second] = limits;
+            assert_eq!(rows_of_varying_exclusive_nodes(&reference), rows([first.1, -first.0, second.1, -second.0]));
+        }
+    }
+}
+
+/// "on a shared row the smallest of that step's coefficients stands": [0, 5] and [1, 3] in either order, and nothing of the step before.
+#[test]
+fn the_smallest_coefficient_of_a_step() {
+    let mut reference = built(&[pair(), exclusive(&[&[0, 1]], 0, 1)]);
+    let mut coefficients = |limits: [(f64, f64); 2]| {
+        let nodes = limits.map(|(lower, upper)| nb(0.0, lower, upper, 0.0)).concat();
+        reference.step(&[st(1, 1, 1.0), nodes, gb(-INF, INF)].concat()).unwrap();
+        let rows = rows_of_varying_exclusive_nodes(&reference);
+        assert!(rows.iter().all(|(bounds, _)| *bounds == (0.0, INF)));
+        rows.into_iter().map(|(_, elements)| elements[1].1).collect::<Vec<f64>>()
+    };
+    assert_eq!(coefficients([(0.0, 5.0), (1.0, 3.0)]), [3.0, -1.0]);
+    assert_eq!(coefficients([(1.0, 3.0), (0.0, 5.0)]), [3.0, -1.0]);
+    assert_eq!(coefficients([(-4.0, 90.0), (-2.0, 80.0)]), [80.0, 2.0]);
+    // Of equal ones the first.
+    for upper in [0.0, -0.0] {
+        assert_eq!(coefficients([(-1.0, upper), (-1.0, -upper)])[0].to_bits(), upper.to_bits());
+    }
 }

@@ -1,7 +1,13 @@
-//! The generator: the same cases from the same seed, files that are read back, every refusal and both sides of each ceiling reached.
+//! The generator: the same cases from the same seed, files that are read back, every refusal and both sides of each ceiling reached; varying exclusive
+//! nodes, their bounds at the sentinels, and 21 beside 14.
+use pywr_core::node::NodeType;
+use pywr_core::state::State;
 use pywr_reference::comparison::{Tally, compare};
+use pywr_reference::generate::Case;
 use pywr_reference::generate::encode::network_records;
-use pywr_reference::{NetworkFile, OF_A_NETWORK, Reference, case_file, generate};
+use pywr_reference::makers::have_equal_rows;
+use pywr_reference::{NetworkFile, OF_A_NETWORK, Reference, Refusal, Sentinel, case_file, generate, step_file};
+use std::collections::BTreeSet;
 
 #[test]
 fn a_seed_gives_its_cases() {
@@ -41,7 +47,109 @@ fn refusals_and_ceilings_are_reached() {
     for number in OF_A_NETWORK {
         assert!(tally.builds.of(number) >= 10, "{}", tally.builds.text());
     }
-    for number in [0, 12, 13, 14] {
+    for number in [0, 12, 13, 14, 21] {
         assert!(tally.steps.of(number) >= 10, "{}", tally.steps.text());
     }
+    assert!(tally.steps.of(21) > 400, "{}", tally.steps.text());
+    assert!(tally.in_both.builds > 1500 && tally.in_both.steps > 4500, "{:?}", tally.in_both);
+}
+
+/// Accepted networks of 1,500 cases. README has the counts that the tests find in them.
+fn accepted() -> impl Iterator<Item = (NetworkFile, Case, Reference)> {
+    (0..1500).map(|i| generate::case(8, i)).filter_map(|case| {
+        let reference = Reference::build(&case.network, case.sentinel).ok()?;
+        Some((NetworkFile::read(&case.network).unwrap(), case, reference))
+    })
+}
+
+/// Networks with a varying exclusive node; a storage among them; one twice in a set; one in two sets; two of a set with equal rows.
+#[test]
+fn varying_exclusive_nodes_are_reached() {
+    let mut counts = [0; 5];
+    for (file, _, reference) in accepted() {
+        let nodes = file.varying_exclusive_nodes();
+        let columns = reference.columns_of_edges();
+        let exclusive = file.aggregates.iter().filter(|a| a.exclusive.is_some());
+        let sets: BTreeSet<&Vec<usize>> = exclusive.flat_map(|a| &a.sets).collect();
+        let listings = |set: &Vec<usize>, node: usize| set.iter().filter(|&&n| n == node).count();
+        let share = |set: &Vec<usize>, one: usize, other: usize| {
+            set.contains(&one) && set.contains(&other) && have_equal_rows(&file, &columns, one, other)
+        };
+        let pairs =
+            || nodes.iter().flat_map(|&one| nodes.iter().map(move |&other| (one, other))).filter(|(one, other)| one < other);
+        let found = [
+            !nodes.is_empty(),
+            nodes.iter().any(|&n| file.nodes[n].kind == NodeType::Storage),
+            nodes.iter().any(|&n| sets.iter().any(|set| listings(set, n) > 1)),
+            nodes.iter().any(|&n| sets.iter().filter(|set| set.contains(&n)).count() > 1),
+            sets.iter().any(|set| pairs().any(|(one, other)| share(set, one, other))),
+        ];
+        counts.iter_mut().zip(found).for_each(|(count, found)| *count += found as usize);
+    }
+    assert_eq!(counts, [565, 324, 285, 322, 186]);
+}
+
+/// Of bounds of varying exclusive nodes: under 0, and at each sentinel and next to it, of either sign.
+#[test]
+fn bounds_of_varying_exclusive_nodes_are_reached() {
+    let next = f64::MAX.next_down();
+    let watched = [f64::INFINITY, f64::MAX, next, f64::NEG_INFINITY, f64::MIN, -next];
+    let (mut negative, mut counts) = (0, [[0; 6]; 2]);
+    for (file, case, _) in accepted() {
+        for (_, state) in case.steps.iter().filter_map(|step| step_file::read(&file, step).ok()) {
+            for n in file.varying_exclusive_nodes().into_iter().filter(|&n| file.nodes[n].kind != NodeType::Storage) {
+                let bounds = [state.nodes[n].min, state.nodes[n].max];
+                negative += (bounds[1] < 0.0) as usize;
+                let counts = &mut counts[(case.sentinel == Sentinel::LargestFinite) as usize];
+                counts.iter_mut().zip(watched).for_each(|(count, x)| *count += bounds.contains(&x) as usize);
+            }
+        }
+    }
+    assert!(negative > 250 && counts.iter().flatten().all(|&count| count > 20), "{negative}, {counts:?}");
+}
+
+/// By node, from the file's numbers: is the lower over the upper; is the node varying exclusive, with a bound at or beyond a sentinel?
+fn slips(file: &NetworkFile, high: f64, days: f64, state: &State) -> Vec<[bool; 2]> {
+    let slips_of = |n: usize| {
+        let (node, numbers) = (&file.nodes[n], &state.nodes[n]);
+        let (lower, upper) = match node.kind {
+            _ if node.constant.is_some() => return [false; 2],
+            NodeType::Storage => (-(numbers.volume - numbers.min) / days, (numbers.max - numbers.volume) / days),
+            _ => (numbers.min, numbers.max),
+        };
+        let at_sentinel = lower <= -high || lower >= high || upper <= -high || upper >= high;
+        [lower > upper, file.is_exclusive(n) && at_sentinel]
+    };
+    (0..file.nodes.len()).map(slips_of).collect()
+}
+
+/// Every step that is read is answered by one pass over the nodes, of each 14 and then 21. Counted: 21 without 14; a node with 14 before the first with 21,
+/// that node itself, and one behind it.
+#[test]
+fn both_refusals_of_a_nodes_bounds_meet() {
+    let mut counts = [0; 4];
+    for (file, case, mut reference) in accepted() {
+        for step in &case.steps {
+            let answer = reference.step(step);
+            let Ok((timestep, state)) = step_file::read(&file, step) else { continue };
+            let slips = slips(&file, case.sentinel.high(), timestep.days(), &state);
+            let due = slips.iter().enumerate().find_map(|(n, slips)| match slips {
+                [true, _] => Some(Refusal::new(14, n)),
+                [_, true] => Some(Refusal::new(21, n)),
+                _ => None,
+            });
+            assert_eq!(answer.err(), due);
+            let first = |slip: usize| slips.iter().position(|slips| slips[slip]);
+            if let Some(node) = first(1) {
+                let at = match first(0) {
+                    None => 0,
+                    Some(crossed) if crossed < node => 1,
+                    Some(crossed) if crossed == node => 2,
+                    Some(_) => 3,
+                };
+                counts[at] += 1;
+            }
+        }
+    }
+    assert_eq!(counts, [137, 19, 27, 18]);
 }

@@ -198,6 +198,121 @@ fn sets_that_are_on() {
     assert!(!of(&[&[0]], u32::MAX, u32::MAX, 0.0, &[true]) && of(&[&[0]], 0, u32::MAX, 9.0, &[true]));
 }
 
+/// Two pumps into one main, of which one may run, with 2 to 5 and 1 to 3 today.
+#[test]
+fn pumps_with_daily_limits() {
+    let network = [nd(INPUT), nd(INPUT), nd(OUTPUT), ed(0, 2), ed(1, 2), exclusive(&[&[0], &[1]], 0, 1)];
+    let step = [day(1.0), nb(0.0, 2.0, 5.0, 0.0), nb(0.0, 1.0, 3.0, 0.0), free(), gb(-INF, INF)];
+    for sentinel in [Sentinel::Infinity, Sentinel::LargestFinite] {
+        let of = |amounts: [Whole; 2], on: [bool; 2]| allowed(&network, sentinel, &step, &amounts, &on);
+        let none = || units(0.0);
+        assert!(of([none(), none()], [false, false]) && !of([units(4.0), units(2.0)], [true, true]));
+        assert!(!of([units(4.0), units(2.0)], [true, false]) && !of([units(4.0), units(2.0)], [false, false]));
+        assert!(of([units(5.0), none()], [true, false]) && !of([over(5.0), none()], [true, false]));
+        assert!(of([units(2.0), none()], [true, false]) && !of([under(2.0), none()], [true, false]));
+        assert!(of([none(), units(3.0)], [false, true]) && !of([none(), over(3.0)], [false, true]));
+        assert!(of([none(), units(1.0)], [false, true]) && !of([none(), under(1.0)], [false, true]));
+        assert!(!of([units(4.0), none()], [false, false]) && !of([over(0.0), none()], [false, true]));
+        assert!(!of([none(), none()], [true, false]) && !of([units(4.0), none()], [false, true]));
+    }
+}
+
+/// Whether an input with an interval of today may give an amount, its set being on or off.
+fn varying_exclusive((lower, upper): (f64, f64), amount: Whole, on: bool) -> bool {
+    let network = [pair(), exclusive(&[&[0]], 0, 1)];
+    let step = [day(1.0), nb(0.0, lower, upper, 0.0), free(), gb(-INF, INF)];
+    allowed(&network, Sentinel::Infinity, &step, &[amount], &[on])
+}
+
+/// No cap at 1e6, no floor at 1e-6, and 0 is a lower bound as any other.
+#[test]
+fn varying_exclusive_nodes_are_not_capped() {
+    assert!(varying_exclusive((0.0, 2e6), units(2e6), true) && !varying_exclusive((0.0, 2e6), over(2e6), true));
+    assert!(
+        varying_exclusive((0.0, f64::MAX), units(f64::MAX), true) && !varying_exclusive((0.0, f64::MAX), over(f64::MAX), true)
+    );
+    assert!(varying_exclusive((1e-9, 5.0), units(1e-9), true) && !varying_exclusive((1e-9, 5.0), under(1e-9), true));
+    assert!(
+        varying_exclusive((0.0, 5.0), units(0.0), true)
+            && varying_exclusive((0.0, 5.0), units(0.0), false)
+            && !varying_exclusive((0.0, 5.0), over(0.0), false)
+    );
+    assert!(varying_exclusive((-3.0, 5.0), units(0.0), true) && !varying_exclusive((-3.0, 5.0), over(0.0), false));
+    assert!(!varying_exclusive((-3.0, -1.0), units(0.0), true) && varying_exclusive((-3.0, -1.0), units(0.0), false));
+    assert!(
+        varying_exclusive((3.0, 3.0), units(3.0), true)
+            && !varying_exclusive((3.0, 3.0), under(3.0), true)
+            && !varying_exclusive((3.0, 3.0), over(3.0), true)
+    );
+}
+
+/// An input and an output of one edge in one set have one row: the smaller upper and the larger lower decide, in either order.
+#[test]
+fn shared_rows_of_varying_exclusive_nodes() {
+    let wide = nb(0.0, 0.0, 5.0, 0.0);
+    let narrow = nb(0.0, 1.0, 3.0, 0.0);
+    for bounds in [[&wide, &narrow], [&narrow, &wide]] {
+        for set in [&[0, 1][..], &[1, 0], &[0, 1, 0]] {
+            let network = [pair(), exclusive(&[set], 0, 1)];
+            let step = [day(1.0), bounds[0].clone(), bounds[1].clone(), gb(-INF, INF)];
+            let of = |amount: Whole, on: bool| allowed(&network, Sentinel::Infinity, &step, &[amount], &[on]);
+            assert!(of(units(3.0), true) && !of(over(3.0), true) && of(units(1.0), true) && !of(under(1.0), true));
+            assert!(of(units(0.0), false) && !of(over(0.0), false) && !of(units(0.0), true));
+        }
+    }
+}
+
+/// A storage of -10 to 35 in a set: what it gives is under 0.
+#[test]
+fn exclusive_storages() {
+    let numbers = nb(0.0, 10.0, 100.0, 30.0);
+    let gives = |numbers: &[u8], amount, on: bool| {
+        let network = [&giving()[..], &[exclusive(&[&[0]], 0, 1)]].concat();
+        let step = [day(2.0), numbers.to_vec(), free(), gb(-INF, INF)];
+        allowed(&network, Sentinel::Infinity, &step, &[amount], &[on])
+    };
+    assert!(gives(&numbers, units(10.0), true) && !gives(&numbers, over(10.0), true) && gives(&numbers, units(0.0), true));
+    assert!(gives(&numbers, units(0.0), false) && !gives(&numbers, over(0.0), false));
+    // An empty one gives nothing: its lower is 0, which a constant node's rule would leave out.
+    let empty = nb(0.0, 30.0, 100.0, 30.0);
+    assert!(gives(&empty, units(0.0), true) && !gives(&empty, over(0.0), true) && !gives(&empty, over(0.0), false));
+    let takes = |amount, on: bool| {
+        let network = [nd(INPUT), nd(STORAGE), ed(0, 1), exclusive(&[&[1]], 0, 1)];
+        let step = [day(2.0), free(), numbers.clone(), gb(-INF, INF)];
+        allowed(&network, Sentinel::Infinity, &step, &[amount], &[on])
+    };
+    assert!(takes(units(35.0), true) && !takes(over(35.0), true) && !takes(over(0.0), false));
+}
+
+/// A storage that must take 2 to 4 and has an edge in and one out.
+#[test]
+fn exclusive_storages_by_their_difference() {
+    let network = [nd(INPUT), nd(STORAGE), nd(OUTPUT), ed(0, 1), ed(1, 2), exclusive(&[&[1]], 0, 1)];
+    let step = [day(1.0), free(), nb(0.0, 2.0, 4.0, 0.0), free(), gb(-INF, INF)];
+    let of = |amounts: [Whole; 2], on: bool| allowed(&network, Sentinel::Infinity, &step, &amounts, &[on]);
+    assert!(of([units(7.0), units(3.0)], true) && !of([over(7.0), units(3.0)], true) && !of([units(7.0), units(3.0)], false));
+    assert!(of([units(5.0), units(3.0)], true) && !of([units(5.0), over(3.0)], true));
+    assert!(of([units(5.0), units(5.0)], false) && !of([units(5.0), over(5.0)], false) && !of([units(5.0), units(5.0)], true));
+}
+
+/// A node obeys each of its sets: one that is off leaves 0. Listed twice in a set it obeys it as listed once.
+#[test]
+fn varying_nodes_in_several_sets() {
+    let of = |sets: &[&[u16]], (lower, upper): (f64, f64), amount: Whole, on: &[bool]| {
+        let network = [pair(), exclusive(sets, 0, 2)];
+        let step = [day(1.0), nb(0.0, lower, upper, 0.0), nb(0.0, -9.0, 9.0, 0.0), gb(-INF, INF)];
+        allowed(&network, Sentinel::Infinity, &step, &[amount], on)
+    };
+    let sets: [&[u16]; 2] = [&[0], &[0, 1]];
+    assert!(of(&sets, (2.0, 5.0), units(4.0), &[true, true]) && !of(&sets, (2.0, 5.0), units(4.0), &[true, false]));
+    assert!(!of(&sets, (2.0, 5.0), units(0.0), &[false, true]) && of(&sets, (2.0, 5.0), units(0.0), &[false, false]));
+    assert!(of(&sets, (0.0, 5.0), units(0.0), &[false, true]) && !of(&sets, (0.0, 5.0), over(0.0), &[false, true]));
+    let twice: [&[u16]; 1] = [&[0, 0]];
+    assert!(of(&twice, (2.0, 5.0), units(5.0), &[true]) && !of(&twice, (2.0, 5.0), over(5.0), &[true]));
+    assert!(of(&twice, (2.0, 5.0), units(2.0), &[true]) && !of(&twice, (2.0, 5.0), under(2.0), &[true]));
+    assert!(of(&twice, (2.0, 5.0), units(0.0), &[false]) && !of(&twice, (2.0, 5.0), over(0.0), &[false]));
+}
+
 /// Volume 30 in a range of 10 to 100, 2 days: from -10 to 35.
 #[test]
 fn storages() {

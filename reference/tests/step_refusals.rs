@@ -1,4 +1,4 @@
-//! Refusals 12 to 14 of a step file, their order, and the programme after them; and the Rust's own 15, which no step file reaches.
+//! Refusals 12 to 14 and 21 of a step file, their order, and the programme after them; and the Rust's own 15, which no step file reaches.
 mod records;
 
 use pywr_core::civil::DateTime;
@@ -6,7 +6,7 @@ use pywr_core::state::{NodeNumbers, State, VirtualStorageNumbers};
 use pywr_core::timestep::Timestep;
 use pywr_reference::comparison::Tally;
 use pywr_reference::reference::refusal;
-use pywr_reference::solver::{InOrder, Solver};
+use pywr_reference::solver::{Altered, Solver};
 use pywr_reference::{NetworkFile, RETIRED, Reference, Refusal, Sentinel};
 use records::*;
 
@@ -125,6 +125,83 @@ fn lower_over_upper() {
     refused(&[pair(), exclusive(&[&[1]], 0, 1)], &[day(), free(), nb(0.0, 1.0, 0.5, 0.0), gb(0.0, 0.0)], 14, 1);
 }
 
+/// Of a varying exclusive node a bound at or beyond either sentinel, the lower and the upper; the next double within passes.
+#[test]
+fn bounds_at_a_sentinel() {
+    let network = [nd(INPUT), nd(OUTPUT), ed(0, 1), exclusive(&[&[1]], 0, 1)].concat();
+    let (inf, max) = (f64::INFINITY, f64::MAX);
+    let within = max.next_down();
+    let answer = |sentinel, (lower, upper): (f64, f64)| {
+        let step = [day(), free(), nb(0.0, lower, upper, 0.0), gb(0.0, 0.0)].concat();
+        Reference::build(&network, sentinel).unwrap().step(&step)
+    };
+    let due = Err(Refusal::new(21, 1));
+    for bounds in [(0.0, inf), (-inf, 0.0), (-inf, inf), (inf, inf), (-inf, -inf), (max, inf), (-inf, -max)] {
+        assert_eq!([Sentinel::Infinity, Sentinel::LargestFinite].map(|s| answer(s, bounds)), [due, due], "{bounds:?}");
+    }
+    for bounds in [(0.0, max), (-max, 0.0), (-max, max), (max, max), (-max, -max), (within, max), (-max, -within)] {
+        assert_eq!([Sentinel::Infinity, Sentinel::LargestFinite].map(|s| answer(s, bounds)), [Ok(()), due], "{bounds:?}");
+    }
+    for bounds in [(0.0, within), (-within, 0.0), (-within, within), (within, within), (0.0, 0.0), (-2.0, -1.0)] {
+        assert_eq!([Sentinel::Infinity, Sentinel::LargestFinite].map(|s| answer(s, bounds)), [Ok(()), Ok(())], "{bounds:?}");
+    }
+}
+
+/// Not of a node that no exclusive aggregate lists, nor of a constant one, whose numbers are not read; nor of a storage, whose volumes have limits.
+#[test]
+fn bounds_at_a_sentinel_of_other_nodes() {
+    let infinite = || nb(0.0, f64::NEG_INFINITY, f64::INFINITY, 0.0);
+    let inside = || nb(0.0, 0.0, 9.0, 0.0);
+    accepted(&[pair(), exclusive(&[&[1]], 0, 1)], &[day(), infinite(), inside(), gb(0.0, 0.0)]);
+    accepted(&[pair(), plain(&[&[0, 1]])], &[day(), infinite(), infinite(), gb(0.0, 0.0)]);
+    let constant = [constant(INPUT, f64::NEG_INFINITY, f64::INFINITY), nd(OUTPUT), ed(0, 1), exclusive(&[&[0]], 0, 1)];
+    accepted(&constant, &[day(), infinite(), infinite(), gb(0.0, 0.0)]);
+    let storage = [nd(STORAGE), nd(OUTPUT), ed(0, 1), exclusive(&[&[0]], 0, 1)].concat();
+    let step = [st(6, 1, 1.0 / 1024.0), nb(0.0, -1e12, 1e12, 1e12), infinite(), gb(0.0, 0.0)].concat();
+    for sentinel in [Sentinel::Infinity, Sentinel::LargestFinite] {
+        assert_eq!(Reference::build(&storage, sentinel).unwrap().step(&step), Ok(()));
+    }
+    refused(
+        &[pair(), exclusive(&[&[1]], 0, 1), plain(&[&[0]])],
+        &[day(), infinite(), infinite(), gb(0.0, 0.0), gb(0.0, 0.0)],
+        21,
+        1,
+    );
+}
+
+/// By node, and of one node 14 before 21; the file comes first.
+#[test]
+fn lower_over_upper_and_bounds_at_a_sentinel() {
+    let network = [nd(INPUT), nd(INPUT), nd(OUTPUT), ed(0, 2), ed(1, 2), exclusive(&[&[2, 0]], 0, 1)];
+    let crossed = || nb(0.0, 3.0, 2.0, 0.0);
+    let both = || nb(0.0, f64::INFINITY, 2.0, 0.0);
+    let inside = || nb(0.0, 2.0, 3.0, 0.0);
+    let with = |nodes: [Vec<u8>; 3]| [vec![day()], nodes.to_vec(), vec![gb(0.0, 0.0)]].concat();
+    refused(&network, &with([free(), crossed(), crossed()]), 21, 0);
+    refused(&network, &with([free(), inside(), crossed()]), 21, 0);
+    refused(&network, &with([crossed(), free(), free()]), 14, 0);
+    refused(&network, &with([inside(), crossed(), free()]), 14, 1);
+    refused(&network, &with([inside(), free(), free()]), 21, 2);
+    refused(&network, &with([both(), free(), free()]), 14, 0);
+    refused(&network, &with([inside(), inside(), both()]), 14, 2);
+    refused(&network, &[with([free(), crossed(), free()]), vec![vec![0]]].concat(), 12, 132);
+    accepted(&network, &with([inside(), free(), inside()]));
+}
+
+/// Also of the coefficients that a refused step has asked for.
+#[test]
+fn a_step_forgets_one_refused_with_21() {
+    let network = [pair(), exclusive(&[&[0, 1]], 0, 1)];
+    let step = |upper: f64| [day(), nb(0.0, 0.0, upper, 0.0), nb(0.0, 1.0, 7.0, 0.0), gb(0.0, 0.0)].concat();
+    let mut reference = built(&network);
+    reference.step(&step(9.0)).unwrap();
+    let before = reference.programme().to_string();
+    assert_eq!(reference.step(&step(f64::INFINITY)), Err(Refusal::new(21, 0)));
+    assert_eq!(reference.programme().to_string(), before);
+    reference.step(&step(9.0)).unwrap();
+    assert_eq!(reference.programme().to_string(), before);
+}
+
 #[test]
 fn a_refused_step_leaves_the_programme() {
     let mut reference = built(&[pair()]);
@@ -163,7 +240,7 @@ fn the_rusts_own_check_is_counted_and_fails() {
     let storage = |max, volume| VirtualStorageNumbers { min: 0.0, max, volume };
     let virtual_storages = vec![storage(0.0, 0.0), storage(1.0, 0.5)];
     let state = State { nodes: vec![node(), node()], virtual_storages, ..State::default() };
-    let mut solver = InOrder::create(&network, f64::INFINITY).unwrap();
+    let mut solver = Altered::create(&network, f64::INFINITY).unwrap();
     let mut step = |days| solver.step(&network, &Timestep::new(DateTime::new(6, 1), days), &state).map_err(refusal);
     let mut tally = Tally::default();
     assert_eq!(tally.count_step(step(1.0)), Ok(()));

@@ -1,5 +1,5 @@
 //! The readers that the benchmark times give the Rust what the ordinary ones give it, and refuse what they refuse.
-use pywr_reference::solver::{InOrder, Solver};
+use pywr_reference::solver::{Altered, Solver};
 use pywr_reference::timed::{network_reader, step_reader::StepReader};
 use pywr_reference::{NetworkFile, generate, step_file};
 
@@ -16,7 +16,7 @@ fn networks_and_steps_are_read_alike() {
         let network = file.network();
         assert_eq!(nameless(&format!("{network:?}")), nameless(&format!("{timed:?}")), "case {index}");
         let high = case.sentinel.high();
-        let mut solvers = [InOrder::create(&network, high).unwrap(), InOrder::create(&timed, high).unwrap()];
+        let mut solvers = [Altered::create(&network, high).unwrap(), Altered::create(&timed, high).unwrap()];
         let mut reader = StepReader::new(&file);
         for step in &case.steps {
             let read = step_file::read(&file, step);

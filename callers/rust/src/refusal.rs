@@ -19,7 +19,7 @@ pub enum Place {
 }
 
 /// The words and the kind of place of each number; without one, the place is 0. The C header has the same.
-const REFUSALS: [(&str, Option<Place>); 21] = [
+const REFUSALS: [(&str, Option<Place>); 22] = [
     ("accepted", None),
     ("file ends inside a mark or field", Some(Place::Byte)),
     ("unknown or out-of-order mark", Some(Place::Byte)),
@@ -41,6 +41,7 @@ const REFUSALS: [(&str, Option<Place>); 21] = [
     ("row not under the count", Some(Place::Row)),
     ("edge from a node to itself", Some(Place::Byte)),
     ("edge repeating the pair of an earlier edge", Some(Place::Byte)),
+    ("varying exclusive node's bound at or beyond a sentinel", Some(Place::Node)),
 ];
 
 impl Refusal {

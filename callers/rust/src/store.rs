@@ -44,7 +44,7 @@ impl Store {
         calls::build(file, sentinel, self, words, numbers)
     }
 
-    /// Writes a step file's costs, bounds and coefficients, or refuses with 12 to 14, 16 or 17. The work run is all zero after it, but untouched after 16.
+    /// Writes a step file's costs, bounds and coefficients, or refuses with 12 to 14, 16, 17 or 21. The work run is all zero after it, but untouched after 16.
     pub fn step(&mut self, file: &[u8], work: &mut [f64]) -> Result<(), Refusal> {
         calls::step(file, self, work)
     }

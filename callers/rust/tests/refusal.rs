@@ -10,7 +10,7 @@ fn the_header_has_the_same_words() {
         let refusal = Refusal { number, place: 0 };
         format!("{number}|{}|{}\n", refusal.text(), refusal.place_kind().map_or("", Place::text))
     };
-    assert_eq!((0..=21).map(line).collect::<String>(), TABLE);
+    assert_eq!((0..=22).map(line).collect::<String>(), TABLE);
 }
 
 #[test]
@@ -37,12 +37,13 @@ fn each_number_is_shown_with_its_words_and_place() {
         "18 at 5: row not under the count, row 5",
         "19 at 5: edge from a node to itself, byte 5",
         "20 at 5: edge repeating the pair of an earlier edge, byte 5",
+        "21 at 5: varying exclusive node's bound at or beyond a sentinel, node 5",
     ];
     for (text, number) in shown.iter().zip(0..) {
         let place = if [0, 7, 11, 15, 16, 17].contains(&number) { 0 } else { 5 };
         assert_eq!(Refusal { number, place }.to_string(), *text);
     }
-    for number in [21, u64::MAX] {
+    for number in [22, u64::MAX] {
         assert_eq!(Refusal { number, place: 3 }.to_string(), format!("{number} at 3: unknown refusal"));
     }
 }

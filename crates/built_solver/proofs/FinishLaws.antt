@@ -56,7 +56,7 @@ module _ (file : List ℕ) (old : Store) (work : List Float) where
     unfolding stepWork cleared
     work-is = rw room (zeroed ∙ ap (λ (k : ℕ). replicate k zero64) kept)
 
-    -- 12 to 14, 17: the store is as it was
+    -- 12 to 14, 17, 21: the store is as it was
     pub refuse : {n p : ℕ} → r ≡ Refused n p → AfterStep file old work (Refused n p) old work′
     unfolding stepStore storeOfStep
     refuse {n} {p} e =

@@ -14,7 +14,7 @@ fn refuse(number: u8, place: usize, lent: &mut [f64]) -> Answer
     Answer::Refused(number, place)
 }
 
-// Writes a step file's costs, bounds and coefficients into the store, or refuses with 12 to 14, 16 or 17.
+// Writes a step file's costs, bounds and coefficients into the store, or refuses with 12 to 14, 16, 17 or 21.
 pub fn step(
     file: &[u8],
     col_lower: &[f64],

@@ -8,9 +8,9 @@ use native.Mathlib.Omega.{arith}
 use borrow.Author.Tests.{lt-ltb, le-ltb}
 use lib.ListN.{length}
 use lib.Dec.{ltb}
-use Rattle.pywr.specs.Result.{refused, _>>=_, need}
+use Rattle.pywr.specs.Result.{refused, _>>=_, need, firstRefused, refusedIf}
 use Rattle.pywr.specs.Network.{Network}
-use Rattle.pywr.specs.NetworkFile.{firstRefused, unconnectedLink, badConstant, refusedIf, checkNetwork}
+use Rattle.pywr.specs.NetworkFile.{unconnectedLink, badConstant, checkNetwork}
 use Rattle.network_laws.proofs.Index.{edge-count}
 use Rattle.network_record.specs.Counts.{networkOf}
 use Rattle.network_record.specs.declared.Counts.{Counts}

@@ -6,7 +6,7 @@ use mathlib.Core.Option.{Option, none, some}
 use native.Mathlib.Omega.{arith}
 use native.Mathlib.Numerals.{add-one}
 use Rattle.pywr.specs.Network.{Node}
-use Rattle.pywr.specs.NetworkFile.{firstRefused}
+use Rattle.pywr.specs.Result.{firstRefused}
 use Rattle.fields.specs.Records.{recordsAt}
 use Rattle.fields.proofs.RecordLaws.{records-left, records-over}
 use Rattle.network_node.specs.Node.{nodeAt}

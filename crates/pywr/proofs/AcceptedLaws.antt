@@ -20,7 +20,7 @@ use Rattle.pywr.specs.Rows.{Element}
 use Rattle.pywr.specs.Programme.{Column, Row, Programme, Shape, Built}
 use Rattle.pywr.specs.Build.{assemble, programmeOf}
 use Rattle.pywr.specs.StepFile.{StepFile, readStep}
-use Rattle.pywr.specs.StepIntervals.{intervals, Intervals, ordered}
+use Rattle.pywr.specs.StepIntervals.{intervals, Intervals, hasBinaryRow, ordered}
 use Rattle.pywr.specs.Step.{periods, stepped}
 use Rattle.pywr.specs.Store.{Store, storeHasRoom, sentinelCode, nodeCount, edgeCount, nodeRowCount, aggregateCount, virtualStorageCount}
 use Rattle.pywr.specs.Store.{varyingCount, rowCount, nodesAt, edgesAt, nodeRowsAt, aggregatesAt, virtualStoragesAt, nodeEntry, edgeEntry}
@@ -28,10 +28,11 @@ use Rattle.pywr.specs.Store.{nodeRowEntry, virtualStorageEntry, makerEnt
 use Rattle.pywr.specs.Misshapen.{countsFit, startsRise, rowColumnsRise, nodeFits, edgeFits, nodeRowFits, aggregateFits, virtualStorageFits, makersOfKind, makerFits, allEntries, wellShaped}
 use Rattle.pywr.specs.Written.{nodeWords, edgeWords, nodeRowWords, virtualStorageWords, makerWords, countWords, shapeAfter, startsFrom}
 use Rattle.pywr.specs.Written.{columnsIn, valuesIn, lowerOf, upperOf, rowsOf, builtStore, steppedStore}
-use Rattle.pywr.specs.Calls.{buildAnswer, buildStore, workNeeded, stepRoom, stepRead, stepIntervals, stepAnswer, storeOfStep, stepStore, isAccepted, rowAnswer}
-use Rattle.pywr.specs.Correspondence.{Call, storeAfter, periodsOf, readBy}
+use Rattle.pywr.specs.Calls.{buildAnswer, buildStore, workNeeded, stepRoom, stepRead, stepIntervals, stepOrdered, stepAnswer, storeOfStep, stepStore, isAccepted, rowAnswer}
+use Rattle.pywr.specs.Correspondence.{Call, storeAfter, periodsOf, readBy, isVaryingExclusive}
 use Rattle.pywr.proofs.ReadLaws.{Sound, read-sound}
 use Rattle.pywr.proofs.DemandThree.{BuildAccepted, build-accepted, periods-are, read-alike}
+use Rattle.pywr.proofs.SharedLaws.{binary-rows-tell}
 use Rattle.pywr.proofs.WellShaped.{held, shaped, rows-count, of-row}
 
 -- ---- what a step keeps
@@ -155,16 +156,20 @@ bind-is : {A B : Type 0} (r : Result A) (k : A → Result B) (x : A) (y : Result
 unfolding _>>=_
 bind-is r k x y e f = ap (λ (q : Result _). q >>= k) e ∙ f
 
--- what a file that was read is answered: 14 or the file's numbers
-unfoldable pub afterReading : (StepFile → Intervals) → Result StepFile → Result StepFile
-afterReading of r = r >>= λ f. ordered (of f) >>= λ _. value f
+-- what a file that was read is answered: 14, 21 or the file's numbers
+unfoldable pub afterReading : (StepFile → Result Intervals) → Result StepFile → Result StepFile
+afterReading judged r = r >>= λ f. judged f >>= λ _. value f
+
+-- 14 and 21, as the network asks them of its own nodes
+unfoldable pub judgedBy : Sentinel → Network → StepFile → Result Intervals
+judgedBy w net f = ordered w (isVaryingExclusive net) (intervals w (periodsOf net) f)
 
 -- on a store that is neither short nor misshapen
 pub step-answers : (s : Store) (file : List ℕ) (work : List Float) → T (storeHasRoom s) → workNeeded ≤ length work → T (wellShaped s)
-    → stepAnswer s file work ≡ afterReading (stepIntervals s) (readStep (shapeOf s .nodes) (length (shapeOf s .aggregates)) (length (shapeOf s .virtualStorages)) file)
+    → stepAnswer s file work ≡ afterReading (stepOrdered s) (readStep (shapeOf s .nodes) (length (shapeOf s .aggregates)) (length (shapeOf s .virtualStorages)) file)
 unfolding stepAnswer stepRead stepRoom afterReading
 step-answers s file work room long shape =
-    ap (afterReading (stepIntervals s))
+    ap (afterReading (stepOrdered s))
     (bind-is _ _ s (readStep (shapeOf s .nodes) (length (shapeOf s .aggregates)) (length (shapeOf s .virtualStorages)) file)
     (need-yes (storeHasRoom s && leb workNeeded (length work)) 16 0 s (and-i (storeHasRoom s) (leb workNeeded (length work)) room (le→leb workNeeded (length work) long)))
     (bind-is _ _ (shapeOf s) (readStep (shapeOf s .nodes) (length (shapeOf s .aggregates)) (length (shapeOf s .virtualStorages)) file) (need-yes (wellShaped s) 17 0 (shapeOf s) shape) refl))
@@ -241,19 +246,22 @@ module _ (networkFile : List ℕ) (w : Sentinel) (old : Store) (words : List ℕ
   sentinel-is calls = steps-keep calls (buildStore w networkFile old words numbers) .sentinel ∙ ap (λ (s : Store). programmeIn s .sentinel) (built .store)
       ∙ held w net sound old (built .room) (built .under) .sentinel
 
-  -- "Order .. Step: 16, 17, file left to right, 14": here 16 and 17 never come, so the answer is the file's alone, refusals and places too, as the network reads it
+  -- "Order .. Step: 16, 17, file left to right, 14", and 21 with 14: here 16 and 17 never come, so the answer is the file's alone, refusals and places too, as the network reads it
   pub file-answers : (calls : List Call) (file : List ℕ) (work : List Float) → workNeeded ≤ length work
-      → stepAnswer (after calls) file work ≡ afterReading (intervals w (periodsOf net)) (readBy net file)
-  unfolding stepIntervals
+      → stepAnswer (after calls) file work ≡ afterReading (judgedBy w net) (readBy net file)
+  unfolding stepOrdered stepIntervals judgedBy
   file-answers calls file work long =
       step-answers (after calls) file work (of-true (storeHasRoom (after calls)) (build-roomy calls)) long (of-true (wellShaped (after calls)) (build-shaped calls))
-      ∙ ap₂ (λ (s : Sentinel) (q : Shape). afterReading (intervals s (periods q))
+      ∙ ap₂ (λ (s : Sentinel) (q : Shape). afterReading (λ f. ordered s (hasBinaryRow (q .nodeRows)) (intervals s (periods q) f))
       (readStep (q .nodes) (length (q .aggregates)) (length (q .virtualStorages)) file)) (sentinel-is calls) (shape-is calls)
-      ∙ ap₂ (λ (ps : List Period) (r : Result StepFile). afterReading (intervals w ps) r) (periods-are w net) (read-alike w net file)
+      ∙ ap (λ (v : ℕ → Bool). afterReading (λ f. ordered w v (intervals w (periods (programmeOf w net .shape)) f))
+      (readStep (programmeOf w net .shape .nodes) (length (programmeOf w net .shape .aggregates)) (length (programmeOf w net .shape .virtualStorages)) file))
+      (λ k n. binary-rows-tell w net sound n k)
+      ∙ ap₂ (λ (ps : List Period) (r : Result StepFile). afterReading (λ f. ordered w (isVaryingExclusive net) (intervals w ps f)) r) (periods-are w net) (read-alike w net file)
 
-  -- so a step file that reads well with ordered intervals is accepted
+  -- so a step file that reads well and whose intervals pass 14 and 21 is accepted
   pub file-accepted : (calls : List Call) (file : List ℕ) (work : List Float) (f : StepFile) (i : Intervals) → workNeeded ≤ length work
-      → readBy net file ≡ value f → ordered (intervals w (periodsOf net) f) ≡ value i
+      → readBy net file ≡ value f → judgedBy w net f ≡ value i
       → stepAnswer (after calls) file work ≡ value f
   unfolding afterReading
   file-accepted calls file work f i long read order = file-answers calls file work long ∙ bind-is _ _ f (value f) read (bind-is _ _ i (value f) order refl)

@@ -21,12 +21,12 @@ use Rattle.pywr.specs.StepIntervals.{intervals, ordered}
 use Rattle.pywr.specs.Store.{Store, storeHasRoom}
 use Rattle.pywr.specs.Misshapen.{wellShaped}
 use Rattle.pywr.specs.Calls.{buildAnswer, buildStore, workNeeded, stepRoom, stepRead, stepAnswer, storeOfStep, stepStore, isAccepted}
-use Rattle.pywr.specs.Correspondence.{Call, storeAfter, reports, lastAccepted, periodsOf, readBy}
+use Rattle.pywr.specs.Correspondence.{Call, storeAfter, reports, lastAccepted, periodsOf, readBy, isVaryingExclusive}
 use Rattle.pywr.proofs.Represents.{Represents}
 use Rattle.pywr.proofs.RunLaws.{bind-value, Reached, reached-step, run}
 use Rattle.pywr.proofs.ReadLaws.{need-test, read-sound}
 use Rattle.pywr.proofs.DemandThree.{accepted-value, build-accepted, build-represents}
-use Rattle.pywr.proofs.AcceptedLaws.{afterReading, build-shaped, build-roomy, file-answers, file-accepted}
+use Rattle.pywr.proofs.AcceptedLaws.{afterReading, judgedBy, build-shaped, build-roomy, file-answers, file-accepted}
 use Rattle.pywr.proofs.CallLaws.{step-refused}
 
 -- "a refused step changes nothing": of any store
@@ -57,20 +57,21 @@ module _ (networkFile : List ℕ) (s : Sentinel) (old : Store) (words : List ℕ
   pub store-well-shaped : (calls : List Call) → (wellShaped (after calls) ≡ true) × (storeHasRoom (after calls) ≡ true)
   store-well-shaped calls = (build-shaped networkFile s old words numbers net parsed accepted calls, build-roomy networkFile s old words numbers net parsed accepted calls)
 
-  -- a step is accepted exactly if its work area is long enough, the network reads the file and no interval that is compared has its lower over its upper
+  -- a step is accepted exactly if its work area is long enough, the network reads the file, no varying node's lower is over its upper and no varying
+  -- exclusive one's bound is at or beyond a sentinel
   pub accepted-exactly : (calls : List Call) (file : List ℕ) (work : List Float)
       → isAccepted (stepAnswer (after calls) file work) ≡ true
-      ↔ (workNeeded ≤ length work) × (f : StepFile) × (readBy net file ≡ value f) × (isAccepted (ordered (intervals s (periodsOf net) f)) ≡ true)
-  unfolding afterReading isAccepted
+      ↔ (workNeeded ≤ length work) × (f : StepFile) × (readBy net file ≡ value f) × (isAccepted (ordered s (isVaryingExclusive net) (intervals s (periodsOf net) f)) ≡ true)
+  unfolding afterReading judgedBy isAccepted
   accepted-exactly calls file work = (
     λ e.
         let v = accepted-value (stepAnswer (after calls) file work) e in
         let long = accepted-long (after calls) file work (v .0) (v .1) in
         let a = bind-value (readBy net file) _ (v .0) (sym (file-answers networkFile s old words numbers net parsed accepted calls file work long) ∙ v .1) in
-        let b = bind-value (ordered (intervals s (periodsOf net) (a .0))) _ (v .0) (a .2) in
+        let b = bind-value (judgedBy s net (a .0)) _ (v .0) (a .2) in
         (long, a .0, a .1, ap isAccepted (b .1)),
     λ h.
-        let i = accepted-value (ordered (intervals s (periodsOf net) (h .1))) (h .3) in
+        let i = accepted-value (judgedBy s net (h .1)) (h .3) in
         ap isAccepted (file-accepted networkFile s old words numbers net parsed accepted calls file work (h .1) (i .0) (h .0) (h .2) (i .1)),
   )
 

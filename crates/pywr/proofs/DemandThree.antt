@@ -1,26 +1,26 @@
 -- Demand 3: `Correspondence`, proved whole. Assumes nothing.
 use mathlib.Core.Path.{_≡_, refl, sym, ap, ap₂, _∙_, subst}
-use Prim.Native.Nat.{ℕ, suc}
-use native.Mathlib.Nat.{zero-add}
+use Prim.Native.Nat.{ℕ, suc, _<_}
 use native.Mathlib.Omega.{arith}
 use mathlib.Core.Bool.{Bool, true, false, cond, not, _&&_, _||_}
 use mathlib.Core.List.{List, [], _∷_, map}
 use mathlib.Core.Option.{Option, none, some}
-use lib.ListN.{length, length-map}
-use lib.Dec.{T, T-not, leb, leb→le}
+use lib.ListN.{length, getD, length-map}
+use lib.Dec.{T, leb, leb→le}
 use lib.Ieee.{Float}
 use lib.Ieee.Fits.{and-l, and-r}
 use Rattle.layout.specs.Layout.{rowStartsLength, shapeLength}
-use Rattle.laws.proofs.Tests.{or-elim, same-test, of-true}
+use Rattle.laws.proofs.Tests.{same-test, of-true}
 use Rattle.pywr.specs.declared.Sentinel.{Sentinel}
 use Rattle.pywr.specs.Result.{value, Result, refused, need}
-use Rattle.pywr.specs.Network.{Node, Period, VirtualStorage, Network, isExclusive}
+use Rattle.pywr.specs.Network.{Period, VirtualStorage, Network, noNode, isExclusive}
 use Rattle.pywr.specs.NetworkFile.{parseNetwork}
 use Rattle.pywr.specs.Rows.{columnMap}
 use Rattle.pywr.specs.Programme.{Programme, Built}
 use Rattle.pywr.specs.Build.{nodeShape, placedVirtualStorages, assemble, programmeOf, underCeilings, build}
 use Rattle.pywr.specs.StepFile.{StepFile, readStep}
-use Rattle.pywr.specs.StepIntervals.{intervals, Intervals}
+use Rattle.pywr.specs.Interval.{sentinels}
+use Rattle.pywr.specs.StepIntervals.{intervals, Intervals, hasBinaryRow, ordered}
 use Rattle.pywr.specs.Step.{periodOf, stepRows, periods, stepped}
 use Rattle.pywr.specs.Store.{Store, storeHasRoom}
 use Rattle.pywr.specs.Written.{builtStore}
@@ -29,14 +29,18 @@ use Rattle.pywr.specs.Plans.{Plan}
 use Rattle.pywr.specs.Allows.{allows}
 use Rattle.pywr.specs.Admits.{admits}
 use Rattle.pywr.specs.Correspondence.{storeAfter, Report, reports, lastAccepted, periodsOf, readBy, allowsRead}
-use Rattle.pywr.specs.Correspondence.{allowsUnder, networkAllows, programmeAdmits, exclusiveConstant, factorsIn1024ths, factorsWhole, anyAccepted, CorrespondenceWhere, Correspondence}
+use Rattle.pywr.specs.Correspondence.{allowsUnder, networkAllows, programmeAdmits, isVaryingExclusive, factorsIn1024ths, factorsWhole, anyAccepted, CorrespondenceWhere, Correspondence}
 use Rattle.pywr.proofs.Represents.{Represents, Roomy, programme-back}
 use Rattle.pywr.proofs.RunLaws.{stepped-lowers, stepped-uppers, after, after-held, bind-value, need-value, Reached, run}
-use Rattle.pywr.proofs.ListLaws.{all-at}
+use Rattle.pywr.proofs.ListLaws.{found-mem, found-get, below-found}
+use Rattle.pywr.proofs.MembershipLaws.{exclusive-lists}
 use Rattle.pywr.proofs.ReadLaws.{same-value, need-test, Sound, read-sound}
-use Rattle.pywr.proofs.StepReadLaws.{step-sound, shape-periods-length, IntervalsOk, intervals-sound}
-use Rattle.pywr.proofs.FitLaws.{OnlyConstant, aggregates-length, forVirtualStorages, lengthV}
+use Rattle.pywr.proofs.StepReadLaws.{step-sound, step-nodes, node-intervals-long, shape-periods-length, IntervalsOk, intervals-sound}
+use Rattle.pywr.proofs.FitLaws.{aggregates-length, forVirtualStorages, lengthV}
 use Rattle.pywr.proofs.FactorLaws.{whole-in-1024ths}
+use Rattle.pywr.proofs.SharedLaws.{binary-rows-tell}
+use Rattle.pywr.proofs.SteppedLaws.{Ranged, AllRanged}
+use Rattle.pywr.proofs.RangedLaws.{ordered-ranged}
 use Rattle.pywr.proofs.StepMeets.{step-meets}
 use Rattle.pywr.proofs.WellShaped.{held}
 
@@ -157,35 +161,70 @@ read-alike s net file = ap₂ (λ (a v : ℕ). readStep (map nodeShape (net .nod
 
 -- ---- the statement
 
-only-constant : (net : Network) → exclusiveConstant net ≡ true → OnlyConstant net
-unfolding exclusiveConstant
-only-constant net e i x h t =
-    let test : ℕ → Node → Bool = (λ n y. not (isExclusive (net .aggregates) n) || y .constant) in
-    let r = subst (λ (k : ℕ). T (test k x)) (zero-add i) (all-at test (net .nodes) 0 .0 (of-true _ e) i x h) in
-    or-elim (not (isExclusive (net .aggregates) i)) (x .constant) r (λ u. absurd (T-not (isExclusive (net .aggregates) i) u t)) (λ u. u)
+exclusive-under : (net : Network) → Sound net → (n : ℕ) → T (isVaryingExclusive net n) → n < length (net .nodes)
+unfolding isVaryingExclusive
+exclusive-under net sound n t =
+    let r = exclusive-lists (net .aggregates) n (and-l (isExclusive (net .aggregates) n) (not (getD (net .nodes) n noNode .constant)) t) in
+    sound .good .aggregates (r .1 .aggregate) (r .1 .known) .sets (r .0) (r .1 .has) .members n (r .2)
 
-module _ (s : Sentinel) (net : Network) (sound : Sound net) (only : OnlyConstant net) (factors : T (factorsIn1024ths net)) (plan : Plan) where
+-- what holds of the intervals of an accepted file
+module _ (s : Sentinel) (net : Network) (sound : Sound net) (file : List ℕ) (f : StepFile) (j : Intervals) (read : readBy net file ≡ value f)
+    (passed : ordered s (hasBinaryRow (programmeOf s net .shape .nodeRows)) (intervals s (periods (programmeOf s net .shape)) f) ≡ value j) where
+  abbrev i : Intervals
+  i = intervals s (periodsOf net) f
+
+  pub file-ok : IntervalsOk (length (net .aggregates)) (length (net .virtualStorages)) (intervals s (periodsOf net) f)
+  unfolding readBy
+  file-ok =
+      intervals-sound s (periodsOf net) (length (net .aggregates)) (length (net .virtualStorages)) f (periods-length net)
+      (step-sound _ (length (net .aggregates)) (length (net .virtualStorages)) file f read)
+
+  node-intervals-count : length (intervals s (periodsOf net) f .nodes) ≡ length (net .nodes)
+  unfolding readBy intervals
+  node-intervals-count =
+      node-intervals-long s (f .days) (f .nodes)
+      ∙ step-nodes (map nodeShape (net .nodes)) (length (net .aggregates)) (length (net .virtualStorages)) file f read
+      ∙ length-map (net .nodes) nodeShape
+
+  pub file-ranged : AllRanged s net (intervals s (periodsOf net) f)
+  file-ranged n t =
+      let here : ordered s (isVaryingExclusive net) i ≡ value j =
+      sym (ap₂ (λ (q : List Period) (v : ℕ → Bool). ordered s v (intervals s q f)) (periods-are s net) (λ k m. binary-rows-tell s net sound m k)) ∙ passed in
+      let under : n < length (i .nodes) = subst (λ (k : ℕ). n < k) (sym node-intervals-count) (exclusive-under net sound n t) in
+      let x = below-found (i .nodes) n under in
+      subst (Ranged s) (sym (found-get (i .nodes) n (x .0) (sentinels s) (x .1)))
+      (ordered-ranged s (isVaryingExclusive net) i j here n (x .0) (x .1) (file-ok .nodes (x .0) (found-mem (i .nodes) n (x .0) (x .1))) t)
+
+module _ (s : Sentinel) (net : Network) (sound : Sound net) (factors : T (factorsIn1024ths net)) (plan : Plan) where
   abbrev b : Built
   b = programmeOf s net
 
   -- under one accepted file
-  file-meets : (file : List ℕ) (f : StepFile) → readBy net file ≡ value f → admits (columnMap net) (stepped (b .shape) f (b .programme)) plan ≡ allowsRead s net (readBy net file) plan
-  unfolding allowsRead readBy programmeOf assemble stepped
-  file-meets file f read =
+  file-meets : (file : List ℕ) (f : StepFile) (j : Intervals) → readBy net file ≡ value f
+      → ordered s (hasBinaryRow (b .shape .nodeRows)) (intervals s (periods (b .shape)) f) ≡ value j
+      → admits (columnMap net) (stepped (b .shape) f (b .programme)) plan ≡ allowsRead s net (readBy net file) plan
+  unfolding allowsRead programmeOf assemble stepped
+  file-meets file f j read passed =
       let p : Programme = stepped (b .shape) f (b .programme) in
       let i : Intervals = intervals s (periodsOf net) f in
-      let ok : IntervalsOk (length (net .aggregates)) (length (net .virtualStorages)) i =
-      intervals-sound s (periodsOf net) (length (net .aggregates)) (length (net .virtualStorages)) f (periods-length net)
-      (step-sound _ (length (net .aggregates)) (length (net .virtualStorages)) file f read) in
       same-test (admits (columnMap net) p plan) (allows s net i plan)
-      (step-meets s net sound only factors plan i ok p refl (stepped-lowers (b .shape) f (b .programme)) (stepped-uppers (b .shape) f (b .programme))
+      (step-meets s net sound factors plan i (file-ok s net sound file f j read passed) (file-ranged s net sound file f j read passed) p refl
+      (stepped-lowers (b .shape) f (b .programme)) (stepped-uppers (b .shape) f (b .programme))
       (ap (λ (q : List Period). stepRows s (b .shape) (intervals s q f) (b .programme .varying)) (periods-are s net)) refl)
       ∙ sym (ap (λ (r : Result StepFile). allowsRead s net r plan) read)
+
+-- the build keeps the sentinel that was picked
+pub passed-here : (s : Sentinel) (net : Network) (f : StepFile) (j : Intervals)
+    → ordered (programmeOf s net .programme .sentinel) (hasBinaryRow (programmeOf s net .shape .nodeRows))
+    (intervals (programmeOf s net .programme .sentinel) (periods (programmeOf s net .shape)) f) ≡ value j
+    → ordered s (hasBinaryRow (programmeOf s net .shape .nodeRows)) (intervals s (periods (programmeOf s net .shape)) f) ≡ value j
+unfolding programmeOf assemble
+passed-here s net f j e = e
 
 -- "the programme admits each flow plan exactly when the network allows that plan under the last accepted step"
 pub correspondence : Correspondence
 unfolding programmeAdmits networkAllows allowsUnder Reached
-correspondence networkFile s old words numbers net parsed accepted constant factors calls any plan =
+correspondence networkFile s old words numbers net parsed accepted factors calls any plan =
     let sound : Sound net = read-sound networkFile net parsed in
     let built = build-accepted s net old networkFile words numbers parsed accepted in
     let b : Built = programmeOf s net in
@@ -198,10 +237,10 @@ correspondence networkFile s old words numbers net parsed accepted constant fact
     let read : readBy net (file .0) ≡ value (u .0) = sym (read-alike s net (file .0)) ∙ u .1 in
     ap₂ (λ (r : Result Network) (q : Store). programmeAdmits r q plan) parsed (u .2)
     ∙ ap (λ (p : Programme). admits (columnMap net) p plan) (programme-back (storeOfStep store (value (u .0))) (after store b held (u .0)) (after-held store b held (u .0)))
-    ∙ file-meets s net sound (only-constant net constant) (of-true (factorsIn1024ths net) factors) plan (file .0) (u .0) read
+    ∙ file-meets s net sound (of-true (factorsIn1024ths net) factors) plan (file .0) (u .0) (u .3) read (passed-here s net (u .0) (u .3) (u .4))
     ∙ sym (ap (λ (r : Result Network). networkAllows r s ts plan) parsed ∙ ap (λ (o : Option (List ℕ)). allowsUnder s net o plan) (file .1))
 
 -- whole factors are a special case
 pub whole-correspondence : CorrespondenceWhere factorsWhole
-whole-correspondence networkFile s old words numbers net parsed accepted constant whole calls any plan =
-    correspondence networkFile s old words numbers net parsed accepted constant (whole-in-1024ths net whole) calls any plan
+whole-correspondence networkFile s old words numbers net parsed accepted whole calls any plan =
+    correspondence networkFile s old words numbers net parsed accepted (whole-in-1024ths net whole) calls any plan

@@ -20,7 +20,7 @@ use Rattle.pywr.specs.ExactElements.{occurrences, nodeTimes, factorSum, 
 use Rattle.pywr.proofs.ExactLaws.{finite-is}
 use Rattle.pywr.proofs.SumLaws.{AllUpto, weighed, onColumns}
 use Rattle.pywr.proofs.WeightLaws.{Factors, nodeWeight, partsWeight, nodeRoom, parts-weighed, parts-upto}
-use Rattle.pywr.proofs.JoinLaws.{cols, Alike, alike-is}
+use Rattle.pywr.proofs.JoinLaws.{cols, Alike, alike-is, alike-columns, alike-sum, alike-finite}
 use Rattle.pywr.proofs.ExclusiveLaws.{Under}
 use Rattle.pywr.proofs.FitLaws.{columns-long}
 use Rattle.pywr.proofs.FactorLaws.{limitIn1024ths, part-factors, parts-room}
@@ -124,10 +124,10 @@ module _ (net : Network) (sound : Sound net) (factors : T (factorsIn1024ths net)
 
   pub alike-exact : (row : List Element) → Alike row (virtualStorageRow f v) → ElementsExact f v row
   alike-exact row same =
-      let rises : Rising (columns net .count) 0 row = rising-alike _ 0 row (virtualStorageRow f v) (same .columns) (virtual-storage-rises net sound v) in
-      let sum : (column : ℕ) → weighed (oneOn column) row ≡ factorSum f column (v .parts) = (λ column. same .sum (oneOn column) ∙ sum-on column) in
+      let rises : Rising (columns net .count) 0 row = rising-alike _ 0 row (virtualStorageRow f v) (alike-columns same) (virtual-storage-rises net sound v) in
+      let sum : (column : ℕ) → weighed (oneOn column) row ≡ factorSum f column (v .parts) = (λ column. alike-sum (oneOn column) same ∙ sum-on column) in
       record {
-        finite = same .finite all-finite;
+        finite = alike-finite same all-finite;
         each = λ e m. sym (alone _ 0 row rises e m) ∙ sum (e .column);
         elsewhere = λ column apart. sym (sum column) ∙ absent column row apart;
       }

@@ -1,5 +1,5 @@
--- The programme of a sound network under the ceilings fits the store, every row that it asks for is one of doubles and has its place among the varying rows,
--- and where no exclusive node varies every node row is continuous. Assumes nothing.
+-- The programme of a sound network under the ceilings fits the store, and every row that it asks for is one of doubles and has its place among the varying
+-- rows. Assumes nothing.
 use mathlib.Core.Path.{_≡_, refl, sym, ap, ap₂, _∙_, subst}
 use mathlib.Core.Logic.{_↔_}
 use Prim.Native.Nat.{ℕ, zero, suc, _+_, _≤_, suc-le-suc, zero-le}
@@ -9,19 +9,19 @@ use mathlib.Core.Bool.{Bool, true, false, cond, not, _&&_}
 use mathlib.Core.List.{List, [], _∷_, _++_, map}
 use mathlib.Core.Option.{Option, none, some}
 use lib.ListN.{length, getElem?, replicate, length-append, length-map, length-replicate}
-use lib.Dec.{T, eqb, T-not, not-T, leb, le→leb, leb→le}
+use lib.Dec.{T, eqb, not-T, leb, le→leb, leb→le}
 use lib.Ieee.{Float, neg}
 use lib.Ieee.Fits.{and-l, and-r}
 use Rattle.layout.specs.Layout.{nodeRowCeiling}
 use Rattle.laws.proofs.Tests.{to-true, to-false}
 use Rattle.pywr.specs.declared.Sentinel.{Sentinel}
 use Rattle.pywr.specs.Numbers.{one64}
-use Rattle.pywr.specs.Network.{output, storage, Node, Edge, Aggregate, Part, VirtualStorage, Network, kindOf, isExclusive}
+use Rattle.pywr.specs.Network.{output, storage, Node, Edge, Aggregate, Part, VirtualStorage, Network, kindOf}
 use Rattle.pywr.specs.ColEdgeMap.{columns, Columns, columnAt, put, putNew, addSimpleEdge, addEqualEdges, sharesWith, placeEdge, placeEdges, mappedEdges}
 use Rattle.pywr.specs.ExclusiveSets.{exclusiveSets, setsWithNode}
 use Rattle.pywr.specs.Rows.{Element, addOn, ColumnMap, columnMap, columnsInto, columnsOutOf, addNode, nodeRow, addNodes, addSetsOf, aggregateRow, addParts, virtualStorageRow, upperRow, lowerRow}
 use Rattle.pywr.specs.VariableRows.{addVariableRows, Joined}
-use Rattle.pywr.specs.Programme.{Row, Programme, continuous}
+use Rattle.pywr.specs.Programme.{Row, Programme}
 use Rattle.pywr.specs.VaryingRows.{RowRequest, exclusiveRequests, requestsBySets, requestsFrom, freshRow}
 use Rattle.pywr.specs.Build.{edgeColumn, setColumn, allColumns, nodeShape, placedNodeRows, placedVirtualStorages, requestedRow, assemble, programmeOf, elementCount, underCeilings}
 use Rattle.pywr.specs.Step.{rowOf}
@@ -32,10 +32,9 @@ use Rattle.pywr.proofs.JoinLaws.{AllFit, add-fit, add-on-fit, RowsFit, 
 use Rattle.pywr.proofs.RowsBack.{Typed}
 use Rattle.pywr.proofs.MakerLaws.{makers-count}
 use Rattle.pywr.proofs.Represents.{ProgrammeFits}
-use Rattle.pywr.proofs.VaryingLaws.{Continuous, node-places}
+use Rattle.pywr.proofs.VaryingLaws.{node-places}
 use Rattle.pywr.proofs.MassLaws.{Every}
 use Rattle.pywr.proofs.ListLaws.{each-of}
-use Rattle.pywr.proofs.MembershipLaws.{unlisted}
 use Rattle.pywr.proofs.ReadLaws.{Good}
 
 -- ---- the columns' table: as long as the edges, and no more columns than edges
@@ -146,10 +145,6 @@ unfolding virtualStorageRow
 virtual-storages-fit f [] = RowsFit.none
 virtual-storages-fit f (x ∷ xs) = RowsFit.more (parts-fit f (x .parts) [] AllFit.none) (virtual-storages-fit f xs)
 
--- the node rows: of each varying node that no set lists
-abbrev pub Plain : ColumnMap → ℕ → RowRequest → Type 0
-Plain f n a = (a .node ≡ n) × (a .rowType ≡ continuous) × (a .row ≡ nodeRow f n)
-
 requests-fit : (f : ColumnMap) (requests : List RowRequest) → Every (λ (a : RowRequest). AllFit (a .row)) requests → RowsFit (map requestedRow requests)
 unfolding requestedRow
 requests-fit f [] h = RowsFit.none
@@ -179,52 +174,29 @@ asked-fit f xs = requests-fit f (requestsFrom f 0 xs) (each-ask f (λ (a : RowRe
     go true n = tt
     go false n = by-sets-fit f n (setsWithNode n 0 (f .sets))
 
--- ---- no exclusive node varies: one continuous row for each varying node
+-- ---- a varying node asks for its node row, or for the rows of the sets that list it; a constant node for none
 
-abbrev pub OnlyConstant : Network → Type 0
-OnlyConstant net = (i : ℕ) (x : Node) → getElem? (net .nodes) i ≡ some x → T (isExclusive (net .aggregates) i) → T (x .constant)
+pub varying-asks : (f : ColumnMap) (P : RowRequest → Type 0) (xs : List Node)
+    → Every P (requestsFrom f 0 xs) ↔ ((i : ℕ) (x : Node) → getElem? xs i ≡ some x → T (not (x .constant)) → Every P (requestsBySets f i (setsWithNode i 0 (f .sets))))
+varying-asks f P xs =
+    let each = each-ask f P xs 0 in (
+      λ h i x e t. go (x .constant) i t (subst (λ (m : ℕ). Every P (asksOf f m x)) (zero-add i) (each .0 h i x e)),
+      λ k. each .1 (λ i x e. subst (λ (m : ℕ). Every P (asksOf f m x)) (sym (zero-add i)) (back (x .constant) i (k i x e))),
+    )
+  where
+    go : (b : Bool) (i : ℕ) → T (not b) → Every P (cond b [] (requestsBySets f i (setsWithNode i 0 (f .sets)))) → Every P (requestsBySets f i (setsWithNode i 0 (f .sets)))
+    go false i t h = h
+    go true i t h = absurd t
 
-module _ (net : Network) (only : OnlyConstant net) where
-  abbrev f : ColumnMap
-  f = columnMap net
-
-  -- a varying node asks for its node row
-  pub varying-asks : (i : ℕ) (x : Node) → getElem? (net .nodes) i ≡ some x → T (not (x .constant)) → asksOf f i x ≡ record { node = i; rowType = continuous; set = 0; row = nodeRow f i } ∷ []
-  unfolding requestsBySets columnMap
-  varying-asks i x e t =
-      let free : T (not (isExclusive (net .aggregates) i)) = not-T (isExclusive (net .aggregates) i) (λ u. T-not (x .constant) t (only i x e u)) in
-      ap (λ (b : Bool). cond b [] (requestsBySets (columnMap net) i (setsWithNode i 0 (exclusiveSets net)))) (to-false (x .constant) t) ∙ ap (requestsBySets (columnMap net) i) (unlisted net i free)
-
-  pub constant-asks : (i : ℕ) (x : Node) → T (x .constant) → asksOf f i x ≡ []
-  constant-asks i x t = ap (λ (b : Bool). cond b [] (requestsBySets (columnMap net) i (setsWithNode i 0 (columnMap net .sets)))) (to-true (x .constant) t)
-
-  by-flag : {X : Type 0} (b : Bool) → (T b → X) → (T (not b) → X) → X
-  by-flag true y n = y tt
-  by-flag false y n = n tt
-
-  -- what holds of the varying nodes' rows holds of all that is asked for
-  pub requests-are : (P : RowRequest → Type 0)
-      → Every P (requestsFrom f 0 (net .nodes)) ↔
-      ((i : ℕ) (x : Node) → getElem? (net .nodes) i ≡ some x → T (not (x .constant)) → P (record { node = i; rowType = continuous; set = 0; row = nodeRow f i }))
-  requests-are P =
-      let each = each-ask f P (net .nodes) 0 in (
-        λ h i x e t. subst (Every P) (varying-asks i x e t) (subst (λ (m : ℕ). Every P (asksOf f m x)) (zero-add i) (each .0 h i x e)) .0,
-        λ k. each .1 (λ i x e.
-            subst (λ (m : ℕ). Every P (asksOf f m x)) (sym (zero-add i))
-            (by-flag (x .constant) (λ t. subst (Every P) (sym (constant-asks i x t)) tt) (λ t. subst (Every P) (sym (varying-asks i x e t)) (k i x e t, tt)))),
-      )
+    back : (b : Bool) (i : ℕ) → (T (not b) → Every P (requestsBySets f i (setsWithNode i 0 (f .sets)))) → Every P (cond b [] (requestsBySets f i (setsWithNode i 0 (f .sets))))
+    back false i h = h tt
+    back true i h = tt
 
 placed-few : (requests : List RowRequest) (ps : List ℕ) → length (placedNodeRows requests ps) ≤ length requests
 unfolding placedNodeRows
 placed-few [] ps = zero-le
 placed-few (a ∷ requests) [] = zero-le
 placed-few (a ∷ requests) (p ∷ ps) = suc-le-suc (placed-few requests ps)
-
-placed-continuous : (requests : List RowRequest) (ps : List ℕ) → Every (λ (a : RowRequest). a .rowType ≡ continuous) requests → Continuous (placedNodeRows requests ps)
-unfolding placedNodeRows
-placed-continuous [] ps h = Continuous.none
-placed-continuous (a ∷ requests) [] h = Continuous.none
-placed-continuous (a ∷ requests) (p ∷ ps) h = Continuous.more (h .0) (placed-continuous requests ps (h .1))
 
 pub same-places : (requests : List RowRequest) (ps : List ℕ) → length requests ≡ length ps → node-places (placedNodeRows requests ps) ≡ ps
 unfolding placedNodeRows node-places
@@ -325,10 +297,6 @@ unfolding placedVirtualStorages
 virtual-storages-few [] ps = zero-le
 virtual-storages-few (v ∷ vs) [] = zero-le
 virtual-storages-few (v ∷ vs) (p ∷ ps) = suc-le-suc (virtual-storages-few vs ps)
-
-pub only-continuous : (w : Sentinel) (net : Network) → OnlyConstant net → Continuous (programmeOf w net .shape .nodeRows)
-unfolding programmeOf assemble
-only-continuous w net only = placed-continuous (requestsFrom (columnMap net) 0 (net .nodes)) _ (requests-are net only (λ (a : RowRequest). a .rowType ≡ continuous) .1 (λ i x e t. refl))
 
 pub programme-fits : (w : Sentinel) (net : Network) → Good net → length (requestsFrom (columnMap net) 0 (net .nodes)) ≤ nodeRowCeiling
     → T (underCeilings (columnMap net) (programmeOf w net .programme)) → ProgrammeFits (programmeOf w net)

@@ -11,7 +11,7 @@ use mathlib.Core.Option.{none, some}
 use lib.ListN.{length, getD, getElem?, replicate}
 use lib.IntN.{ℤ, pos, negℤ, _+ℤ_, _-ℤ_, _*ℤ_, *ℤ-comm, +ℤ-idr}
 use lib.Signed.{leZ}
-use lib.Dec.{T, T-not, not-T, eqb, leb, le→leb, lit<}
+use lib.Dec.{T, T-not, eqb, leb, le→leb, lit<}
 use lib.Ieee.{Float, neg, eq, le, lt, ofBits}
 use lib.Ieee.Fits.{and-i, and-l, and-r}
 use Rattle.doubles.proofs.Integers.{difference-le}
@@ -21,13 +21,14 @@ use Rattle.pywr.specs.declared.Interval.{Interval}
 use Rattle.pywr.specs.Numbers.{double, zero64, one64, million, millionth, high, low, lesser, greater}
 use Rattle.pywr.specs.Network.{output, storage, Node, Aggregate, Network, kindOf, keepIf, isExclusive}
 use Rattle.pywr.specs.ColEdgeMap.{columns, MappedEdge, mappedEdges}
-use Rattle.pywr.specs.ExclusiveSets.{hasSet, exclusiveSets, setNumber, setsWithNode}
+use Rattle.pywr.specs.ExclusiveSets.{hasSet, exclusiveSets, setsWithNode}
 use Rattle.pywr.specs.Rows.{Element, addElement, addOn, ColumnMap, columnMap, columnsWith, columnsInto, columnsOutOf, addNode, nodeRow, upperRow, lowerRow, addActive, exclusivityRow}
 use Rattle.pywr.specs.Programme.{Column, Row}
 use Rattle.pywr.specs.FixedRows.{upperCoefficient, lowerCoefficient, exclusiveRows, constantRows, constantRowsFrom, exclusivityRows}
 use Rattle.pywr.specs.Build.{edgeColumn, setColumn, allColumns}
+use Rattle.pywr.specs.Interval.{zeroToHigh}
 use Rattle.pywr.specs.Plans.{exact, meets, Plan, unitsInOne, signed, isFinite, timesOne, lowerMet, upperMet, allFrom}
-use Rattle.pywr.specs.Allows.{nodeAmount, onAmount, exclusiveMeets, onCount}
+use Rattle.pywr.specs.Allows.{nodeAmount, onAmount, exclusiveMeets, varyingExclusiveMeets, onCount}
 use Rattle.pywr.specs.Admits.{onColumn, rowSum, columnMet}
 use Rattle.pywr.proofs.SumLaws.{AllUpto}
 use Rattle.pywr.proofs.WeightLaws.{neg-upto}
@@ -35,10 +36,11 @@ use Rattle.pywr.proofs.AmountLaws.{Carries, node-sum, one-upto, one-exa
 use Rattle.pywr.proofs.ExactLaws.{exact-neg}
 use Rattle.pywr.proofs.EvenLaws.{mapped-edge-of}
 use Rattle.pywr.proofs.MassLaws.{Every, every-append, Met}
-use Rattle.pywr.proofs.ExclusiveLaws.{Under, under-add, coefficient-sum}
+use Rattle.pywr.proofs.ExclusiveLaws.{Under, under-add, coefficient-sum, set-sum}
+use Rattle.pywr.proofs.BinaryRowLaws.{setTo}
 use Rattle.pywr.proofs.SetLaws.{set-column, Known, active-sum}
 use Rattle.pywr.proofs.ListLaws.{AllMem, all-none, all-cons, found-mem, each-of}
-use Rattle.pywr.proofs.MembershipLaws.{exclusive-lists, exclusive-listed, membership-exclusive, from-known}
+use Rattle.pywr.proofs.MembershipLaws.{membership-exclusive, from-known, listed-none}
 use Rattle.pywr.proofs.ReadLaws.{Sound}
 use Rattle.pywr.proofs.FitLaws.{columns-long}
 use Rattle.pywr.proofs.NumberLaws.{FiniteFit}
@@ -149,6 +151,31 @@ module _ (w : Sentinel) (net : Network) (sound : Sound net) (plan : Plan) (carri
       let same : leZ (pos 0) v ≡ leZ b a = ap (leZ (pos 0)) e ∙ nonneg-times-one (a -ℤ b) ∙ difference-le b a in
       (λ h. subst T same (z .0 h), λ h. z .1 (subst T (sym same) h))
 
+  -- a coefficient c set on the set's column, whatever stood there
+  with-set : (n k : ℕ) (x y c : Float)
+      → rowSum f plan (setTo (f .edgeColumns + k) c (addElement (f .edgeColumns + k) y (addNode f n x []))) ≡ timesOne (onAmount (onSet k) c) +ℤ rowSum f plan (addNode f n x [])
+  with-set n k x y c =
+      set-sum f plan (f .edgeColumns + k) y c (addNode f n x []) (under-more (f .edgeColumns) (f .edgeColumns + k) (addNode f n x []) (omega arith) (node-under n x))
+      ∙ ap (λ (z : ℤ). z +ℤ rowSum f plan (addNode f n x [])) (ap (λ (m : ℕ). exact c *ℤ pos m) (set-column f plan k) ∙ on-times-one (onSet k) c)
+
+  -- "flow between lower and upper when on, 0 when off"
+  pub varying-exclusive-rule : (n k : ℕ) (i : Interval)
+      → (T (meets w (zeroToHigh w) (rowSum f plan (setTo (f .edgeColumns + k) (i .upper) (upperRow f n k one64))))
+      × T (meets w (zeroToHigh w) (rowSum f plan (setTo (f .edgeColumns + k) (neg (i .lower)) (lowerRow f n k (neg one64))))))
+      ↔ T (varyingExclusiveMeets (onSet k) i (nodeAmount net plan n))
+  unfolding varyingExclusiveMeets upperRow lowerRow
+  varying-exclusive-rule n k i =
+      let amount : ℤ = nodeAmount net plan n in
+      let a : Bool = leZ amount (onAmount (onSet k) (i .upper)) in
+      let b : Bool = leZ (onAmount (onSet k) (i .lower)) amount in
+      let u = above-zero _ (onAmount (onSet k) (i .upper)) amount
+      (with-set n k (neg one64) one64 (i .upper) ∙ ap (λ (z : ℤ). timesOne (onAmount (onSet k) (i .upper)) +ℤ z) (minus-node n) ∙ times-one-less (onAmount (onSet k) (i .upper)) amount) in
+      let l = above-zero _ amount (onAmount (onSet k) (i .lower))
+      (with-set n k one64 (neg one64) (neg (i .lower))
+      ∙ ap₂ (λ (y z : ℤ). timesOne y +ℤ z) (on-neg (onSet k) (i .lower)) (plus-node n)
+      ∙ less-times-one (onAmount (onSet k) (i .lower)) amount) in
+      (λ h. and-i a b (u .0 (h .0)) (l .0 (h .1)), λ h. (u .1 (and-l a b h), l .1 (and-r a b h)))
+
   -- "at most min(max, 1e6) when on and 0 when off"
   upper-met : (n k : ℕ) (max : Float) → FiniteFit (lesser max million)
       → Met w f plan (record { lower = zero64; upper = high w; elements = upperRow f n k (upperCoefficient max) }) ↔ T (leZ (nodeAmount net plan n) (onAmount (onSet k) (lesser max million)))
@@ -214,9 +241,7 @@ module _ (w : Sentinel) (net : Network) (sound : Sound net) (plan : Plan) (carri
       → Every (Met w f plan) (constantRows w f n x l) ↔ ConstantMet n x
   unfolding constantRows columnMap
   constant-one n x e t [] q =
-      let free : T (not (isExclusive (net .aggregates) n)) = not-T (isExclusive (net .aggregates) n)
-      (λ u. let r = exclusive-lists (net .aggregates) n u in List·Memᴰ·not-nil
-      (subst (λ (l : List ℕ). List·Memᴰ (setNumber (r .0) (exclusiveSets net)) l) q (exclusive-listed net n (r .0) (r .1) (r .2)))) in
+      let free : T (not (isExclusive (net .aggregates) n)) = listed-none net n q in
       let s = node-amount n in (
         λ h. record { plain = λ u. subst (λ (v : ℤ). T (meets w (bounds x) v)) s (h .0); exclusive = λ k m. absurd (List·Memᴰ·not-nil (subst (λ (l : List ℕ). List·Memᴰ k l) q m)) },
         λ h. (subst (λ (v : ℤ). T (meets w (bounds x) v)) (sym s) (h .plain free), tt),

@@ -12,9 +12,10 @@ use lib.Dec.{T, eqb, ltb, eqb→eq, ltb→lt}
 use lib.Ieee.{Float, binary64, fits, eq}
 use lib.Ieee.Fits.{and-l, and-r, add-fits}
 use borrow.Author.Tests.{ltb-false}
-use Rattle.pywr.specs.Rows.{Element, addElement, addOn}
+use Rattle.pywr.specs.Rows.{Element, element, addElement, addOn}
 use Rattle.pywr.specs.VariableRows.{sameRow, position, addVariableRows, Joined, addVariableRow}
-use Rattle.pywr.specs.Plans.{isFinite}
+use Rattle.pywr.specs.Step.{changeCoefficient}
+use Rattle.pywr.specs.Plans.{exact, isFinite}
 use Rattle.pywr.proofs.ElementLaws.{add-none, add-cases}
 use Rattle.pywr.proofs.ExactLaws.{eq-exact, eq-finite}
 use Rattle.pywr.proofs.SumLaws.{weighed}
@@ -43,31 +44,66 @@ cols row = map (λ (e : Element). e .column) row
 abbrev AllFinite : List Element → Type 0
 AllFinite row = AllMem (λ (e : Element). isFinite (e .value) ≡ true) row
 
--- of the same columns, with the same sum whatever a column weighs, and finite where the other is
-pub record Alike (a b : List Element) : Type 0 where
-  pub columns : cols a ≡ cols b
-  pub sum : (weight : ℕ → ℕ) → weighed weight a ≡ weighed weight b
-  pub finite : AllFinite b → AllFinite a
+-- of the same column, of the same exact value, and finite where the other is
+pub record AlikeElement (x y : Element) : Type 0 where
+  pub column : x .column ≡ y .column
+  pub amount : exact (x .value) ≡ exact (y .value)
+  pub finite : isFinite (x .value) ≡ isFinite (y .value)
+
+pub data Alike : List Element → List Element → Type 0 where
+  none : Alike [] []
+  more : {x y : Element} {xs ys : List Element} → AlikeElement x y → Alike xs ys → Alike (x ∷ xs) (y ∷ ys)
+
+alike-self : (a : List Element) → Alike a a
+alike-self [] = none
+alike-self (x ∷ xs) = more (record { column = refl; amount = refl; finite = refl }) (alike-self xs)
 
 pub alike-is : {a b : List Element} → a ≡ b → Alike a b
-alike-is {a} {b} e = record { columns = ap cols e; sum = λ weight. ap (weighed weight) e; finite = subst AllFinite (sym e) }
+alike-is {a} {b} e = subst (Alike a) e (alike-self a)
 
 same-alike : (a b : List Element) → AllFit a → AllFit b → T (sameRow a b) → Alike a b
-unfolding sameRow weighed
-same-alike [] [] none none h = alike-is refl
+unfolding sameRow
+same-alike [] [] none none h = none
 same-alike [] (y ∷ ys) fa fb h = absurd h
 same-alike (x ∷ xs) [] fa fb h = absurd h
 same-alike (x ∷ xs) (y ∷ ys) (more fx fa) (more fy fb) h =
     let both : T (eqb (x .column) (y .column) && eq (x .value) (y .value)) = and-l (eqb (x .column) (y .column) && eq (x .value) (y .value)) (sameRow xs ys) h in
-    let c : x .column ≡ y .column = eqb→eq (x .column) (y .column) (and-l (eqb (x .column) (y .column)) (eq (x .value) (y .value)) both) in
     let t : T (eq (x .value) (y .value)) = and-r (eqb (x .column) (y .column)) (eq (x .value) (y .value)) both in
-    let rest : Alike xs ys = same-alike xs ys fa fb (and-r (eqb (x .column) (y .column) && eq (x .value) (y .value)) (sameRow xs ys) h) in
-    record {
-      columns = ap₂ (λ (k : ℕ) (l : List ℕ). k ∷ l) c (rest .columns);
-      sum = λ weight. ap₂ (λ (u v : ℤ). u +ℤ v) (ap₂ (λ (u : ℤ) (k : ℕ). u *ℤ pos (weight k)) (eq-exact (x .value) (y .value) fx fy t) c) (rest .sum weight);
-      finite = λ all. all-cons (λ (e : Element). isFinite (e .value) ≡ true) x xs (eq-finite (x .value) (y .value) t ∙ all y (List·Memᴰ·head refl))
-          (rest .finite (λ e m. all e (List·Memᴰ·tail m)));
-    }
+    more
+    (record {
+      column = eqb→eq (x .column) (y .column) (and-l (eqb (x .column) (y .column)) (eq (x .value) (y .value)) both);
+      amount = eq-exact (x .value) (y .value) fx fy t;
+      finite = eq-finite (x .value) (y .value) t;
+    })
+    (same-alike xs ys fa fb (and-r (eqb (x .column) (y .column) && eq (x .value) (y .value)) (sameRow xs ys) h))
+
+pub alike-columns : {a b : List Element} → Alike a b → cols a ≡ cols b
+alike-columns none = refl
+alike-columns (more e rest) = ap₂ (λ (k : ℕ) (l : List ℕ). k ∷ l) (e .column) (alike-columns rest)
+
+-- whatever a column weighs
+pub alike-sum : (weight : ℕ → ℕ) {a b : List Element} → Alike a b → weighed weight a ≡ weighed weight b
+unfolding weighed
+alike-sum weight none = refl
+alike-sum weight (more e rest) = ap₂ (λ (u v : ℤ). u +ℤ v) (ap₂ (λ (u : ℤ) (k : ℕ). u *ℤ pos (weight k)) (e .amount) (e .column)) (alike-sum weight rest)
+
+pub alike-finite : {a b : List Element} → Alike a b → AllFinite b → AllFinite a
+alike-finite none all = all
+alike-finite (more {x} {y} {xs} {ys} e rest) all =
+    all-cons (λ (z : Element). isFinite (z .value) ≡ true) x xs (e .finite ∙ all y (List·Memᴰ·head refl)) (alike-finite rest (λ z m. all z (List·Memᴰ·tail m)))
+
+-- rows stay alike when the coefficient on a column is set
+pub alike-set : (c : ℕ) (v : Float) {a b : List Element} → Alike a b → Alike (changeCoefficient c (λ held. v) a) (changeCoefficient c (λ held. v) b)
+unfolding changeCoefficient
+alike-set c v none = none
+alike-set c v (more {x} {y} {xs} {ys} e rest) = go (eqb (x .column) c) (eqb (y .column) c) (ap (λ (n : ℕ). eqb n c) (e .column)) (alike-set c v rest)
+  where
+    go : (p q : Bool) → p ≡ q → Alike (changeCoefficient c (λ held. v) xs) (changeCoefficient c (λ held. v) ys)
+        → Alike (cond p (element c v ∷ xs) (x ∷ changeCoefficient c (λ held. v) xs)) (cond q (element c v ∷ ys) (y ∷ changeCoefficient c (λ held. v) ys))
+    go true true s ih = more (record { column = refl; amount = refl; finite = refl }) rest
+    go false false s ih = more e ih
+    go true false s ih = absurd (subst T s tt)
+    go false true s ih = absurd (subst T (sym s) tt)
 
 -- ---- places
 

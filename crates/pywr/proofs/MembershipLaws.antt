@@ -9,7 +9,7 @@ use mathlib.Core.List.{List, [], _∷_, _++_, List·Memᴰ, List·Memᴰ·head, 
 use mathlib.Core.List.{List·Memᴰ·not-nil, List·Memᴰ·cases-cons, List·Memᴰ·append-cases, List·Memᴰ·eq-of-singleton, Memᴰ·append-left, Memᴰ·append-right}
 use mathlib.Core.Option.{some}
 use lib.ListN.{getElem?}
-use lib.Dec.{T, T-not, eqb, eqb→eq, eqb-refl}
+use lib.Dec.{T, T-not, not-T, eqb, eqb→eq, eqb-refl}
 use lib.Ieee.Fits.{and-i, and-l, and-r}
 use Rattle.laws.proofs.Tests.{or-l, or-r, or-elim}
 use Rattle.pywr.specs.Network.{Aggregate, Network, keepIf, listed, anyListed, isExclusive}
@@ -214,3 +214,11 @@ pub exclusive-listed : (net : Network) (n : ℕ) (s : List ℕ) → From (net .a
 exclusive-listed net n s f m =
     subst (λ (k : ℕ). List·Memᴰ k (setsWithNode n 0 (exclusiveSets net))) (zero-add (setNumber s (exclusiveSets net)))
     (membership-complete n 0 (setNumber s (exclusiveSets net)) (exclusiveSets net) s (from-at net s f) m)
+
+-- a node that no set lists is not exclusive
+pub listed-none : (net : Network) (n : ℕ) → setsWithNode n 0 (exclusiveSets net) ≡ [] → T (not (isExclusive (net .aggregates) n))
+listed-none net n q =
+    not-T (isExclusive (net .aggregates) n)
+    (λ u.
+    let r = exclusive-lists (net .aggregates) n u in
+    List·Memᴰ·not-nil (subst (λ (l : List ℕ). List·Memᴰ (setNumber (r .0) (exclusiveSets net)) l) q (exclusive-listed net n (r .0) (r .1) (r .2))))

@@ -36,10 +36,10 @@ reports-are (Run.more {s} {t} {last} {a} {rest} e r) =
 
 pub port-correspondence : PortCorrespondence
 unfolding accepts
-port-correspondence networkFile s old built words words′ numbers numbers′ net parsed after constant factors calls last r any plan =
+port-correspondence networkFile s old built words words′ numbers numbers′ net parsed after factors calls last r any plan =
     let start : Store = buildStore s networkFile old words numbers in
     let accepted : isAccepted (buildAnswer s networkFile old words numbers) ≡ true = sym (ap accepts (after .answer) ∙ answer-tells (buildAnswer s networkFile old words numbers)) ∙ refl in
     let told : map report calls ≡ reports start (callsOf calls) = reports-are r ∙ ap (λ (q : Store). reports q (callsOf calls)) (after .store) in
     ap (λ (q : Store). programmeAdmits (parseNetwork networkFile) q plan) (left-is r ∙ ap (λ (q : Store). storeAfter q (callsOf calls)) (after .store))
-    ∙ correspondence networkFile s old words numbers net parsed accepted constant factors (callsOf calls) (sym (ap anyAccepted told) ∙ any) plan
+    ∙ correspondence networkFile s old words numbers net parsed accepted factors (callsOf calls) (sym (ap anyAccepted told) ∙ any) plan
     ∙ sym (ap (λ (ts : List Report). networkAllows (parseNetwork networkFile) s ts plan) told)

@@ -13,13 +13,13 @@ use lib.Dec.{T, T-not, leb, ltb, eqb, leb→le, ltb→lt}
 use lib.Ieee.{inf, lt, eq}
 use lib.Ieee.Fits.{and-r, eq→eqb}
 use Rattle.laws.proofs.Tests.{or-l, or-r, cond-yes}
-use Rattle.pywr.specs.Result.{value, Result, _>>=_, need}
+use Rattle.pywr.specs.Result.{value, Result, _>>=_, need, firstRefused, refusedIf}
 use Rattle.pywr.specs.Bytes.{checked}
 use Rattle.pywr.specs.Numbers.{isFlow, isSmall, ofPattern}
 use Rattle.pywr.specs.Network.{input, output, link, Node, Edge, Aggregate, Part, VirtualStorage, Network, noNode, kindOf, isExclusive, incoming, outgoing}
 use Rattle.pywr.specs.NetworkFile.{between, Read, ND, constantFits, readNode, ED, wrongWay, readEdge, readMembers, readSets, AG}
 use Rattle.pywr.specs.NetworkFile.{readAggregate, readParts, VS, readVirtualStorage, Mark, hasRoom, withNode, withEdge, withAggregate, withVirtualStorage, readBody, Reading}
-use Rattle.pywr.specs.NetworkFile.{readRecord, readRecords, emptyNetwork, firstRefused, isEmpty, unconnectedLink, badConstant, refusedIf, checkNetwork, parseNetwork}
+use Rattle.pywr.specs.NetworkFile.{readRecord, readRecords, emptyNetwork, isEmpty, unconnectedLink, badConstant, checkNetwork, parseNetwork}
 use Rattle.pywr.proofs.BoundLaws.{IsBound}
 use Rattle.pywr.proofs.NumberLaws.{flow-bound, FiniteFit, small-is}
 use Rattle.pywr.proofs.RunLaws.{bind-then, bind-value, need-value}

@@ -5,7 +5,8 @@ use Prim.Native.Nat.{ℕ, zero, suc, _<_}
 use native.Mathlib.Nat.{not-suc-le-zero, le-of-suc-le-suc}
 use mathlib.Core.Bool.{Bool}
 use mathlib.Core.List.{List, [], _∷_, map}
-use lib.ListN.{length}
+use mathlib.Core.Option.{some}
+use lib.ListN.{length, getElem?}
 use lib.IntN.{ℤ}
 use lib.Dec.{T}
 use lib.Ieee.{binary64, lt, le, eq, neg, ofBits}
@@ -21,6 +22,7 @@ use Rattle.pywr.specs.Interval.{tighten, sentinels}
 use Rattle.pywr.specs.Step.{adjust, withBounds, applyRowBounds, applyIntervals}
 use Rattle.pywr.specs.Plans.{meets, Plan, lowerMet, upperMet, allFrom}
 use Rattle.pywr.specs.Admits.{rowSum, rowMet}
+use Rattle.pywr.proofs.ListLaws.{not-found, same-some}
 use Rattle.pywr.proofs.BoundLaws.{IsInterval, tighten-met}
 
 -- the interval of a row
@@ -37,6 +39,12 @@ unfoldable pub elementsAt : ℕ → List Row → List Element
 elementsAt r [] = []
 elementsAt zero (x ∷ xs) = x .elements
 elementsAt (suc r) (x ∷ xs) = elementsAt r xs
+
+pub elements-found : (rows : List Row) (p : ℕ) (x : Row) → getElem? rows p ≡ some x → elementsAt p rows ≡ x .elements
+unfolding elementsAt
+elements-found [] p x e = not-found x e
+elements-found (y ∷ ys) zero x e = ap (λ (r : Row). r .elements) (same-some y x e)
+elements-found (y ∷ ys) (suc p) x e = elements-found ys p x e
 
 module _ (w : Sentinel) (f : ColumnMap) (plan : Plan) where
   abbrev pub AllMet : ℕ → List Row → Type 0
@@ -67,11 +75,11 @@ module _ (w : Sentinel) (f : ColumnMap) (plan : Plan) where
 
 -- ---- what an applied interval leaves alone
 
-pub adjust-length : (i : Interval) (r : ℕ) (rows : List Row) → length (adjust (applyRowBounds i) r rows) ≡ length rows
+pub adjust-length : (g : Row → Row) (r : ℕ) (rows : List Row) → length (adjust g r rows) ≡ length rows
 unfolding adjust
-adjust-length i r [] = refl
-adjust-length i zero (x ∷ xs) = refl
-adjust-length i (suc r) (x ∷ xs) = ap suc (adjust-length i r xs)
+adjust-length g r [] = refl
+adjust-length g zero (x ∷ xs) = refl
+adjust-length g (suc r) (x ∷ xs) = ap suc (adjust-length g r xs)
 
 -- a change that leaves the elements of such rows leaves those of row k
 pub adjust-keeps : (change : Row → Row) (Such : List Element → Type 0) → ((x : Row) → Such (x .elements) → change x .elements ≡ x .elements) → (r k : ℕ) (rows : List Row)
@@ -130,7 +138,7 @@ module _ (w : Sentinel) (f : ColumnMap) (plan : Plan) where
   apply-met [] [] rows none ss n = (λ k. (tt, k), λ k. k .1)
   apply-met (r ∷ rs) (i ∷ is) rows (more h ii fs) ss n =
       let next : List Row = adjust (applyRowBounds i) r rows in
-      let fs′ : Fitting (length next) rs is = subst (λ (m : ℕ). Fitting m rs is) (sym (adjust-length i r rows)) fs in
+      let fs′ : Fitting (length next) rs is = subst (λ (m : ℕ). Fitting m rs is) (sym (adjust-length (applyRowBounds i) r rows)) fs in
       let same : (k : ℕ) → sums next k ≡ sums rows k = (λ k. ap (rowSum f plan) (adjust-elements i r k rows)) in
       let ih = apply-met rs is next fs′ (adjust-sane i ii r rows ss) n in
       let one = adjust-met w f plan i ii r rows ss h n in (

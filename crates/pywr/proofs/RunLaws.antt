@@ -8,16 +8,17 @@ use mathlib.Core.List.{List, [], _∷_, map}
 use mathlib.Core.Option.{Option, none as no-file, some}
 use lib.ListN.{length, length-set, length-replicate, length-map}
 use lib.Ieee.{Float}
+use Rattle.pywr.specs.declared.Sentinel.{Sentinel}
 use Rattle.pywr.specs.Result.{value, Result, refused, _>>=_, need}
 use Rattle.pywr.specs.ColEdgeMap.{MappedEdge}
 use Rattle.pywr.specs.Programme.{Column, Row, Programme, NodeShape, Shape, Built}
 use Rattle.pywr.specs.StepFile.{NodeStep, StepFile, readStep}
-use Rattle.pywr.specs.StepIntervals.{intervals}
+use Rattle.pywr.specs.StepIntervals.{intervals, Intervals, hasBinaryRow, ordered}
 use Rattle.pywr.specs.Costs.{stepCosts, addCosts}
 use Rattle.pywr.specs.Step.{periods, withCosts, stepped}
-use Rattle.pywr.specs.Store.{Store, shapeOf}
+use Rattle.pywr.specs.Store.{Store, shapeOf, programmeIn}
 use Rattle.pywr.specs.Written.{steppedStore}
-use Rattle.pywr.specs.Calls.{stepRead, stepAnswer, storeOfStep, stepStore, isAccepted}
+use Rattle.pywr.specs.Calls.{stepRead, stepIntervals, stepOrdered, stepAnswer, storeOfStep, stepStore, isAccepted}
 use Rattle.pywr.specs.Correspondence.{Call, storeAfter, reports, lastAccepted}
 use Rattle.pywr.proofs.RowsBack.{Typed}
 use Rattle.pywr.proofs.Represents.{Represents, programme-back, SameColumns, next, step-represents, store-again}
@@ -157,6 +158,15 @@ accepted-read s file work f e =
     let same : a .0 ≡ f = (let q = b .2 in cc) in
     a .1 ∙ ap value same
 
+-- and 14 and 21 passed its intervals
+accepted-ordered : (s : Store) (file : List ℕ) (work : List Float) (f : StepFile) → stepAnswer s file work ≡ value f → (j : Intervals) × (stepOrdered s f ≡ value j)
+unfolding stepAnswer
+accepted-ordered s file work f e =
+    let a = bind-value _ _ f e in
+    let b = bind-value _ _ f (a .2) in
+    let same : a .0 ≡ f = (let q = b .2 in cc) in
+    (b .0, ap (stepOrdered s) (sym same) ∙ b .1)
+
 pub answer-read : (s : Store) (file : List ℕ) (work : List Float) (f : StepFile) → stepAnswer s file work ≡ value f
     → readStep (shapeOf s .nodes) (length (shapeOf s .aggregates)) (length (shapeOf s .virtualStorages)) file ≡ value f
 answer-read s file work f e = read-over-shape s file work f (accepted-read s file work f e)
@@ -164,16 +174,28 @@ answer-read s file work f e = read-over-shape s file work f (accepted-read s fil
 -- ---- the whole list
 
 module _ (s : Store) (b : Built) (held : Represents s b) where
-  -- a store that steps on s have left: s itself, or what the last accepted file makes of it
+  -- 14 and 21 of a file's intervals
+  abbrev pub judged : StepFile → Result Intervals
+  judged f = ordered (b .programme .sentinel) (hasBinaryRow (b .shape .nodeRows)) (intervals (b .programme .sentinel) (periods (b .shape)) f)
+
+  -- a store that steps on s have left: s itself, or what the last accepted file, which passed 14 and 21, makes of it
   unfoldable pub Reached : Option (List ℕ) → Store → Type 0
   Reached no-file t = t ≡ s
   Reached (some file) t =
       (f : StepFile) × (readStep (b .shape .nodes) (length (b .shape .aggregates)) (length (b .shape .virtualStorages)) file ≡ value f) × (t ≡ storeOfStep s (value f))
+      × (j : Intervals) × (judged f ≡ value j)
 
   reached-shape : (o : Option (List ℕ)) (t : Store) → Reached o t → shapeOf t ≡ b .shape
   unfolding Reached
   reached-shape no-file t h = ap shapeOf h ∙ held .shape
   reached-shape (some file) t h = ap shapeOf (h .2) ∙ after-held s b held (h .0) .shape
+
+  reached-sentinel : (o : Option (List ℕ)) (t : Store) → Reached o t → programmeIn t .sentinel ≡ b .programme .sentinel
+  unfolding Reached stepped
+  reached-sentinel no-file t h = ap (λ (q : Store). programmeIn q .sentinel) h ∙ ap (λ (p : Programme). p .sentinel) (programme-back s b held)
+  reached-sentinel (some file) t h =
+      ap (λ (q : Store). programmeIn q .sentinel) (h .2)
+      ∙ ap (λ (p : Programme). p .sentinel) (programme-back (storeOfStep s (value (h .0))) (after s b held (h .0)) (after-held s b held (h .0)))
 
   -- an accepted step leaves the store that it leaves alone, whatever came before it
   pub reached-step : (o : Option (List ℕ)) (t : Store) → Reached o t → (f : StepFile) → storeOfStep t (value f) ≡ storeOfStep s (value f)
@@ -181,15 +203,18 @@ module _ (s : Store) (b : Built) (held : Represents s b) where
   reached-step no-file t h f = ap (λ (u : Store). storeOfStep u (value f)) h
   reached-step (some file) t h f = ap (λ (u : Store). storeOfStep u (value f)) (h .2) ∙ twice s b held (h .0) f
 
-  one-step : (t : Store) (c : Call) (o : Option (List ℕ)) → Reached o t → (r : Result StepFile) → stepAnswer t (c .file) (c .work) ≡ r
+  pub one-step : (t : Store) (c : Call) (o : Option (List ℕ)) → Reached o t → (r : Result StepFile) → stepAnswer t (c .file) (c .work) ≡ r
       → Reached (cond (isAccepted r) (some (c .file)) o) (storeOfStep t r)
-  unfolding isAccepted storeOfStep Reached
+  unfolding isAccepted storeOfStep Reached stepOrdered stepIntervals
   one-step t c o h (refused n p) e = h
-  one-step t c o h (value f) e = (
-    f,
-    sym (ap (λ (p : Shape). readStep (p .nodes) (length (p .aggregates)) (length (p .virtualStorages)) (c .file)) (reached-shape o t h)) ∙ answer-read t (c .file) (c .work) f e,
-    reached-step o t h f,
-  )
+  one-step t c o h (value f) e =
+      let passed = accepted-ordered t (c .file) (c .work) f e in (
+        f,
+        sym (ap (λ (p : Shape). readStep (p .nodes) (length (p .aggregates)) (length (p .virtualStorages)) (c .file)) (reached-shape o t h)) ∙ answer-read t (c .file) (c .work) f e,
+        reached-step o t h f,
+        passed .0,
+        sym (ap₂ (λ (w : Sentinel) (p : Shape). ordered w (hasBinaryRow (p .nodeRows)) (intervals w (periods p) f)) (reached-sentinel o t h) (reached-shape o t h)) ∙ passed .1,
+      )
 
   -- "For every list of steps, refused ones included .. each handed the store as the call before it left it"
   pub run : (calls : List Call) (t : Store) (o : Option (List ℕ)) → Reached o t → Reached (lastAccepted o (reports t calls)) (storeAfter t calls)

@@ -94,7 +94,7 @@ module _ (net : Network) (sound : Sound net) where
   unfolding columnsOutOf
   outs n = columns-under (λ p. p .from) n edges (mappedEdges net) (λ i p e. mapped-edge-of net (sound .noself) i p e .below)
 
-  node-rises : (n : ℕ) (x : Float) (row : List Element) → Rising edges 0 row → Rising edges 0 (addNode f n x row)
+  pub node-rises : (n : ℕ) (x : Float) (row : List Element) → Rising edges 0 row → Rising edges 0 (addNode f n x row)
   unfolding addNode columnMap
   node-rises n x row r = go (eqb (kindOf (net .nodes) n) output) (eqb (kindOf (net .nodes) n) storage)
     where
@@ -128,9 +128,12 @@ module _ (net : Network) (sound : Sound net) where
   unfolding nodeRow
   node-good n = widen _ (node-rises n one64 [] Rising.none)
 
-  pub aggregate-good : (a : Aggregate) → Good-row (aggregateRow f a)
+  pub aggregate-rises : (a : Aggregate) → Rising (columns net .count) 0 (aggregateRow (columnMap net) a)
   unfolding aggregateRow
-  aggregate-good a = widen _ (sets-rise (a .sets) [] Rising.none)
+  aggregate-rises a = sets-rise (a .sets) [] Rising.none
+
+  pub aggregate-good : (a : Aggregate) → Good-row (aggregateRow f a)
+  aggregate-good a = widen _ (aggregate-rises a)
 
   pub virtual-storage-rises : (v : VirtualStorage) → Rising (columns net .count) 0 (virtualStorageRow (columnMap net) v)
   unfolding virtualStorageRow

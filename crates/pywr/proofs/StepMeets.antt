@@ -4,47 +4,47 @@ use mathlib.Core.Logic.{_↔_}
 use Prim.Native.Nat.{ℕ, zero, suc, _+_, _*_, _<_, _≤_, zero-le}
 use native.Mathlib.Nat.{zero-add, lt-of-le-of-lt, mul-le-mul}
 use native.Mathlib.Omega.{arith}
-use mathlib.Core.Bool.{Bool, not, _&&_, _||_}
+use mathlib.Core.Bool.{Bool, cond, not, _&&_, _||_}
 use mathlib.Core.List.{List, [], _∷_, _++_, map, List·Memᴰ, List·Memᴰ·head, List·Memᴰ·tail, List·Memᴰ·not-nil}
-use mathlib.Core.Option.{none, some}
-use lib.ListN.{length, getD, getElem?, length-map}
+use mathlib.Core.Option.{some}
+use lib.ListN.{length, getD, getElem?}
 use lib.IntN.{ℤ}
-use lib.Dec.{T, T-not, not-T, eqb, leb, eqb→eq, lit<}
+use lib.Dec.{T, T-not, eqb, leb, eqb→eq, lit<}
+use lib.Ieee.{neg}
 use lib.Ieee.Fits.{and-i, and-l, and-r, eq→eqb}
 use Rattle.laws.proofs.Tests.{or-l, or-r, or-elim, by-cases, cond-yes, cond-no}
 use Rattle.pywr.specs.declared.Sentinel.{Sentinel}
 use Rattle.pywr.specs.declared.Interval.{Interval}
+use Rattle.pywr.specs.Numbers.{one64}
 use Rattle.pywr.specs.Network.{link, Node, Aggregate, VirtualStorage, Network, noNode, kindOf, isExclusive}
 use Rattle.pywr.specs.ColEdgeMap.{MappedEdge, mappedEdges}
 use Rattle.pywr.specs.ExclusiveSets.{exclusiveSets, setNumber, setsWithNode}
-use Rattle.pywr.specs.Rows.{Element, ColumnMap, columnMap, aggregateRow, virtualStorageRow}
-use Rattle.pywr.specs.Programme.{Column, Row, Programme, NodeRow}
-use Rattle.pywr.specs.VaryingRows.{RowRequest, requestsFrom, freshRow}
+use Rattle.pywr.specs.Rows.{ColumnMap, columnMap, nodeRow, aggregateRow, virtualStorageRow, upperRow, lowerRow}
+use Rattle.pywr.specs.Programme.{Column, Row, Programme}
+use Rattle.pywr.specs.VaryingRows.{exclusiveRequests, requestsBySets}
 use Rattle.pywr.specs.FixedRows.{massRowsFrom, constantRowsFrom, exclusivityRows}
-use Rattle.pywr.specs.Build.{allColumns, placedNodeRows, requestedRow, assemble, programmeOf}
+use Rattle.pywr.specs.Build.{allColumns, assemble, programmeOf}
 use Rattle.pywr.specs.Interval.{sentinels}
-use Rattle.pywr.specs.StepIntervals.{Intervals}
-use Rattle.pywr.specs.Step.{rowOf, stepRows}
+use Rattle.pywr.specs.StepIntervals.{Intervals, isBinary}
+use Rattle.pywr.specs.BinaryRows.{coefficientOf}
 use Rattle.pywr.specs.Plans.{meets, Plan, timesOne, allFrom}
 use Rattle.pywr.specs.Allows.{allows, inflow, outflow, nodeAmount, setsAmount, partsSum, balanced, ownInterval}
-use Rattle.pywr.specs.Allows.{nodeMeets, aggregateMeets, virtualStorageMeets, exclusiveMeets, memberMeets, setsMeet, onCount, exclusivityMeets}
+use Rattle.pywr.specs.Allows.{nodeMeets, aggregateMeets, virtualStorageMeets, exclusiveMeets, varyingExclusiveMeets, memberMeets, setsMeet, onCount, exclusivityMeets}
 use Rattle.pywr.specs.Admits.{admits, carried, equalInColumn, rowSum, rowMet, columnMet}
 use Rattle.pywr.specs.Correspondence.{factorsIn1024ths}
-use Rattle.pywr.proofs.BoundLaws.{IsInterval}
 use Rattle.pywr.proofs.AmountLaws.{Carries, memberships, aggregate-sum, virtual-storage-sum}
 use Rattle.pywr.proofs.EvenLaws.{Balanced, balanced-even, carries}
 use Rattle.pywr.proofs.MassLaws.{Every, every-append, Met, every-met, Joined, mass-met}
-use Rattle.pywr.proofs.JoinLaws.{Placed, placed-length}
-use Rattle.pywr.proofs.RowLaws.{elementsAt, Fitting}
-use Rattle.pywr.proofs.VaryingLaws.{node-places, node-intervals, Asked, varying-met}
+use Rattle.pywr.proofs.BinaryRowLaws.{MetWith}
 use Rattle.pywr.proofs.SetLaws.{number-found}
-use Rattle.pywr.proofs.ListLaws.{AllMem, all-cons, found-mem, mem-found, not-found, same-some, found-get, below-found, all-at}
-use Rattle.pywr.proofs.StepReadLaws.{at-interval, IntervalsOk}
-use Rattle.pywr.proofs.MembershipLaws.{From, lists-exclusive, set-from, from-known, membership-sound, exclusive-listed}
+use Rattle.pywr.proofs.ListLaws.{AllMem, all-cons, found-mem, mem-found, found-get, below-found, all-at}
+use Rattle.pywr.proofs.StepReadLaws.{IntervalsOk}
+use Rattle.pywr.proofs.MembershipLaws.{From, set-from, from-known, membership-sound, unlisted, exclusive-listed, listed-none}
+use Rattle.pywr.proofs.SteppedLaws.{steppedRows, ContinuousMet, BinaryMet, asked-at, AllRanged, nodes-asked, bounds-met, step-met}
 use Rattle.pywr.proofs.ReadLaws.{SetOk, Sound}
-use Rattle.pywr.proofs.FitLaws.{OnlyConstant, requests-are, only-continuous, columns-long, asked, forNodes, forVirtualStorages, lengthN, aggregates-length}
+use Rattle.pywr.proofs.FitLaws.{varying-asks, columns-long}
 use Rattle.pywr.proofs.FactorLaws.{limitIn1024ths, part-factors, parts-room}
-use Rattle.pywr.proofs.FixedLaws.{bounds, room, node-amount, ConstantMet, constant-met, active-met, columns-met}
+use Rattle.pywr.proofs.FixedLaws.{bounds, room, node-amount, varying-exclusive-rule, ConstantMet, constant-met, active-met, columns-met}
 
 -- ---- lists
 
@@ -54,57 +54,26 @@ kind-found [] n t = absurd t
 kind-found (y ∷ ys) zero t = (y, refl, t)
 kind-found (y ∷ ys) (suc n) t = kind-found ys n t
 
-pub fresh-elements : (w : Sentinel) (joined : List (List Element)) (p : ℕ) → elementsAt p (map (freshRow w) joined) ≡ getD joined p []
-unfolding elementsAt freshRow
-fresh-elements w [] p = refl
-fresh-elements w (r ∷ rs) zero = refl
-fresh-elements w (r ∷ rs) (suc p) = fresh-elements w rs p
+module _ (w : Sentinel) (f : ColumnMap) (plan : Plan) (is : List Interval) (n : ℕ) where
+  -- an exclusive node asks for no row that an interval tightens
+  continuous-none : (ks : List ℕ) → Every (ContinuousMet w f plan is) (exclusiveRequests f n ks)
+  unfolding exclusiveRequests isBinary
+  continuous-none [] = tt
+  continuous-none (k ∷ ks) = (λ t. absurd t, (λ t. absurd t, continuous-none ks))
 
--- ---- intervals and places in pairs
+  abbrev at : Interval
+  at = getD is n (sentinels w)
 
-module _ (w : Sentinel) (joined : List (List Element)) where
-  fit-nodes : (is : List Interval) → AllMem IsInterval is → (rows : List NodeRow) (wanted : List (List Element))
-      → Placed joined wanted (node-places rows) → Fitting (length joined) (node-places rows) (node-intervals w is rows)
-  unfolding node-places node-intervals
-  fit-nodes is ok [] [] Placed.none = Fitting.none
-  fit-nodes is ok (n ∷ ns) (r ∷ rs) (Placed.more h e rest) = Fitting.more h (at-interval w is (n .node) ok) (fit-nodes is ok ns rs rest)
-
-  fit-plain : (ps : List ℕ) (is : List Interval) (wanted : List (List Element)) → Placed joined wanted ps → length is ≡ length ps → AllMem IsInterval is → Fitting (length joined) ps is
-  fit-plain [] [] [] Placed.none l ok = Fitting.none
-  fit-plain [] (i ∷ is) [] Placed.none l ok = let z : suc (length is) ≡ 0 = l in absurd (omega arith)
-  fit-plain (p ∷ ps) [] (r ∷ rs) (Placed.more h e rest) l ok = let z : 0 ≡ suc (length ps) = l in absurd (omega arith)
-  fit-plain (p ∷ ps) (i ∷ is) (r ∷ rs) (Placed.more h e rest) l ok =
-      Fitting.more h (ok i (List·Memᴰ·head refl)) (fit-plain ps is rs rest (let z : suc (length is) ≡ suc (length ps) = l in omega arith) (λ x m. ok x (List·Memᴰ·tail m)))
-
-module _ (w : Sentinel) (f : ColumnMap) (plan : Plan) where
-  asked-at : {A : Type 0} (row : A → List Element) (xs : List A) (is : List Interval) → length xs ≡ length is
-      → Asked w f plan (map row xs) is ↔ ((n : ℕ) (x : A) → getElem? xs n ≡ some x → T (meets w (getD is n (sentinels w)) (rowSum f plan (row x))))
-  unfolding Asked
-  asked-at row [] is l = (λ h n x e. not-found x e, λ h. tt)
-  asked-at row (x ∷ xs) [] l = let z : suc (length xs) ≡ 0 = l in absurd (omega arith)
-  asked-at {A} row (x ∷ xs) (i ∷ is) l = both (asked-at row xs is (let z : suc (length xs) ≡ suc (length is) = l in omega arith))
-    where
-      Meets : (m : ℕ) → A → Type 0
-      Meets m y = T (meets w (getD (i ∷ is) m (sentinels w)) (rowSum f plan (row y)))
-
-      both : {P : Type 0} → P ↔ ((n : ℕ) (y : A) → getElem? xs n ≡ some y → T (meets w (getD is n (sentinels w)) (rowSum f plan (row y))))
-          → (T (meets w i (rowSum f plan (row x))) × P) ↔ ((n : ℕ) (y : A) → getElem? (x ∷ xs) n ≡ some y → T (meets w (getD (i ∷ is) n (sentinels w)) (rowSum f plan (row y))))
-      both ih = (λ h. at (h .0) (ih .0 (h .1)), λ h. (h 0 x refl, ih .1 (λ n y e. h (suc n) y e)))
-        where
-          at : T (meets w i (rowSum f plan (row x))) → ((n : ℕ) (y : A) → getElem? xs n ≡ some y → T (meets w (getD is n (sentinels w)) (rowSum f plan (row y))))
-              → (n : ℕ) (y : A) → getElem? (x ∷ xs) n ≡ some y → T (meets w (getD (i ∷ is) n (sentinels w)) (rowSum f plan (row y)))
-          at a b zero y e = subst (λ (z : A). T (meets w i (rowSum f plan (row z)))) (same-some x y e) a
-          at a b (suc n) y e = b n y e
-
-  asked-nodes : (is : List Interval) (wanted : List RowRequest) (ps : List ℕ) → length wanted ≡ length ps
-      → Asked w f plan (map requestedRow wanted) (node-intervals w is (placedNodeRows wanted ps)) ↔ Every
-      (λ (a : RowRequest). T (meets w (getD is (a .node) (sentinels w)) (rowSum f plan (a .row)))) wanted
-  unfolding Asked placedNodeRows node-intervals requestedRow
-  asked-nodes is [] ps l = (λ h. tt, λ h. tt)
-  asked-nodes is (a ∷ wanted) [] l = let z : suc (length wanted) ≡ 0 = l in absurd (omega arith)
-  asked-nodes is (a ∷ wanted) (p ∷ ps) l =
-      let ih = asked-nodes is wanted ps (let z : suc (length wanted) ≡ suc (length ps) = l in omega arith) in
-      (λ h. (h .0, ih .0 (h .1)), λ h. (h .0, ih .1 (h .1)))
+  each-set : (P : ℕ → Type 0)
+      → ((k : ℕ) → (MetWith f plan w (f .edgeColumns + k) (upperRow f n k one64) (at .upper) × MetWith f plan w (f .edgeColumns + k) (lowerRow f n k (neg one64)) (neg (at .lower))) ↔ P k)
+      → (ks : List ℕ) → Every (BinaryMet w f plan is) (exclusiveRequests f n ks) ↔ ((k : ℕ) → List·Memᴰ k ks → P k)
+  unfolding exclusiveRequests isBinary coefficientOf
+  each-set P h [] = (λ g k m. absurd (List·Memᴰ·not-nil m), λ g. tt)
+  each-set P h (k ∷ ks) =
+      let ih = each-set P h ks in (
+        λ g. all-cons P k ks (h k .0 (g .0 tt, g .1 .0 tt)) (ih .0 (g .1 .1)),
+        λ g. let r = h k .1 (g k (List·Memᴰ·head refl)) in (λ t. r .0, (λ t. r .1, ih .1 (λ j m. g j (List·Memᴰ·tail m)))),
+      )
 
 -- ---- the rooms
 
@@ -119,14 +88,18 @@ memberships-few n (s ∷ ss) ok =
 -- ---- the network's side of exclusive sets
 
 module _ (w : Sentinel) (net : Network) (i : Intervals) (plan : Plan) where
+  -- the test of a member, by whether its node's bounds are constant
+  abbrev memberTest : List ℕ → ℕ → Node → Bool
+  memberTest s m x = cond (x .constant) exclusiveMeets varyingExclusiveMeets (plan .on s) (ownInterval w i m x) (nodeAmount net plan m)
+
   abbrev MemberRule : List ℕ → ℕ → Type 0
-  MemberRule s m = T (exclusiveMeets (plan .on s) (ownInterval w i m (getD (net .nodes) m noNode)) (nodeAmount net plan m))
+  MemberRule s m = T (memberTest s m (getD (net .nodes) m noNode))
 
   member-rule : (s ms : List ℕ) → T (memberMeets w net i plan s ms) ↔ AllMem (MemberRule s) ms
   unfolding memberMeets
   member-rule s [] = (λ h m k. absurd (List·Memᴰ·not-nil k), λ h. tt)
   member-rule s (m ∷ ms) =
-      let a : Bool = exclusiveMeets (plan .on s) (ownInterval w i m (getD (net .nodes) m noNode)) (nodeAmount net plan m) in
+      let a : Bool = memberTest s m (getD (net .nodes) m noNode) in
       let b : Bool = memberMeets w net i plan s ms in
       let ih = member-rule s ms in
       (λ h. all-cons (MemberRule s) m ms (and-l a b h) (ih .0 (and-r a b h)), λ h. and-i a b (h m (List·Memᴰ·head refl)) (ih .1 (λ k j. h k (List·Memᴰ·tail j))))
@@ -140,14 +113,13 @@ module _ (w : Sentinel) (net : Network) (i : Intervals) (plan : Plan) where
       let one = member-rule s s in
       let ih = sets-rule ss in (
         λ h. all-cons (λ (t : List ℕ). AllMem (MemberRule t) t) s ss (one .0 (and-l a b h)) (ih .0 (and-r a b h)),
-        λ h. and-i a b
-            (one .1 (h s (List·Memᴰ·head refl))) (ih .1 (λ k j. h k (List·Memᴰ·tail j))),
+        λ h. and-i a b (one .1 (h s (List·Memᴰ·head refl))) (ih .1 (λ k j. h k (List·Memᴰ·tail j))),
       )
 
 -- ---- both sides, where each edge's column carries its amount
 
-module _ (w : Sentinel) (net : Network) (sound : Sound net) (only : OnlyConstant net) (factors : T (factorsIn1024ths net)) (plan : Plan) (i : Intervals)
-    (ok : IntervalsOk (length (net .aggregates)) (length (net .virtualStorages)) i) (each : Carries net plan) where
+module _ (w : Sentinel) (net : Network) (sound : Sound net) (factors : T (factorsIn1024ths net)) (plan : Plan) (i : Intervals)
+    (ok : IntervalsOk (length (net .aggregates)) (length (net .virtualStorages)) i) (ranged : AllRanged w net i) (each : Carries net plan) where
   abbrev f : ColumnMap
   f = columnMap net
 
@@ -170,50 +142,75 @@ module _ (w : Sentinel) (net : Network) (sound : Sound net) (only : OnlyConstant
   virtual-storage-amount : (n : ℕ) (v : VirtualStorage) → getElem? (net .virtualStorages) n ≡ some v → rowSum f plan (virtualStorageRow f v) ≡ partsSum net plan (v .parts)
   virtual-storage-amount n v e = virtual-storage-sum net plan (columns-long net) each limitIn1024ths v (part-factors net sound n v e factors) (parts-room net sound n v e)
 
+  abbrev onSet : ℕ → Bool
+  onSet k = plan .on (getD (f .sets) k [])
+
+  abbrev SetMeets : ℕ → ℕ → Type 0
+  SetMeets n k = T (varyingExclusiveMeets (onSet k) (ofNodes n) (nodeAmount net plan n))
+
+  -- the rule of each varying node in each set that lists it
+  abbrev VaryingExclusiveMet : Type 0
+  VaryingExclusiveMet = At (net .nodes) (λ n x. T (not (x .constant)) → (k : ℕ) → List·Memᴰ k (setsWithNode n 0 (f .sets)) → SetMeets n k)
+
   -- the varying rows
   record VaryingMet : Type 0 where
-    nodes : At (net .nodes) (λ n x. T (not (x .constant)) → T (meets w (ofNodes n) (timesOne (nodeAmount net plan n))))
+    nodes : At (net .nodes) (λ n x. T (not (x .constant)) → T (not (isExclusive (net .aggregates) n)) → T (meets w (ofNodes n) (timesOne (nodeAmount net plan n))))
+    varyingExclusive : VaryingExclusiveMet
     aggregates : At (net .aggregates) (λ n a. T (aggregateMeets w net i plan n a))
     virtualStorages : At (net .virtualStorages) (λ n v. T (virtualStorageMeets w net i plan n v))
 
-  nodes-asked : Asked w f plan (map requestedRow (requestsFrom f 0 (net .nodes))) (node-intervals w (i .nodes) (programmeOf w net .shape .nodeRows)) ↔ Every
-      (λ (a : RowRequest). T (meets w (ofNodes (a .node)) (rowSum f plan (a .row)))) (requestsFrom f 0 (net .nodes))
-  unfolding programmeOf assemble
-  nodes-asked = asked-nodes w f plan (i .nodes) (requestsFrom f 0 (net .nodes)) (forNodes w net .places) (lengthN w net)
+  -- what the varying nodes ask for
+  unlisted-continuous : (n : ℕ) (ks : List ℕ)
+      → Every (ContinuousMet w f plan (i .nodes)) (requestsBySets f n ks) ↔ (ks ≡ [] → T (meets w (ofNodes n) (rowSum f plan (nodeRow f n))))
+  unfolding requestsBySets isBinary
+  unlisted-continuous n [] = (λ h e. h .0 tt, λ h. (λ t. h refl, tt))
+  unlisted-continuous n (k ∷ ks) = (λ h e. absurd (cons-not-nil e), λ h. exclusive-continuous (k ∷ ks))
+    where
+      cons-not-nil : k ∷ ks ≡ [] → ⊥
+      cons-not-nil e = List·Memᴰ·not-nil (subst (λ (l : List ℕ). List·Memᴰ k l) e (List·Memᴰ·head refl))
 
-  varying-is : T (allFrom (rowMet w f plan) 0 (stepRows w (programmeOf w net .shape) i (programmeOf w net .programme .varying))) ↔ VaryingMet
-  unfolding aggregateMeets virtualStorageMeets
+      exclusive-continuous : (js : List ℕ) → Every (ContinuousMet w f plan (i .nodes)) (exclusiveRequests f n js)
+      exclusive-continuous js = continuous-none w f plan (i .nodes) n js
+
+  listed-set : (n : ℕ) (ks : List ℕ) → Every (BinaryMet w f plan (i .nodes)) (requestsBySets f n ks) ↔ ((k : ℕ) → List·Memᴰ k ks → SetMeets n k)
+  unfolding requestsBySets isBinary
+  listed-set n [] = (λ h k m. absurd (List·Memᴰ·not-nil m), λ h. (λ t. absurd t, tt))
+  listed-set n (k ∷ ks) = all (k ∷ ks)
+    where
+      all : (js : List ℕ) → Every (BinaryMet w f plan (i .nodes)) (exclusiveRequests f n js) ↔ ((k : ℕ) → List·Memᴰ k js → SetMeets n k)
+      all js = each-set w f plan (i .nodes) n (λ k. SetMeets n k) (λ k. varying-exclusive-rule w net sound plan each n k (ofNodes n)) js
+
+  varying-is : T (allFrom (rowMet w f plan) 0 (steppedRows w net i)) ↔ VaryingMet
+  unfolding aggregateMeets virtualStorageMeets columnMap
   varying-is =
-      let a = asked w net in
-      let joined : List (List Element) = forVirtualStorages w net .rows in
-      let rows : List Row = programmeOf w net .programme .varying in
-      let long : length rows ≡ length joined = ap length (a .varying) ∙ length-map joined (freshRow w) in
-      let same : (p : ℕ) → elementsAt p rows ≡ getD joined p [] = (λ p. ap (elementsAt p) (a .varying) ∙ fresh-elements w joined p) in
-      let lA : length (i .aggregates) ≡ length (programmeOf w net .shape .aggregates) = ok .aggregateCount ∙ sym (aggregates-length w net) in
-      let lV : length (i .virtualStorages) ≡ length (map rowOf (programmeOf w net .shape .virtualStorages)) = ok .virtualStorageCount
-      ∙ sym (length-map (net .virtualStorages) (virtualStorageRow f)) ∙ placed-length joined _ _ (a .virtualStorages) in
-      let met = varying-met w f plan (programmeOf w net .shape) i joined rows long same (only-continuous w net only)
-      (map requestedRow (requestsFrom f 0 (net .nodes))) (map (aggregateRow f) (net .aggregates)) (map (virtualStorageRow f) (net .virtualStorages))
-      (a .nodes) (a .aggregates) (a .virtualStorages)
-      (fit-nodes w joined (i .nodes) (ok .nodes) (programmeOf w net .shape .nodeRows) _ (a .nodes))
-      (fit-plain w joined (programmeOf w net .shape .aggregates) (i .aggregates) _ (a .aggregates) lA (ok .aggregates-are))
-      (fit-plain w joined (map rowOf (programmeOf w net .shape .virtualStorages)) (i .virtualStorages) _ (a .virtualStorages) lV (ok .virtual-storages-are)) 0 in
-      let n1 = nodes-asked in
-      let n2 = requests-are net only (λ (k : RowRequest). T (meets w (ofNodes (k .node)) (rowSum f plan (k .row)))) in
+      let n1 = nodes-asked w net sound i ok ranged plan in
+      let n2 = varying-asks f (ContinuousMet w f plan (i .nodes)) (net .nodes) in
+      let s2 = varying-asks f (BinaryMet w f plan (i .nodes)) (net .nodes) in
       let g = asked-at w f plan (aggregateRow f) (net .aggregates) (i .aggregates) (sym (ok .aggregateCount)) in
       let v = asked-at w f plan (virtualStorageRow f) (net .virtualStorages) (i .virtualStorages) (sym (ok .virtualStorageCount)) in (
         λ h.
-            let r = met .0 h in
+            let t = step-met w net sound i ok ranged plan .0 h in
+            let r = bounds-met w net sound i ok ranged plan .0 (t .0) in
             record {
-              nodes = λ n x e t. subst (λ (z : ℤ). T (meets w (ofNodes n) z)) (node-amount w net sound plan each n) (n2 .0 (n1 .0 (r .0)) n x e t);
-              aggregates = λ n x e. subst (λ (z : ℤ). T (meets w (getD (i .aggregates) n (sentinels w)) z)) (aggregate-amount x (found-mem (net .aggregates) n x e)) (g .0 (r .1) n x e);
-              virtualStorages = λ n x e. subst (λ (z : ℤ). T (meets w (getD (i .virtualStorages) n (sentinels w)) z)) (virtual-storage-amount n x e) (v .0 (r .2) n x e);
+              nodes = λ n x e c free.
+                  subst (λ (z : ℤ). T (meets w (ofNodes n) z)) (node-amount w net sound plan each n)
+                  (unlisted-continuous n (setsWithNode n 0 (exclusiveSets net)) .0 (n2 .0 (n1 .0 (r .0)) n x e c) (unlisted net n free));
+              varyingExclusive = λ n x e c. listed-set n (setsWithNode n 0 (exclusiveSets net)) .0 (s2 .0 (t .1) n x e c);
+              aggregates = λ n x e.
+                  subst (λ (z : ℤ). T (meets w (getD (i .aggregates) n (sentinels w)) z)) (aggregate-amount x (found-mem (net .aggregates) n x e)) (g .0 (r .1) n x e);
+              virtualStorages = λ n x e.
+                  subst (λ (z : ℤ). T (meets w (getD (i .virtualStorages) n (sentinels w)) z)) (virtual-storage-amount n x e) (v .0 (r .2) n x e);
             },
         λ h.
-            met .1 (
-              n1 .1 (n2 .1 (λ n x e t. subst (λ (z : ℤ). T (meets w (ofNodes n) z)) (sym (node-amount w net sound plan each n)) (h .nodes n x e t))),
-              g .1 (λ n x e. subst (λ (z : ℤ). T (meets w (getD (i .aggregates) n (sentinels w)) z)) (sym (aggregate-amount x (found-mem (net .aggregates) n x e))) (h .aggregates n x e)),
-              v .1 (λ n x e. subst (λ (z : ℤ). T (meets w (getD (i .virtualStorages) n (sentinels w)) z)) (sym (virtual-storage-amount n x e)) (h .virtualStorages n x e)),
+            step-met w net sound i ok ranged plan .1 (
+              bounds-met w net sound i ok ranged plan .1 (
+                n1 .1 (n2 .1 (λ n x e c.
+                    unlisted-continuous n (setsWithNode n 0 (exclusiveSets net)) .1
+                    (λ q. subst (λ (z : ℤ). T (meets w (ofNodes n) z)) (sym (node-amount w net sound plan each n)) (h .nodes n x e c (listed-none net n q))))),
+                g .1 (λ n x e. subst (λ (z : ℤ). T (meets w (getD (i .aggregates) n (sentinels w)) z)) (sym (aggregate-amount x (found-mem (net .aggregates) n x e))) (h .aggregates n x e)),
+                v .1 (λ n x e. subst (λ (z : ℤ). T (meets w (getD (i .virtualStorages) n (sentinels w)) z)) (sym (virtual-storage-amount n x e)) (h .virtualStorages n x e)),
+              ),
+              s2 .1 (λ n x e c. listed-set n (setsWithNode n 0 (exclusiveSets net)) .1 (h .varyingExclusive n x e c)),
             ),
       )
 
@@ -271,47 +268,76 @@ module _ (w : Sentinel) (net : Network) (sound : Sound net) (only : OnlyConstant
   unfolding ownInterval
   own-varying n x t = cond-no (x .constant) (bounds x) (ofNodes n) t
 
-  -- a member of an exclusive set is a constant node, and its rule is that of the rows of the set's number
-  record Member (s : List ℕ) (m : ℕ) : Type 0 where
-    node : Node
-    found : getElem? (net .nodes) m ≡ some node
-    constant : T (node .constant)
-    own : ownInterval w i m (getD (net .nodes) m noNode) ≡ bounds node
+  -- a member's rule, by whether its bounds are constant
+  member-constant : (s : List ℕ) (m : ℕ) (x : Node) → getElem? (net .nodes) m ≡ some x → T (x .constant)
+      → MemberRule w net i plan s m ↔ T (exclusiveMeets (plan .on s) (bounds x) (nodeAmount net plan m))
+  member-constant s m x e t =
+      let is : memberTest w net i plan s m (getD (net .nodes) m noNode) ≡ exclusiveMeets (plan .on s) (bounds x) (nodeAmount net plan m) =
+      ap (λ (y : Node). memberTest w net i plan s m y) (found-get (net .nodes) m x noNode e)
+      ∙ ap (λ (g : Bool → Interval → ℤ → Bool). g (plan .on s) (ownInterval w i m x) (nodeAmount net plan m)) (cond-yes (x .constant) exclusiveMeets varyingExclusiveMeets t)
+      ∙ ap (λ (j : Interval). exclusiveMeets (plan .on s) j (nodeAmount net plan m)) (own-constant m x t) in
+      (λ h. subst T is h, λ h. subst T (sym is) h)
 
-  member-of : (s : List ℕ) (m : ℕ) → From (net .aggregates) s → List·Memᴰ m s → Member s m
-  member-of s m from k =
-      let under : m < length (net .nodes) = sound .good .aggregates (from .aggregate) (from .known) .sets s (from .has) .members m k in
-      let b = below-found (net .nodes) m under in
-      let t = only m (b .0) (b .1) (lists-exclusive (net .aggregates) m s from k) in
-      record {
-        node = b .0;
-        found = b .1;
-        constant = t;
-        own = ap (ownInterval w i m) (found-get (net .nodes) m (b .0) noNode (b .1)) ∙ own-constant m (b .0) t;
-      }
+  member-varying : (s : List ℕ) (m : ℕ) (x : Node) → getElem? (net .nodes) m ≡ some x → T (not (x .constant))
+      → MemberRule w net i plan s m ↔ T (varyingExclusiveMeets (plan .on s) (ofNodes m) (nodeAmount net plan m))
+  member-varying s m x e t =
+      let is : memberTest w net i plan s m (getD (net .nodes) m noNode) ≡ varyingExclusiveMeets (plan .on s) (ofNodes m) (nodeAmount net plan m) =
+      ap (λ (y : Node). memberTest w net i plan s m y) (found-get (net .nodes) m x noNode e)
+      ∙ ap (λ (g : Bool → Interval → ℤ → Bool). g (plan .on s) (ownInterval w i m x) (nodeAmount net plan m)) (cond-no (x .constant) exclusiveMeets varyingExclusiveMeets t)
+      ∙ ap (λ (j : Interval). varyingExclusiveMeets (plan .on s) j (nodeAmount net plan m)) (own-varying m x t) in
+      (λ h. subst T is h, λ h. subst T (sym is) h)
 
   abbrev Rules : Type 0
   Rules = (s : List ℕ) → From (net .aggregates) s → (m : ℕ) → List·Memᴰ m s → MemberRule w net i plan s m
 
-  rows-rules : At (net .nodes) (λ n x. T (x .constant) → ConstantMet w net sound plan each n x) → Rules
+  rows-rules : At (net .nodes) (λ n x. T (x .constant) → ConstantMet w net sound plan each n x) → VaryingExclusiveMet → Rules
   unfolding columnMap
-  rows-rules h s from m k =
-      let b = member-of s m from k in
-      let c = h m (b .node) (b .found) (b .constant) .exclusive (setNumber s (exclusiveSets net)) (exclusive-listed net m s from k) in
-      subst (λ (j : Interval). T (exclusiveMeets (plan .on s) j (nodeAmount net plan m))) (sym (b .own))
-      (subst (λ (t : List ℕ). T (exclusiveMeets (plan .on t) (bounds (b .node)) (nodeAmount net plan m))) (number-found s (exclusiveSets net) (from-known net s from)) c)
+  rows-rules h g s from m k =
+      let under : m < length (net .nodes) = sound .good .aggregates (from .aggregate) (from .known) .sets s (from .has) .members m k in
+      let b = below-found (net .nodes) m under in
+      let here : getD (exclusiveSets net) (setNumber s (exclusiveSets net)) [] ≡ s = number-found s (exclusiveSets net) (from-known net s from) in
+      let listed = exclusive-listed net m s from k in
+      by-cases (b .0 .constant)
+      (λ t.
+      member-constant s m (b .0) (b .1) t .1
+      (subst (λ (u : List ℕ). T (exclusiveMeets (plan .on u) (bounds (b .0)) (nodeAmount net plan m))) here
+      (h m (b .0) (b .1) t .exclusive (setNumber s (exclusiveSets net)) listed)))
+      (λ t.
+      member-varying s m (b .0) (b .1) t .1
+      (subst (λ (u : List ℕ). T (varyingExclusiveMeets (plan .on u) (ofNodes m) (nodeAmount net plan m))) here
+      (g m (b .0) (b .1) t (setNumber s (exclusiveSets net)) listed)))
+
+  -- the set of a number that lists a node
+  record SetListing (n k : ℕ) : Type 0 where
+    set : List ℕ
+    from : From (net .aggregates) set
+    member : List·Memᴰ n set
+    is : getD (exclusiveSets net) k [] ≡ set
+
+  set-listing : (n k : ℕ) → List·Memᴰ k (setsWithNode n 0 (exclusiveSets net)) → SetListing n k
+  set-listing n k m =
+      let r = membership-sound n 0 k (exclusiveSets net) m in
+      record {
+        set = r .set;
+        from = set-from net (r .set) (found-mem (exclusiveSets net) (r .at) (r .set) (r .found));
+        member = r .member;
+        is = ap (λ (j : ℕ). getD (exclusiveSets net) j []) (r .where-at ∙ zero-add (r .at)) ∙ found-get (exclusiveSets net) (r .at) (r .set) [] (r .found);
+      }
 
   rules-rows : Rules → (n : ℕ) (x : Node) → getElem? (net .nodes) n ≡ some x → T (x .constant) → (k : ℕ) → List·Memᴰ k (setsWithNode n 0 (f .sets))
       → T (exclusiveMeets (plan .on (getD (f .sets) k [])) (bounds x) (nodeAmount net plan n))
   unfolding columnMap
   rules-rows h n x e t k m =
-      let r = membership-sound n 0 k (exclusiveSets net) m in
-      let s : List ℕ = r .set in
-      let from = set-from net s (found-mem (exclusiveSets net) (r .at) s (r .found)) in
-      let own : ownInterval w i n (getD (net .nodes) n noNode) ≡ bounds x = ap (ownInterval w i n) (found-get (net .nodes) n x noNode e) ∙ own-constant n x t in
-      let same : getD (exclusiveSets net) k [] ≡ s = ap (λ (j : ℕ). getD (exclusiveSets net) j []) (r .where-at ∙ zero-add (r .at)) ∙ found-get (exclusiveSets net) (r .at) s [] (r .found) in
-      subst (λ (u : List ℕ). T (exclusiveMeets (plan .on u) (bounds x) (nodeAmount net plan n))) (sym same)
-      (subst (λ (j : Interval). T (exclusiveMeets (plan .on s) j (nodeAmount net plan n))) own (h s from n (r .member)))
+      let r = set-listing n k m in
+      subst (λ (u : List ℕ). T (exclusiveMeets (plan .on u) (bounds x) (nodeAmount net plan n))) (sym (r .is))
+      (member-constant (r .set) n x e t .0 (h (r .set) (r .from) n (r .member)))
+
+  rules-varying : Rules → VaryingExclusiveMet
+  unfolding columnMap
+  rules-varying h n x e t k m =
+      let r = set-listing n k m in
+      subst (λ (u : List ℕ). T (varyingExclusiveMeets (plan .on u) (ofNodes n) (nodeAmount net plan n))) (sym (r .is))
+      (member-varying (r .set) n x e t .0 (h (r .set) (r .from) n (r .member)))
 
   abbrev Exclusives : Type 0
   Exclusives = At (net .aggregates) (λ n a. T (exclusivityMeets w net i plan n a))
@@ -329,9 +355,9 @@ module _ (w : Sentinel) (net : Network) (sound : Sound net) (only : OnlyConstant
       or-r (not (a .exclusive)) (s && x && y) (and-i (s && x) y (and-i s x r (and-l x y q)) (and-r x y q)))
       (λ t. or-l (not (a .exclusive)) (s && x && y) t)
 
-  open-sets : Exclusives → (n : ℕ) (a : Aggregate) → getElem? (net .aggregates) n ≡ some a → T (a .exclusive) → T (setsMeet w net i plan (a .sets)) × Counted a
+  sets-counted : Exclusives → (n : ℕ) (a : Aggregate) → getElem? (net .aggregates) n ≡ some a → T (a .exclusive) → T (setsMeet w net i plan (a .sets)) × Counted a
   unfolding exclusivityMeets
-  open-sets h n a e t =
+  sets-counted h n a e t =
       let s : Bool = setsMeet w net i plan (a .sets) in
       let x : Bool = leb (a .minActive) (onCount plan (a .sets)) in
       let y : Bool = leb (onCount plan (a .sets)) (a .maxActive) in
@@ -341,7 +367,7 @@ module _ (w : Sentinel) (net : Network) (sound : Sound net) (only : OnlyConstant
   sets-rules : Exclusives → Rules
   sets-rules h s from m k =
       let j = mem-found (net .aggregates) (from .aggregate) (from .known) in
-      sets-rule w net i plan (from .aggregate .sets) .0 (open-sets h (j .0) (from .aggregate) (j .1) (from .exclusive) .0) s (from .has) m k
+      sets-rule w net i plan (from .aggregate .sets) .0 (sets-counted h (j .0) (from .aggregate) (j .1) (from .exclusive) .0) s (from .has) m k
 
   to-network : VaryingMet → FixedMet → NetworkMet
   unfolding nodeMeets
@@ -356,10 +382,10 @@ module _ (w : Sentinel) (net : Network) (sound : Sound net) (only : OnlyConstant
             or-r ex me
             (by-cases (x .constant)
             (λ c. subst (λ (j : Interval). T (meets w j (timesOne (nodeAmount net plan n)))) (sym (own-constant n x c)) (g .constants n x e c .plain t))
-            (λ c. subst (λ (j : Interval). T (meets w j (timesOne (nodeAmount net plan n)))) (sym (own-varying n x c)) (v .nodes n x e c))));
+            (λ c. subst (λ (j : Interval). T (meets w j (timesOne (nodeAmount net plan n)))) (sym (own-varying n x c)) (v .nodes n x e c t))));
         aggregates = v .aggregates;
         virtualStorages = v .virtualStorages;
-        exclusives = rules-sets (rows-rules (g .constants)) (g .counts);
+        exclusives = rules-sets (rows-rules (g .constants) (v .varyingExclusive)) (g .counts);
       }
 
   node-held : NetworkMet → (n : ℕ) (x : Node) → getElem? (net .nodes) n ≡ some x → T (not (isExclusive (net .aggregates) n)) → T (meets w (ownInterval w i n x) (timesOne (nodeAmount net plan n)))
@@ -371,9 +397,8 @@ module _ (w : Sentinel) (net : Network) (sound : Sound net) (only : OnlyConstant
   to-varying : NetworkMet → VaryingMet
   to-varying h =
       record {
-        nodes = λ n x e c.
-            subst (λ (j : Interval). T (meets w j (timesOne (nodeAmount net plan n)))) (own-varying n x c)
-            (node-held h n x e (not-T (isExclusive (net .aggregates) n) (λ u. T-not (x .constant) c (only n x e u))));
+        nodes = λ n x e c t. subst (λ (j : Interval). T (meets w j (timesOne (nodeAmount net plan n)))) (own-varying n x c) (node-held h n x e t);
+        varyingExclusive = rules-varying (sets-rules (h .exclusives));
         aggregates = h .aggregates;
         virtualStorages = h .virtualStorages;
       }
@@ -387,11 +412,10 @@ module _ (w : Sentinel) (net : Network) (sound : Sound net) (only : OnlyConstant
               plain = λ t. subst (λ (j : Interval). T (meets w j (timesOne (nodeAmount net plan n)))) (own-constant n x c) (node-held h n x e t);
               exclusive = rules-rows (sets-rules (h .exclusives)) n x e c;
             };
-        counts = λ n a e t. open-sets (h .exclusives) n a e t .1;
+        counts = λ n a e t. sets-counted (h .exclusives) n a e t .1;
       }
 
-  rows-are : (T (allFrom (rowMet w f plan) 0 (stepRows w (programmeOf w net .shape) i (programmeOf w net .programme .varying)))
-      × T (allFrom (rowMet w f plan) 0 (programmeOf w net .programme .fixed))) ↔ NetworkMet
+  rows-are : (T (allFrom (rowMet w f plan) 0 (steppedRows w net i)) × T (allFrom (rowMet w f plan) 0 (programmeOf w net .programme .fixed))) ↔ NetworkMet
   rows-are = (λ h. to-network (varying-is .0 (h .0)) (fixed-is .0 (h .1)), λ h. (varying-is .1 (to-varying h), fixed-is .1 (to-fixed h)))
 
 -- ---- the two tests
@@ -427,10 +451,10 @@ module _ (w : Sentinel) (net : Network) (i : Intervals) (plan : Plan) where
       let a = at-zero (equalInColumn plan (mappedEdges net)) (mappedEdges net) in
       (λ h n p e. eqb→eq (plan .amount n) (carried plan (p .column) 0 (mappedEdges net)) (a .0 h n p e), λ h. a .1 (λ n p e. eq→eqb (h n p e)))
 
-module _ (w : Sentinel) (net : Network) (sound : Sound net) (only : OnlyConstant net) (factors : T (factorsIn1024ths net)) (plan : Plan) (i : Intervals)
-    (ok : IntervalsOk (length (net .aggregates)) (length (net .virtualStorages)) i) where
+module _ (w : Sentinel) (net : Network) (sound : Sound net) (factors : T (factorsIn1024ths net)) (plan : Plan) (i : Intervals)
+    (ok : IntervalsOk (length (net .aggregates)) (length (net .virtualStorages)) i) (ranged : AllRanged w net i) where
   -- what the rest of the network's side says, whatever the columns carry
-  allowed : (each : Carries net plan) → T (allows w net i plan) ↔ NetworkMet w net sound only factors plan i ok each
+  allowed : (each : Carries net plan) → T (allows w net i plan) ↔ NetworkMet w net sound factors plan i ok ranged each
   unfolding allows
   allowed each =
       let a : Bool = allFrom (balanced net plan) 0 (net .nodes) in
@@ -475,7 +499,7 @@ module _ (w : Sentinel) (net : Network) (sound : Sound net) (only : OnlyConstant
   pub step-meets : (p : Programme) → p .sentinel ≡ w
       → map (λ (c : Column). c .lower) (p .columns) ≡ map (λ (c : Column). c .lower) (allColumns w (columnMap net))
       → map (λ (c : Column). c .upper) (p .columns) ≡ map (λ (c : Column). c .upper) (allColumns w (columnMap net))
-      → p .varying ≡ stepRows w (programmeOf w net .shape) i (programmeOf w net .programme .varying)
+      → p .varying ≡ steppedRows w net i
       → p .fixed ≡ programmeOf w net .programme .fixed
       → T (admits (columnMap net) p plan) ↔ T (allows w net i plan)
   unfolding admits columnMap
@@ -486,19 +510,19 @@ module _ (w : Sentinel) (net : Network) (sound : Sound net) (only : OnlyConstant
       let c : Bool = allFrom (rowMet (p .sentinel) g plan) 0 (p .varying) in
       let d : Bool = allFrom (rowMet (p .sentinel) g plan) 0 (p .fixed) in
       let even = even-test w net i plan in
-      let cv : c ≡ allFrom (rowMet w g plan) 0 (stepRows w (programmeOf w net .shape) i (programmeOf w net .programme .varying)) = ap₂
-      (λ (s : Sentinel) (rows : List Row). allFrom (rowMet s g plan) 0 rows) hs hv in
-      let df : d ≡ allFrom (rowMet w g plan) 0 (programmeOf w net .programme .fixed) = ap₂ (λ (s : Sentinel) (rows : List Row). allFrom (rowMet s g plan) 0 rows) hs hf in (
+      let cv : c ≡ allFrom (rowMet w g plan) 0 (steppedRows w net i) = ap₂ (λ (s : Sentinel) (rows : List Row). allFrom (rowMet s g plan) 0 rows) hs hv in
+      let df : d ≡ allFrom (rowMet w g plan) 0 (programmeOf w net .programme .fixed) =
+      ap₂ (λ (s : Sentinel) (rows : List Row). allFrom (rowMet s g plan) 0 rows) hs hf in (
         λ h.
             let h3 = and-l (a && b && c) d h in
             let h2 = and-l (a && b) c h3 in
             let each : Carries net plan = carries net plan (sound .noself) (even .0 (and-l a b h2)) in
-            allowed each .1 (rows-are w net sound only factors plan i ok each .0 (subst T cv (and-r (a && b) c h3), subst T df (and-r (a && b && c) d h))),
+            allowed each .1 (rows-are w net sound factors plan i ok ranged each .0 (subst T cv (and-r (a && b) c h3), subst T df (and-r (a && b && c) d h))),
         λ h.
             let bal : Balanced net plan = allows-balanced h in
             let level = balanced-even net plan (sound .noself) bal in
             let each : Carries net plan = carries net plan (sound .noself) level in
-            let r = rows-are w net sound only factors plan i ok each .1 (allowed each .0 h) in
+            let r = rows-are w net sound factors plan i ok ranged each .1 (allowed each .0 h) in
             let cols : T b = subst (λ (s : Sentinel). T (allFrom (columnMet s g plan) 0 (p .columns))) (sym hs) (columns-met w g plan (p .columns) hl hu) in
             and-i (a && b && c) d (and-i (a && b) c (and-i a b (even .1 level) cols) (subst T (sym cv) (r .0))) (subst T (sym df) (r .1)),
       )

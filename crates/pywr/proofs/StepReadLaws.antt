@@ -76,6 +76,15 @@ read-node-steps file (n ∷ ns) soFar at r e h =
     let a = bind-value _ _ r e in
     read-node-steps file ns (soFar ++ (a .0 ∷ [])) (at + 34) r (a .2) (all-snoc StepOk soFar (a .0) h (read-node-step file n at (a .0) (a .1)))
 
+nodes-count : (file : List ℕ) (ns : List NodeShape) (soFar : List NodeStep) (at : ℕ) (r : Read (List NodeStep)) → readNodeSteps file ns soFar at ≡ value r
+    → length (r .item) ≡ length soFar + length ns
+unfolding readNodeSteps
+nodes-count file [] soFar at r e = ap (λ (q : Read (List NodeStep)). length (q .item)) (sym (same-value _ r e)) ∙ sym (add-zero (length soFar))
+nodes-count file (n ∷ ns) soFar at r e =
+    let a = bind-value _ _ r e in
+    let l = length-append soFar (a .0 ∷ []) in
+    nodes-count file ns (soFar ++ (a .0 ∷ [])) (at + 34) r (a .2) ∙ (let k : length (soFar ++ (a .0 ∷ [])) + length ns ≡ length soFar + suc (length ns) = omega arith in k)
+
 -- ---- aggregates
 
 read-aggregate : (file : List ℕ) (place : ℕ) (r : Interval) → readAggregateStep file place ≡ value r → IsInterval r
@@ -155,7 +164,21 @@ step-sound shapes aggregates virtualStorages file f e =
       storeCount = omega arith;
     })))))
 
+-- a step has one entry for each node
+pub step-nodes : (shapes : List NodeShape) (aggregates virtualStorages : ℕ) (file : List ℕ) (f : StepFile)
+    → readStep shapes aggregates virtualStorages file ≡ value f → length (f .nodes) ≡ length shapes
+unfolding readStep
+step-nodes shapes aggregates virtualStorages file f e =
+    bind-then _ _ f e (λ a a-is e. bind-then _ _ f e (λ b b-is e. bind-then _ _ f e (λ c c-is e. bind-then _ _ f e (λ d d-is e.
+    let l : length (b .item) ≡ 0 + length shapes = nodes-count file shapes [] (a .next) b b-is in
+    ap (λ (g : StepFile). length (g .nodes)) (sym (need-value _ 12 (d .next) _ f e)) ∙ (let k : length (b .item) ≡ length shapes = omega arith in k)))))
+
 -- ---- the intervals
+
+pub node-intervals-long : (s : Sentinel) (days : Float) (ns : List NodeStep) → length (nodeIntervals s days ns) ≡ length ns
+unfolding nodeIntervals
+node-intervals-long s days [] = refl
+node-intervals-long s days (n ∷ ns) = ap suc (node-intervals-long s days ns)
 
 pub at-interval : (s : Sentinel) (is : List Interval) (n : ℕ) → AllMem IsInterval is → IsInterval (getD is n (sentinels s))
 at-interval s [] n h = sentinels-interval s

@@ -2,7 +2,7 @@
 use mathlib.Core.Path.{_≡_, refl}
 use Prim.Native.Nat.{ℕ}
 use mathlib.Core.List.{List, [], _∷_, _++_}
-use mathlib.Core.Bool.{true, false}
+use mathlib.Core.Bool.{false}
 use lib.ListN.{replicate}
 use lib.Ieee.{inf}
 use Rattle.layout.specs.Layout.{numbersLength, wordsLength}
@@ -28,10 +28,10 @@ pumpStep = date 6 1 (double 1) ++ nodeStep zero64 (double 3) (double 2000000) ze
 pub pumpRows : List Row
 pumpRows = programmeIn (stepStore (buildStore Infinity pump blank (replicate wordsLength 0) (replicate numbersLength zero64)) pumpStep work) .varying
 
--- "both sentinels .. the integer column's coefficient becomes the upper bound, or minus the lower, uncapped"
+-- "lower 0, upper high sentinel"; "the integer column's coefficient becomes the upper bound, or minus the lower, uncapped"
 pub uncapped : pumpRows
-    ≡ record { lower = inf true; upper = inf false; elements = element 0 (minusWhole 1) ∷ element 1 (times 15625 7) ∷ [] }
-    ∷ record { lower = inf true; upper = inf false; elements = element 0 (whole 1) ∷ element 1 (minusWhole 3) ∷ [] }
+    ≡ record { lower = zero64; upper = inf false; elements = element 0 (minusWhole 1) ∷ element 1 (times 15625 7) ∷ [] }
+    ∷ record { lower = zero64; upper = inf false; elements = element 0 (whole 1) ∷ element 1 (minusWhole 3) ∷ [] }
     ∷ record { lower = zero64; upper = whole 9; elements = element 0 (whole 1) ∷ [] }
     ∷ []
 unfolding computing blank work pump pumpStep pumpRows

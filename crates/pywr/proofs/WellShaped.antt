@@ -38,7 +38,7 @@ use Rattle.pywr.proofs.Represents.{Roomy, Represents, ProgrammeFits, bu
 use Rattle.pywr.proofs.ListLaws.{AllMem, all-none, all-cons, all-append, all-map, every-mem, found-mem, mem-found, not-found, same-some, below-found, found-left, found-map}
 use Rattle.pywr.proofs.MembershipLaws.{mem-listed}
 use Rattle.pywr.proofs.ReadLaws.{Good, Sound, EdgeOk}
-use Rattle.pywr.proofs.JoinLaws.{cols, Placed, places-under}
+use Rattle.pywr.proofs.JoinLaws.{cols, alike-columns, Placed, places-under}
 use Rattle.pywr.proofs.FitLaws.{elements-append, columns-long, columns-most, forNodes, forAggregates, forVirtualStorages, integers-all, programme-fits}
 use Rattle.pywr.proofs.FitLaws.{nodes-placed, aggregates-placed, virtual-storages-placed}
 use Rattle.pywr.proofs.CountLaws.{sets-under, requests-few}
@@ -137,7 +137,7 @@ module _ (net : Network) (sound : Sound net) (rows : List (List Element)) where
       moved : (a .rowType ≡ continuous) ⊎ ((a .set < length (exclusiveSets net)) × List·Memᴰ (columns net .count + a .set) (cols (a .row)))
           → (a .rowType ≡ continuous) ⊎ ((a .set < length (exclusiveSets net)) × List·Memᴰ (columns net .count + a .set) (cols (getD rows p [])))
       moved (inl q) = inl q
-      moved (inr q) = inr (q .0, subst (λ (l : List ℕ). List·Memᴰ (columns net .count + a .set) l) (sym (e .columns)) (q .1))
+      moved (inr q) = inr (q .0, subst (λ (l : List ℕ). List·Memᴰ (columns net .count + a .set) l) (sym (alike-columns e)) (q .1))
 
 virtual-storages-under : (n : ℕ) (vs : List VirtualStorage) (ps : List ℕ) → AllMem (λ (p : ℕ). p < n) ps → AllMem (λ (v : VirtualStorageShape). v .row < n) (placedVirtualStorages vs ps)
 unfolding placedVirtualStorages

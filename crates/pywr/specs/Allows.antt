@@ -71,17 +71,22 @@ virtualStorageMeets s net intervals plan number v = meets s (getD (intervals .vi
 unfoldable pub onAmount : Bool → Float → SignedAmount
 onAmount on bound = cond on (exact bound) (pos 0)
 
--- "an exclusive node's amount is, per set, at most min(max, 1e6) when on and 0 when off, and if min isn't 0 at least max(min, 1e-6) when on and 0 when off"
+-- a constant node's rule: "an exclusive node's amount is, per set, at most min(max, 1e6) when on and 0 when off, and if min isn't 0 at least
+-- max(min, 1e-6) when on and 0 when off"
 unfoldable pub exclusiveMeets : Bool → Interval → SignedAmount → Bool
 exclusiveMeets on interval amount =
     leZ amount (onAmount on (lesser (interval .upper) million))
     && (eq (interval .lower) zero64 || leZ (onAmount on (greater (interval .lower) millionth)) amount)
 
+-- document 02, L3, a varying node's: "flow between lower and upper when on, 0 when off"; an accepted step has no bound at or beyond a sentinel there (21)
+unfoldable pub varyingExclusiveMeets : Bool → Interval → SignedAmount → Bool
+varyingExclusiveMeets on interval amount = leZ amount (onAmount on (interval .upper)) && leZ (onAmount on (interval .lower)) amount
+
 -- that of every node that a set lists; then of every set in a list
 unfoldable pub memberMeets : Sentinel → Network → Intervals → Plan → List ℕ → List ℕ → Bool
 memberMeets s net intervals plan set [] = true
 memberMeets s net intervals plan set (node ∷ nodes) =
-    exclusiveMeets (plan .on set)
+    cond (getD (net .nodes) node noNode .constant) exclusiveMeets varyingExclusiveMeets (plan .on set)
     (ownInterval s intervals node (getD (net .nodes) node noNode))
     (nodeAmount net plan node)
     && memberMeets s net intervals plan set nodes

@@ -17,7 +17,7 @@ use Rattle.pywr.specs.Numbers.{zero64}
 use Rattle.pywr.specs.Programme.{Built}
 use Rattle.pywr.specs.Build.{build}
 use Rattle.pywr.specs.StepFile.{StepFile, readStep}
-use Rattle.pywr.specs.StepIntervals.{intervals, Intervals, ordered}
+use Rattle.pywr.specs.StepIntervals.{intervals, Intervals, hasBinaryRow, ordered}
 use Rattle.pywr.specs.Step.{periods, stepped}
 use Rattle.pywr.specs.Store.{Store, storeHasRoom, rowCount, shapeOf, startOf, columnsOfRow, programmeIn}
 use Rattle.pywr.specs.Misshapen.{wellShaped}
@@ -87,11 +87,15 @@ stepRead store file work = do
 unfoldable pub stepIntervals : Store → StepFile → Intervals
 stepIntervals store f = intervals (programmeIn store .sentinel) (periods (shapeOf store)) f
 
--- "Step: 16, 17, file left to right, 14"
+-- 14 and 21, of the nodes as the store tells them
+unfoldable pub stepOrdered : Store → StepFile → Result Intervals
+stepOrdered store f = ordered (programmeIn store .sentinel) (hasBinaryRow (shapeOf store .nodeRows)) (stepIntervals store f)
+
+-- "Step: 16, 17, file left to right, 14", and 21 with 14
 unfoldable pub stepAnswer : Store → List ℕ → List Float → Result StepFile
 stepAnswer store file work = do
   f ← stepRead store file work
-  _ ← ordered (stepIntervals store f)
+  _ ← stepOrdered store f
   value f
 
 unfoldable pub storeOfStep : Store → Result StepFile → Store

@@ -2,13 +2,13 @@
 use Prim.Native.Nat.{ℕ}
 use mathlib.Core.List.{flatMap}
 use lib.Ieee.{add, sub, div, neg, lt, le, eq, round, ofBits, toBits, nanBits}
-use Rattle.pywr.specs.Result.{_>>=_, need}
+use Rattle.pywr.specs.Result.{_>>=_, need, firstRefused, refusedIf}
 use Rattle.pywr.specs.Bytes.{u8, u16, u32, bits64, checked}
 use Rattle.pywr.specs.Numbers.{double, zero64, one64, two64, million, millionth, trillion, leastDays, mostDays, high, low, lesser, greater, isFlow, isSmall, isDays, ofPattern}
 use Rattle.pywr.specs.Network.{noNode, kindOf, keepIf, listed, anyListed, isExclusive, edgesWith, incoming, outgoing}
 use Rattle.pywr.specs.NetworkFile.{constantFits, readNode, joins, wrongWay, readEdge, readMembers, readSets, readAggregate, readParts, readVirtualStorage, markAt}
 use Rattle.pywr.specs.NetworkFile.{inOrder, hasRoom, withNode, withEdge, withAggregate, withVirtualStorage, readBody, between, mostConstant, activeFits, leastDate}
-use Rattle.pywr.specs.NetworkFile.{mostDate, readRecord, readRecords, firstRefused, isEmpty, unconnectedLink, badConstant, refusedIf, checkNetwork, parseNetwork}
+use Rattle.pywr.specs.NetworkFile.{mostDate, readRecord, readRecords, isEmpty, unconnectedLink, badConstant, checkNetwork, parseNetwork}
 use Rattle.pywr.specs.ColEdgeMap.{columns, columnAt, put, putNew, addSimpleEdge, addEqualEdges, single, sharesWith, placeEdge, placeEdges, withColumns, mappedEdges, columnOf}
 use Rattle.pywr.specs.ExclusiveSets.{sameSet, hasSet, addSets, setsFrom, exclusiveSets, setNumber, timesIn, setsWithNode}
 use Rattle.pywr.specs.Rows.{addElement, addOn, columnMap, columnsWith, columnsInto, columnsOutOf, addNode, nodeRow, massRow}
@@ -23,9 +23,10 @@ use Rattle.pywr.specs.Interval.{tighten, sentinels, intervalOf, storageB
 use Rattle.pywr.specs.Period.{isActive, virtualInterval}
 use Rattle.pywr.specs.StepFile.{expectMark, daysIn, readDate, boundFits, volumeFits, boundsRead, readNodeStep}
 use Rattle.pywr.specs.StepFile.{readNodeSteps, readAggregateStep, readAggregateSteps, readVirtualStorageStep, readVirtualStorageSteps, readStep}
-use Rattle.pywr.specs.StepIntervals.{intervals, nodeInterval, nodeIntervals, virtualStorageIntervals, isCrossed, firstCrossed, unless, ordered}
+use Rattle.pywr.specs.StepIntervals.{intervals, nodeInterval, nodeIntervals, virtualStorageIntervals, isCrossed, isBeyond, isBinary, hasBinaryRow, badInterval, ordered}
 use Rattle.pywr.specs.Costs.{outgoingCost, incomingCost, edgeCost, kindAt, costAt, stepCosts, addCosts}
-use Rattle.pywr.specs.Step.{adjust, withBounds, applyRowBounds, setCoefficient, withCoefficient, applyInterval, applyNodeRows}
+use Rattle.pywr.specs.Step.{adjust, withBounds, applyRowBounds, changeCoefficient, withCoefficient, overNodeRows, intervalFor, applyInterval, applyNodeRows}
+use Rattle.pywr.specs.Step.{resetBinaryRow, resetBinaryRows, applyCoefficient, applyCoefficients}
 use Rattle.pywr.specs.Step.{applyIntervals, rowOf, periodOf, stepRows, periods, withCosts, stepped}
 use Rattle.pywr.specs.Store.{storeHasRoom, sentinelOf, rowTypeOf, entries, nodeEntry, edgeEntry, nodeRowEntry}
 use Rattle.pywr.specs.Store.{virtualStorageEntry, makerEntry, makersIn, rowMaker, shapeOf, elementsOf, columnsOfRow, rowEntry, columnEntry, programmeIn}
@@ -34,13 +35,13 @@ use Rattle.pywr.specs.Misshapen.{nodeFits, edgeFits, nodeRowFits, aggreg
 use Rattle.pywr.specs.Written.{sentinelWord, rowTypeWord, flagWord, nodeWords, edgeWords, nodeRowWords, virtualStorageWords, makerWords, integerColumns, countWords}
 use Rattle.pywr.specs.Written.{shapeAfter, startsFrom, columnsIn, valuesIn, lowerOf, upperOf, rowsOf, builtStore, steppedStore}
 use Rattle.pywr.specs.Calls.{cleared, buildRoom, buildAnswer, storeOfBuild, buildStore, buildWords, buildNumbers, stepRoom, stepRead}
-use Rattle.pywr.specs.Calls.{stepIntervals, stepAnswer, storeOfStep, stepStore, stepWork, isAccepted, rowAnswer, partOf, rowPart}
+use Rattle.pywr.specs.Calls.{stepIntervals, stepOrdered, stepAnswer, storeOfStep, stepStore, stepWork, isAccepted, rowAnswer, partOf, rowPart}
 use Rattle.pywr.specs.Plans.{exact, meets, unitsInOne, unitsIn1024th, signed, isFinite, timesOne, lowerMet, upperMet, allFrom}
 use Rattle.pywr.specs.Allows.{allows, flowWith, inflow, outflow, nodeAmount, nodesAmount, setsAmount, partsSum, balanced, ownInterval}
-use Rattle.pywr.specs.Allows.{nodeMeets, aggregateMeets, virtualStorageMeets, onAmount, exclusiveMeets, memberMeets, setsMeet, onCount, exclusivityMeets}
+use Rattle.pywr.specs.Allows.{nodeMeets, aggregateMeets, virtualStorageMeets, onAmount, exclusiveMeets, varyingExclusiveMeets, memberMeets, setsMeet, onCount, exclusivityMeets}
 use Rattle.pywr.specs.Admits.{admits, carried, equalInColumn, onColumn, rowSum, rowMet, columnMet}
 use Rattle.pywr.specs.Correspondence.{storeAfter, reports, lastAccepted, periodsOf, readBy, allowsRead, allowsUnder}
-use Rattle.pywr.specs.Correspondence.{networkAllows, programmeAdmits, exclusiveConstant, factorLimit, isMultipleToLimit, factorsAreMultiples, factorsIn1024ths, factorsWhole, anyAccepted}
+use Rattle.pywr.specs.Correspondence.{networkAllows, programmeAdmits, isVaryingExclusive, factorLimit, isMultipleToLimit, factorsAreMultiples, factorsIn1024ths, factorsWhole, anyAccepted}
 use Rattle.pywr.specs.ExactElements.{occurrences, nodeTimes, factorSum}
 use Rattle.pywr.specs.FileBytes.{w16, w32, w64, varying, constant, edge, setBytes, exclusive, partBytes, virtualStorageOf, virtualStorage, date, nodeStep, aggregateStep, virtualStorageStep}
 
@@ -73,8 +74,9 @@ building = 0
 unfoldable pub stepping : ℕ
 unfolding tighten sentinels intervalOf storageBounds virtualBounds isActive virtualInterval expectMark daysIn readDate boundFits volumeFits boundsRead
     readNodeStep readNodeSteps readAggregateStep readAggregateSteps readVirtualStorageStep readVirtualStorageSteps readStep nodeInterval nodeIntervals
-    virtualStorageIntervals intervals isCrossed firstCrossed unless ordered outgoingCost incomingCost edgeCost kindAt costAt addCosts stepCosts adjust
-    withBounds applyRowBounds setCoefficient withCoefficient applyInterval applyNodeRows applyIntervals rowOf periodOf stepRows periods withCosts
+    virtualStorageIntervals intervals isCrossed isBeyond isBinary hasBinaryRow badInterval ordered outgoingCost incomingCost edgeCost kindAt costAt addCosts stepCosts adjust
+    withBounds applyRowBounds changeCoefficient withCoefficient overNodeRows intervalFor applyInterval applyNodeRows resetBinaryRow resetBinaryRows
+    applyCoefficient applyCoefficients applyIntervals rowOf periodOf stepRows periods withCosts
     stepped
 stepping = 0
 
@@ -84,15 +86,15 @@ unfolding flatMap storeHasRoom sentinelOf rowTypeOf entries nodeEntry edgeEntry 
     rowEntry columnEntry programmeIn countsFit startsRise columnsRise rowColumnsRise nodeFits edgeFits nodeRowFits aggregateFits virtualStorageFits
     makersOfKind makerFits allEntries wellShaped sentinelWord rowTypeWord flagWord nodeWords edgeWords nodeRowWords virtualStorageWords makerWords integerColumns countWords shapeAfter
     startsFrom columnsIn valuesIn lowerOf upperOf rowsOf builtStore steppedStore cleared buildRoom buildAnswer storeOfBuild buildStore buildWords
-    buildNumbers stepRoom stepRead stepIntervals stepAnswer storeOfStep stepStore stepWork isAccepted rowAnswer partOf rowPart
+    buildNumbers stepRoom stepRead stepIntervals stepOrdered stepAnswer storeOfStep stepStore stepWork isAccepted rowAnswer partOf rowPart
 storing = 0
 
 -- plans and the lists of steps
 unfoldable pub planning : ℕ
 unfolding unitsInOne unitsIn1024th signed exact isFinite timesOne lowerMet upperMet meets allFrom flowWith inflow outflow nodeAmount nodesAmount setsAmount partsSum
-    balanced ownInterval nodeMeets aggregateMeets virtualStorageMeets onAmount exclusiveMeets memberMeets setsMeet onCount exclusivityMeets allows
+    balanced ownInterval nodeMeets aggregateMeets virtualStorageMeets onAmount exclusiveMeets varyingExclusiveMeets memberMeets setsMeet onCount exclusivityMeets allows
     carried equalInColumn onColumn rowSum rowMet columnMet admits storeAfter reports lastAccepted periodsOf readBy allowsRead allowsUnder
-    networkAllows programmeAdmits exclusiveConstant factorLimit isMultipleToLimit factorsAreMultiples factorsIn1024ths factorsWhole anyAccepted
+    networkAllows programmeAdmits isVaryingExclusive factorLimit isMultipleToLimit factorsAreMultiples factorsIn1024ths factorsWhole anyAccepted
     occurrences nodeTimes factorSum
 planning = 0
 

@@ -4,13 +4,13 @@ use Prim.Native.Nat.{ℕ, _*_, _%_}
 use mathlib.Core.List.{List, [], _∷_, map}
 use mathlib.Core.Bool.{Bool, true, false, cond, not, _&&_, _||_}
 use mathlib.Core.Option.{Option, none, some}
-use lib.ListN.{length}
+use lib.ListN.{length, getD}
 use lib.IntN.{natAbs}
 use lib.Dec.{leb, eqb}
 use lib.Ieee.{Float}
 use Rattle.pywr.specs.declared.Sentinel.{Sentinel}
 use Rattle.pywr.specs.Result.{value, Result, refused}
-use Rattle.pywr.specs.Network.{Node, Period, Part, VirtualStorage, Network, isExclusive}
+use Rattle.pywr.specs.Network.{Period, Part, VirtualStorage, Network, noNode, isExclusive}
 use Rattle.pywr.specs.NetworkFile.{parseNetwork}
 use Rattle.pywr.specs.Rows.{columnMap}
 use Rattle.pywr.specs.Build.{nodeShape}
@@ -77,11 +77,11 @@ unfoldable pub programmeAdmits : Result Network → Store → Plan → Bool
 programmeAdmits (refused number place) store plan = false
 programmeAdmits (value net) store plan = admits (columnMap net) (programmeIn store) plan
 
--- ---- premises
+-- document 02, L3: "varying exclusive nodes", in the network's words: 21 is asked of these
+unfoldable pub isVaryingExclusive : Network → ℕ → Bool
+isVaryingExclusive net node = isExclusive (net .aggregates) node && not (getD (net .nodes) node noNode .constant)
 
--- exclusive nodes have constant bounds
-unfoldable pub exclusiveConstant : Network → Bool
-exclusiveConstant net = allFrom (λ (number : ℕ) (node : Node). not (isExclusive (net .aggregates) number) || node .constant) 0 (net .nodes)
+-- ---- the premise
 
 -- the most that a factor may be in magnitude
 unfoldable pub factorLimit : Amount
@@ -111,14 +111,13 @@ anyAccepted (report ∷ rest) = report .accepted || anyAccepted rest
 
 -- For every list of steps, refused ones included, from the store that any accepted build left: after the list, if at least one was accepted,
 -- the programme admits each plan exactly if the network allows it under the last accepted step.
--- The build and each step have a work area of any length and content. Premises: nothing but these steps writes the store (`storeAfter`), exclusive nodes have
--- constant bounds, and what is said of factors.
+-- The build and each step have a work area of any length and content. Premises: nothing but these steps writes the store (`storeAfter`), and what
+-- is said of factors.
 abbrev pub CorrespondenceWhere : (Network → Bool) → Type 0
 CorrespondenceWhere factorsAllowed =
     (networkFile : List ℕ) (s : Sentinel) (old : Store) (words : List ℕ) (numbers : List Float) (net : Network)
     → parseNetwork networkFile ≡ value net
     → isAccepted (buildAnswer s networkFile old words numbers) ≡ true
-    → exclusiveConstant net ≡ true
     → factorsAllowed net ≡ true
     → (calls : List Call)
     → anyAccepted (reports (buildStore s networkFile old words numbers) calls) ≡ true

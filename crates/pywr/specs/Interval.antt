@@ -14,6 +14,10 @@ tighten held by = record { lower = greater (held .lower) (by .lower); upper = le
 unfoldable pub sentinels : Sentinel → Interval
 sentinels s = record { lower = low s; upper = high s }
 
+-- lower 0 and upper the high sentinel: "Varying rows start at lower 0 and the high sentinel.", and binary ones stay there
+abbrev pub zeroToHigh : Sentinel → Interval
+zeroToHigh s = record { lower = zero64; upper = high s }
+
 -- NodeBounds: "A bound interval is either a flow pair or a volume pair", the volume pair being the available and the missing volume.
 -- "Storage, volume 30, range 10 to 100, 2 days: −20/2 to 70/2, [−10, 35]."
 unfoldable pub intervalOf : Float → NodeBounds → Interval

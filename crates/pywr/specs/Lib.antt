@@ -30,6 +30,7 @@ pub mod Allows
 pub mod Admits
 pub mod Correspondence
 pub mod ExactElements
+pub mod BinaryRows
 pub mod RowMakers
 pub mod PortRun
 pub mod FileBytes

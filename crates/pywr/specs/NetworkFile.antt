@@ -9,7 +9,7 @@ use lib.ListN.{length}
 use lib.Dec.{leb, ltb, eqb}
 use lib.Ieee.{inf, lt, eq}
 use Rattle.layout.specs.Layout.{nodeCeiling, edgeCeiling, aggregateCeiling, virtualStorageCeiling, aggregateSetCeiling, partCeiling, setSizeCeiling}
-use Rattle.pywr.specs.Result.{value, Result, refused, _>>=_, need}
+use Rattle.pywr.specs.Result.{value, Result, refused, _>>=_, need, firstRefused, refusedIf}
 use Rattle.pywr.specs.Bytes.{within, markIs, u8, u16, u32, bits64, checked}
 use Rattle.pywr.specs.Numbers.{isFlow, isSmall, ofPattern}
 use Rattle.pywr.specs.Network.{input, output, link, storage, Node, Edge, Aggregate, Part, VirtualStorage, Network, kindOf, isExclusive, incoming, outgoing}
@@ -213,11 +213,6 @@ readRecords (suc left) file r =
 abbrev pub emptyNetwork : Network
 emptyNetwork = record { nodes = []; edges = []; aggregates = []; virtualStorages = [] }
 
--- the first node at which the test gives a refusal: its number, and the place, which is the node's index; the first node of the list has this one
-unfoldable pub firstRefused : (ℕ → Node → Option ℕ) → ℕ → List Node → Option (ℕ × ℕ)
-firstRefused test index [] = none
-firstRefused test index (node ∷ nodes) = elim (test index node) [ none ↦ firstRefused test (suc index) nodes | some number ↦ some (number, index) ]
-
 -- 8 "link without incoming or outgoing"
 unfoldable pub isEmpty : List ℕ → Bool
 isEmpty [] = true
@@ -231,10 +226,6 @@ unfoldable pub badConstant : Network → ℕ → Node → Option ℕ
 badConstant net index node =
     cond (node .constant && lt (node .max) (node .min)) (some 9)
     (cond (node .constant && isExclusive (net .aggregates) index && (eq (node .max) (inf true) || eq (node .min) (inf false))) (some 10) none)
-
-unfoldable pub refusedIf : Network → Option (ℕ × ℕ) → Result Network
-refusedIf net none = value net
-refusedIf net (some found) = refused (found .0) (found .1)
 
 -- 7 "no edges (place 0)"; 8 by node; then by node 9, 10
 unfoldable pub checkNetwork : Network → Result Network

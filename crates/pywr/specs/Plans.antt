@@ -47,8 +47,8 @@ signed true amount = negℤ (pos amount)
 signed false amount = pos amount
 
 -- a finite double, m * 2 ^ e or its negation, as an amount. An infinity and NaN count 0, since some number must stand there: bounds are asked first
--- whether they are finite (`lowerMet`, `upperMet`), and under demand 3's premises no element, factor or coefficient is infinite
--- (docs/DEMAND-3.md, "What both sides share")
+-- whether they are finite (`lowerMet`, `upperMet`), and after an accepted build and any list of steps no element, factor or coefficient is infinite
+-- (`finite-elements`; 3, 10 and 21; docs/DEMAND-3.md, "What both sides share")
 unfoldable pub exact : Float → SignedAmount
 exact nan = pos 0
 exact (inf negative) = pos 0

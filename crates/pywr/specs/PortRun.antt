@@ -13,7 +13,7 @@ use Rattle.pywr.specs.NetworkFile.{parseNetwork}
 use Rattle.pywr.specs.Store.{Store}
 use Rattle.pywr.specs.Calls.{AfterBuild, AfterStep}
 use Rattle.pywr.specs.Plans.{Plan}
-use Rattle.pywr.specs.Correspondence.{Call, Report, networkAllows, programmeAdmits, exclusiveConstant, factorsIn1024ths, anyAccepted}
+use Rattle.pywr.specs.Correspondence.{Call, Report, networkAllows, programmeAdmits, factorsIn1024ths, anyAccepted}
 
 -- a call of `step` with what it answered
 pub record Answered : Type 0 where
@@ -38,7 +38,6 @@ PortCorrespondence =
     (networkFile : List ℕ) (s : Sentinel) (old built : Store) (words words′ : List ℕ) (numbers numbers′ : List Float) (net : Network)
     → parseNetwork networkFile ≡ value net
     → AfterBuild s networkFile old words numbers Accepted built words′ numbers′
-    → exclusiveConstant net ≡ true
     → factorsIn1024ths net ≡ true
     → (calls : List Answered) (last : Store)
     → Run built calls last

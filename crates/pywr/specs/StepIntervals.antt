@@ -1,14 +1,17 @@
--- The intervals that a step file gives, and 14. Assumes nothing.
-use Prim.Native.Nat.{ℕ, suc}
+-- The intervals that a step file gives, and 14 and 21. Assumes nothing.
+use Prim.Native.Nat.{ℕ}
 use mathlib.Core.List.{List, [], _∷_}
-use mathlib.Core.Bool.{Bool, true, false}
+use mathlib.Core.Bool.{Bool, true, false, cond, _&&_, _||_}
 use mathlib.Core.Option.{Option, none, some}
-use lib.Ieee.{Float, lt}
+use lib.Dec.{eqb}
+use lib.Ieee.{Float, lt, le}
 use Rattle.pywr.specs.declared.Sentinel.{Sentinel}
 use Rattle.pywr.specs.declared.Interval.{Interval}
 use Rattle.pywr.specs.declared.NodeBounds.{NodeBounds}
-use Rattle.pywr.specs.Result.{value, Result, refused}
+use Rattle.pywr.specs.Result.{Result, firstRefused, refusedIf}
+use Rattle.pywr.specs.Numbers.{high, low}
 use Rattle.pywr.specs.Network.{Period}
+use Rattle.pywr.specs.Programme.{RowType, continuous, binaryUpper, binaryLower, NodeRow}
 use Rattle.pywr.specs.Interval.{sentinels, intervalOf}
 use Rattle.pywr.specs.Period.{isActive, virtualInterval}
 use Rattle.pywr.specs.StepFile.{NodeStep, StepFile}
@@ -47,17 +50,27 @@ intervals s periods file =
 unfoldable pub isCrossed : Interval → Bool
 isCrossed interval = lt (interval .upper) (interval .lower)
 
--- the number of the first such interval; the first interval of the list has this number
-unfoldable pub firstCrossed : ℕ → List Interval → Option ℕ
-firstCrossed number [] = none
-firstCrossed number (interval ∷ rest) = elim (isCrossed interval) [ true ↦ some number | false ↦ firstCrossed (suc number) rest ]
+-- document 02, L3: "a bound at or beyond either sentinel"
+unfoldable pub isBeyond : Sentinel → Float → Bool
+isBeyond s bound = le bound (low s) || le (high s) bound
 
--- x, or the refusal if there is a place to refuse
-unfoldable pub unless : {A : Type 0} → ℕ → Option ℕ → A → Result A
-unless number none x = value x
-unless number (some place) x = refused number place
+unfoldable pub isBinary : RowType → Bool
+isBinary continuous = false
+isBinary binaryUpper = true
+isBinary binaryLower = true
 
--- 14 "varying node's lower over upper (node)". "Aggregate intervals aren't compared lower to upper."
+-- "such a node", as the store tells it: a binary row is a varying exclusive node's. Of a built store this is `isVaryingExclusive` (`binary-rows-tell`)
+unfoldable pub hasBinaryRow : List NodeRow → ℕ → Bool
+hasBinaryRow [] node = false
+hasBinaryRow (n ∷ ns) node = (eqb (n .node) node && isBinary (n .rowType)) || hasBinaryRow ns node
+
+-- 14 "varying node's lower over upper (node)", then 21 of a varying exclusive node: "a bound at or beyond either sentinel on such a node"
+unfoldable pub badInterval : Sentinel → (ℕ → Bool) → ℕ → Interval → Option ℕ
+badInterval s varyingExclusive node interval =
+    cond (isCrossed interval) (some 14)
+    (cond (varyingExclusive node && (isBeyond s (interval .lower) || isBeyond s (interval .upper))) (some 21) none)
+
+-- "after 14 in the same pass, giving the node": by node, 14 and then 21. "Aggregate intervals aren't compared lower to upper."
 -- Nor are virtual storages': "drop the check and leave the number unused" (15; see Uncrossed)
-unfoldable pub ordered : Intervals → Result Intervals
-ordered intervals = unless 14 (firstCrossed 0 (intervals .nodes)) intervals
+unfoldable pub ordered : Sentinel → (ℕ → Bool) → Intervals → Result Intervals
+ordered s varyingExclusive intervals = refusedIf intervals (firstRefused (badInterval s varyingExclusive) 0 (intervals .nodes))

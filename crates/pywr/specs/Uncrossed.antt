@@ -3,17 +3,18 @@
 use mathlib.Core.Path.{_≡_}
 use Prim.Native.Nat.{ℕ}
 use mathlib.Core.List.{List}
-use mathlib.Core.Option.{some}
+use mathlib.Core.Bool.{cond}
+use mathlib.Core.Option.{Option, none, some}
 use lib.ListN.{length, getElem?}
 use lib.Dec.{T}
 use lib.Ieee.{Float, le}
 use Rattle.pywr.specs.declared.Interval.{Interval}
-use Rattle.pywr.specs.Result.{Result, value, _>>=_}
+use Rattle.pywr.specs.Result.{Result, value, _>>=_, firstRefused, refusedIf}
 use Rattle.pywr.specs.StepFile.{StepFile}
-use Rattle.pywr.specs.StepIntervals.{Intervals, firstCrossed, unless, ordered}
+use Rattle.pywr.specs.StepIntervals.{Intervals, isCrossed}
 use Rattle.pywr.specs.Step.{stepRows, stepped}
 use Rattle.pywr.specs.Store.{Store, shapeOf, programmeIn}
-use Rattle.pywr.specs.Calls.{stepRead, stepIntervals, stepAnswer}
+use Rattle.pywr.specs.Calls.{stepRead, stepIntervals, stepOrdered, stepAnswer}
 
 -- lower not over upper. `le` is false of a NaN, so both are numbers
 abbrev pub Uncrossed : Interval → Type 0
@@ -26,23 +27,25 @@ pub record VirtualStoragesUncrossed (store : Store) (f : StepFile) : Type 0 wher
   pub each : length (stepIntervals store f .virtualStorages) ≡ length (shapeOf store .virtualStorages)
   pub uncrossed : (number : ℕ) (i : Interval) → getElem? (stepIntervals store f .virtualStorages) number ≡ some i → Uncrossed i
 
--- Of any store that passes 16 and 17, also one that no build made, with either sentinel, and any file that passes 12 and 13; 14 is not needed
+-- Of any store that passes 16 and 17, also one that no build made, with either sentinel, and any file that passes 12 and 13; 14 and 21 are not needed
 abbrev pub ReadUncrossed : Type 0
 ReadUncrossed = (store : Store) (file : List ℕ) (work : List Float) (f : StepFile) → stepRead store file work ≡ value f → VirtualStoragesUncrossed store f
 
 -- ---- dropping the check changes no answer
 
--- 14, then as before 15 "the same for a virtual storage (its index)"
-unfoldable pub orderedWithFifteen : Intervals → Result Intervals
-orderedWithFifteen intervals = do
-  nodesOrdered ← ordered intervals
-  unless 15 (firstCrossed 0 (nodesOrdered .virtualStorages)) nodesOrdered
+-- as before, 15 "the same for a virtual storage (its index)"
+unfoldable pub crossedVirtualStorage : ℕ → Interval → Option ℕ
+crossedVirtualStorage index interval = cond (isCrossed interval) (some 15) none
 
--- document 01's "Step: 16, 17, file left to right, 14, 15."
+unfoldable pub virtualStoragesOrdered : Intervals → Result Intervals
+virtualStoragesOrdered intervals = refusedIf intervals (firstRefused crossedVirtualStorage 0 (intervals .virtualStorages))
+
+-- document 01's "Step: 16, 17, file left to right, 14, 15.", with document 02's 21 beside 14
 unfoldable pub stepAnswerWithFifteen : Store → List ℕ → List Float → Result StepFile
 stepAnswerWithFifteen store file work = do
   f ← stepRead store file work
-  _ ← orderedWithFifteen (stepIntervals store f)
+  intervals ← stepOrdered store f
+  _ ← virtualStoragesOrdered intervals
   value f
 
 abbrev pub FifteenUnreached : Type 0

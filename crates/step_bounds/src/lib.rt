@@ -5,7 +5,7 @@ use pywr::NodeBounds;
 use pywr::Sentinel;
 ghost use mathlib.Core.Path.{_≡_};
 ghost use Rattle.pywr.specs.Interval.{sentinels, intervalOf, storageBounds, virtualBounds};
-ghost use Rattle.pywr.specs.StepIntervals.{isCrossed};
+ghost use Rattle.pywr.specs.StepIntervals.{isCrossed, isBeyond};
 
 // A storage's available and missing volume.
 pub fn storage_bounds(min: f64, max: f64, volume: f64) -> NodeBounds
@@ -54,4 +54,11 @@ pub fn is_crossed(i: Interval) -> bool
     ensures { λ r. ⌜ r ≡ isCrossed i ⌝ }
 {
     i.upper < i.lower
+}
+
+// A bound at or beyond either sentinel.
+pub fn is_beyond(bound: f64, sentinel: Sentinel) -> bool
+    ensures { λ r. ⌜ r ≡ isBeyond sentinel bound ⌝ }
+{
+    (bound <= sentinel.low()) | (sentinel.high() <= bound)
 }

@@ -1,4 +1,4 @@
--- Judging a step file: 17, then 12 and 13, then 14; and what an accepted file has. Assumes nothing.
+-- Judging a step file: 17, then 12 and 13, then 14 and 21; and what an accepted file has. Assumes nothing.
 use mathlib.Core.Path.{_≡_, refl, sym, _∙_, ap}
 use Prim.Native.Nat.{ℕ, _≤_}
 use native.Mathlib.Omega.{arith}
@@ -13,10 +13,9 @@ use Rattle.pywr.specs.declared.Answer.{Answer}
 use Rattle.pywr.specs.declared.Answer.the-variants.{Accepted, Refused}
 use Rattle.pywr.specs.Result.{Result, value, refused, _>>=_, need}
 use Rattle.pywr.specs.Answers.{answerOf}
-use Rattle.pywr.specs.StepIntervals.{ordered}
 use Rattle.pywr.specs.Store.{Store, storeHasRoom, word, nodeCount, aggregateCount, virtualStorageCount, nodesAt, aggregatesAt, virtualStoragesAt, nodeEntry, virtualStorageEntry, shapeOf}
 use Rattle.pywr.specs.Misshapen.{wellShaped}
-use Rattle.pywr.specs.Calls.{stepRoom, stepRead, stepIntervals, stepAnswer}
+use Rattle.pywr.specs.Calls.{stepRoom, stepRead, stepIntervals, stepOrdered, stepAnswer}
 use Rattle.laws.proofs.Tests.{of-true}
 use Rattle.pywr.proofs.Represents.{Roomy}
 use Rattle.pywr.proofs.DemandThree.{roomy-parts}
@@ -71,7 +70,7 @@ module _ (s : Store) (file : List ℕ) (work : List Float) where
 
   module _ (ok : wellShaped s ≡ true) where
     answers : (lent : List Float) → stepRoom s lent ≡ true
-        → stepAnswer s file lent ≡ afterReading (stepIntervals s) (readOn s file)
+        → stepAnswer s file lent ≡ afterReading (stepOrdered s) (readOn s file)
     unfolding stepRoom
     answers lent room =
         step-answers s file lent (and-l (storeHasRoom s) (leb stepWorkLength (length lent)) (of-true (storeHasRoom s && leb stepWorkLength (length lent)) room))
@@ -82,7 +81,7 @@ module _ (s : Store) (file : List ℕ) (work : List Float) where
     unfolding answerOf afterReading _>>=_
     judged-file {n} {p} e =
         record {
-          answer = λ lent room. sym (ap answerOf (answers lent room ∙ ap (afterReading (stepIntervals s)) (refused-is (readOn s file) n p (sym e))));
+          answer = λ lent room. sym (ap answerOf (answers lent room ∙ ap (afterReading (stepOrdered s)) (refused-is (readOn s file) n p (sym e))));
           read = λ lent room q. not-accepted q;
           ready = λ q. not-accepted q;
         }
@@ -91,9 +90,9 @@ module _ (s : Store) (file : List ℕ) (work : List Float) where
       read-as : readOn s file ≡ value (decodedBy s file)
       read-as = accepted-decoded (shapeOf s .nodes) (length (shapeOf s .aggregates)) (length (shapeOf s .virtualStorages)) file (sym e)
 
-      judged : (lent : List Float) → stepRoom s lent ≡ true → stepAnswer s file lent ≡ (ordered (stepIntervals s (decodedBy s file)) >>= λ _. value (decodedBy s file))
+      judged : (lent : List Float) → stepRoom s lent ≡ true → stepAnswer s file lent ≡ (stepOrdered s (decodedBy s file) >>= λ _. value (decodedBy s file))
       unfolding afterReading _>>=_
-      judged lent room = answers lent room ∙ ap (afterReading (stepIntervals s)) read-as
+      judged lent room = answers lent room ∙ ap (afterReading (stepOrdered s)) read-as
 
       pub long : fileLength (nodeCount s) (aggregateCount s) (virtualStorageCount s) ≤ length file
       unfolding shapeOf
@@ -104,12 +103,12 @@ module _ (s : Store) (file : List ℕ) (work : List Float) where
           let v = entries-length (virtualStorageEntry s) 6 virtualStoragesAt (virtualStorageCount s) in
           omega (arith, l, n, a, v)
 
-      -- 14, or accepted
-      pub judged-intervals : (r : Answer) → r ≡ answerOf (ordered (stepIntervals s (decodedBy s file)))
+      -- 14 or 21, or accepted
+      pub judged-intervals : (r : Answer) → r ≡ answerOf (stepOrdered s (decodedBy s file))
           → (r ≡ Accepted → IntervalsHeld (nodeCount s) (aggregateCount s) (virtualStorageCount s) work (stepIntervals s (decodedBy s file)))
           → Judged s file r work
       judged-intervals r a h =
-          let i = ordered (stepIntervals s (decodedBy s file)) in
+          let i = stepOrdered s (decodedBy s file) in
           record {
             answer = λ lent room. a ∙ sym (ap answerOf (judged lent room) ∙ ordered-answer i (decodedBy s file));
             read = λ lent room q. judged lent room ∙ ordered-value i (decodedBy s file) (sym a ∙ q);

@@ -13,15 +13,13 @@ use Rattle.pywr.specs.StepFile.{StepFile, readStep}
 use Rattle.pywr.specs.Store.{Store, nodeCount, aggregateCount, virtualStorageCount, shapeOf}
 use Rattle.pywr.specs.Misshapen.{wellShaped}
 use Rattle.pywr.specs.Calls.{stepRoom, stepIntervals, stepAnswer}
-use Rattle.step_file.specs.Decoded.{decoded, fileLength}
+use Rattle.step_file.specs.Decoded.{fileLength}
 use Rattle.step_work.specs.WorkRun.{IntervalsHeld}
+pub use Rattle.step_intervals.specs.Found.{decodedBy}
 
--- the file as the store's shape reads it: left to right, and by the places of its numbers
+-- the file as the store's shape reads it, left to right; `decodedBy` is by the places of its numbers
 abbrev pub readOn : Store → List ℕ → Result StepFile
 readOn s file = readStep (shapeOf s .nodes) (length (shapeOf s .aggregates)) (length (shapeOf s .virtualStorages)) file
-
-abbrev pub decodedBy : Store → List ℕ → StepFile
-decodedBy s file = decoded (shapeOf s .nodes) (length (shapeOf s .aggregates)) (length (shapeOf s .virtualStorages)) file
 
 -- an accepted file: the store is well shaped, the file is long enough, and the work run holds its intervals
 pub record Ready (s : Store) (file : List ℕ) (work : List Float) : Type 0 where

@@ -1,4 +1,4 @@
-// The checks of a step: the room of the runs lent (16), then the store's shape and the file (17, 12 and 13, 14).
+// The checks of a step: the room of the runs lent (16), then the store's shape and the file (17, 12 and 13, 14 and 21).
 use layout::STEP_WORK_LENGTH;
 use pywr::Answer;
 ghost use mathlib.Core.Path.{_≡_};
@@ -42,7 +42,7 @@ pub fn has_room(
         & (STEP_WORK_LENGTH <= work)
 }
 
-// Judges a step file on a store with room: 17, 12 and 13, then 14. The intervals of an accepted file stand in the work run.
+// Judges a step file on a store with room: 17, 12 and 13, then 14 and 21. The intervals of an accepted file stand in the work run.
 pub fn judge(
     file: &[u8],
     columns: &[u16],

@@ -1,2 +1,2 @@
 pub mod ColumnPlace
-pub mod SetCoefficientLaws
+pub mod CoefficientLaws

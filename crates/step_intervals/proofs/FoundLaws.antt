@@ -6,28 +6,31 @@ use mathlib.Core.List.{List}
 use mathlib.Core.Option.{Option, none, some}
 use lib.ListN.{getD}
 use lib.Ieee.{Float}
-use Rattle.layout.specs.Layout.{virtualStoragesHeldAt}
+use Rattle.layout.specs.Layout.{nodeRowsIn, virtualStoragesHeldAt}
 use Rattle.pywr.specs.declared.Answer.{Answer}
 use Rattle.pywr.specs.declared.Answer.the-variants.{Accepted, Refused}
 use Rattle.pywr.specs.declared.Interval.{Interval}
 use Rattle.pywr.specs.declared.Sentinel.{Sentinel}
 use Rattle.pywr.specs.Answers.{answerOf}
-use Rattle.pywr.specs.StepIntervals.{Intervals, firstCrossed, unless, ordered}
-use Rattle.pywr.specs.Store.{Store, word, nodeCount, aggregateCount, virtualStorageCount, sentinelOf, entries}
+use Rattle.pywr.specs.Calls.{stepOrdered}
+use Rattle.pywr.specs.Result.{firstRefused, refusedIf}
+use Rattle.pywr.specs.StepIntervals.{Intervals, hasBinaryRow, badInterval, ordered}
+use Rattle.pywr.specs.Store.{Store, word, nodeCount, nodeRowCount, aggregateCount, virtualStorageCount, sentinelOf, entries, nodeRowEntry, shapeOf, programmeIn}
 use Rattle.step_file.specs.Decoded.{f64At}
 use Rattle.step_work.specs.WorkRun.{heldAt, heldFrom, IntervalsHeld}
-use Rattle.step_work.specs.Written.{Written, crossedAnswer, Looked}
+use Rattle.step_work.specs.Written.{Written, foundAnswer, Looked}
 use Rattle.step_node_intervals.specs.NodeIntervals.{nodeNumbered}
+use Rattle.step_node_intervals.specs.BinaryRows.{nodeRowAt, nodeRowsOf}
 use Rattle.step_virtual_storage_intervals.specs.VirtualStorageIntervals.{virtualStorageNumbered}
 use Rattle.step_aggregate_intervals.specs.AggregateIntervals.{aggregateNumbered}
-use Rattle.step_intervals.specs.Found.{intervalsIn, Found}
+use Rattle.step_intervals.specs.Found.{decodedBy, intervalsIn, Found}
 use Rattle.store_shape.proofs.EntryLaws.{entries-same}
 use Rattle.step_intervals.proofs.IntervalLaws.{nodes-are, aggregates-are, virtual-storages-are}
 
-answers : (o : Option ℕ) (i : Intervals) → crossedAnswer 14 o ≡ answerOf (unless 14 o i)
-unfolding crossedAnswer unless answerOf
+answers : (o : Option (ℕ × ℕ)) (i : Intervals) → foundAnswer o ≡ answerOf (refusedIf i o)
+unfolding foundAnswer refusedIf answerOf
 answers none i = refl
-answers (some place) i = refl
+answers (some found) i = refl
 
 -- held from a base as f numbers them
 holds : (work : List Float) (f : ℕ → Interval) (base count : ℕ) → ((k : ℕ) → k < count → heldAt work (base + k) ≡ f k) → heldFrom work base count ≡ entries f 1 0 count
@@ -37,15 +40,19 @@ holds work f base count h =
     (λ k lt. ap (λ (n : ℕ). heldAt work (base + n)) (let e : 1 * k ≡ k = omega arith in e) ∙ h k lt ∙ ap f (let e : k ≡ 0 + 1 * k = omega arith in e))
 
 module _ (s : Store) (shape file : List ℕ) (e : s .shape ≡ shape) (days : Float) (of-days : days ≡ f64At file 4) (sentinel : Sentinel) (kept : sentinel ≡ sentinelOf (getD shape 0 0))
-    (w₀ w₁ : List Float) (r₁ : Answer) (one : Looked 14 (nodeNumbered sentinel days shape file) 0 (getD shape 1 0) w₀ r₁ w₁) where
-  nodes-looked : Looked 14 (nodeNumbered (sentinelOf (word s 0)) (f64At file 4) (s .shape) file) 0 (nodeCount s) w₀ r₁ w₁
+    (w₀ w₁ : List Float) (r₁ : Answer)
+    (one : Looked (badInterval sentinel (hasBinaryRow (nodeRowsOf shape (nodeRowsIn shape)))) (nodeNumbered sentinel days shape file) 0 (getD shape 1 0) w₀ r₁ w₁) where
+  -- 14 and 21 of the store's nodes
+  abbrev bad : ℕ → Interval → Option ℕ
+  bad = badInterval (sentinelOf (word s 0)) (hasBinaryRow (nodeRowsOf (s .shape) (nodeRowCount s)))
+
+  nodes-looked : Looked bad (nodeNumbered (sentinelOf (word s 0)) (f64At file 4) (s .shape) file) 0 (nodeCount s) w₀ r₁ w₁
   nodes-looked = rw (of-days, kept, ← e) at one
 
   -- the nodes alone are asked
-  nodes-answer : r₁ ≡ answerOf (ordered (intervalsIn s file))
-  unfolding ordered
-  nodes-answer =
-      rw (nodes-are s file) (nodes-looked .answer) ∙ answers (firstCrossed 0 (intervalsIn s file .nodes)) (intervalsIn s file)
+  nodes-answer : r₁ ≡ answerOf (stepOrdered s (decodedBy s file))
+  unfolding stepOrdered ordered intervalsIn shapeOf programmeIn nodeRowAt nodeRowEntry
+  nodes-answer = rw (nodes-are s file) (nodes-looked .answer) ∙ answers (firstRefused bad 0 (intervalsIn s file .nodes)) (intervalsIn s file)
 
   pub nodes-refuse : (number place : ℕ) → r₁ ≡ Refused number place → Found s file (Refused number place) w₁
   nodes-refuse number place is =

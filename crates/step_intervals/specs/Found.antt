@@ -7,16 +7,21 @@ use lib.Ieee.{Float}
 use Rattle.pywr.specs.declared.Answer.{Answer}
 use Rattle.pywr.specs.declared.Answer.the-variants.{Accepted}
 use Rattle.pywr.specs.Answers.{answerOf}
-use Rattle.pywr.specs.Calls.{stepIntervals}
-use Rattle.pywr.specs.StepIntervals.{Intervals, ordered}
+use Rattle.pywr.specs.Calls.{stepIntervals, stepOrdered}
+use Rattle.pywr.specs.StepFile.{StepFile}
+use Rattle.pywr.specs.StepIntervals.{Intervals}
 use Rattle.pywr.specs.Store.{Store, nodeCount, aggregateCount, virtualStorageCount, shapeOf}
 use Rattle.step_file.specs.Decoded.{decoded}
 use Rattle.step_work.specs.WorkRun.{IntervalsHeld}
 
--- the intervals that a file gives on a store
+-- the file as the store's shape reads it, by the places of its numbers
+abbrev pub decodedBy : Store → List ℕ → StepFile
+decodedBy s file = decoded (shapeOf s .nodes) (length (shapeOf s .aggregates)) (length (shapeOf s .virtualStorages)) file
+
+-- the intervals that it gives on the store
 unfoldable pub intervalsIn : Store → List ℕ → Intervals
-intervalsIn s file = stepIntervals s (decoded (shapeOf s .nodes) (length (shapeOf s .aggregates)) (length (shapeOf s .virtualStorages)) file)
+intervalsIn s file = stepIntervals s (decodedBy s file)
 
 pub record Found (s : Store) (file : List ℕ) (r : Answer) (work : List Float) : Type 0 where
-  pub answer : r ≡ answerOf (ordered (intervalsIn s file))
+  pub answer : r ≡ answerOf (stepOrdered s (decodedBy s file))
   pub held : r ≡ Accepted → IntervalsHeld (nodeCount s) (aggregateCount s) (virtualStorageCount s) work (intervalsIn s file)

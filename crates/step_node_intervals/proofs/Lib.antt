@@ -1,0 +1,2 @@
+pub mod BinaryRowLaws
+pub mod BadIntervalLaws

@@ -1,1 +1,2 @@
 pub mod NodeIntervals
+pub mod BinaryRows

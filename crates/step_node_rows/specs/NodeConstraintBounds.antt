@@ -1,20 +1,22 @@
--- The varying rows of a store in its runs, and what applying the node rows needs and promises. Assumes nothing.
+-- The varying rows of a store in its runs, and what the passes over the node rows need and promise. Assumes nothing.
 use mathlib.Core.Path.{_≡_}
 use Prim.Native.Nat.{ℕ, _+_, _<_, _≤_}
-use mathlib.Core.Bool.{true}
+use mathlib.Core.Bool.{true, cond}
 use mathlib.Core.List.{List, map, flatMap}
 use lib.ListN.{length, getD}
 use lib.Seq.{sets, slice}
-use lib.Ieee.{Float}
-use Rattle.layout.specs.Layout.{nodeCeiling, rowCeiling, elementCeiling, nodeRowWidth, nodesIn, edgeColumnsIn, setsIn, varyingIn, nodeRowNode, nodeRowRow, nodeRowType, nodeRowSet, stepWorkLength}
+use lib.Dec.{eqb}
+use lib.Ieee.{Float, neg}
+use Rattle.layout.specs.Layout.{nodeCeiling, rowCeiling, shapeLength, nodeRowsAt, nodeRowWidth, nodesIn, edgeColumnsIn, setsIn, varyingIn, nodeRowNode, nodeRowRow, nodeRowType, nodeRowSet}
+use Rattle.pywr.specs.declared.Interval.{Interval}
 use Rattle.pywr.specs.Network.{listed}
-use Rattle.pywr.specs.Programme.{Row}
+use Rattle.pywr.specs.Programme.{Row, NodeRow}
 use Rattle.pywr.specs.Store.{Store, varyingCount, edgeColumnCount, nodeCount, sentinelCode, sentinelOf, entries, nodeRowEntry, columnsOfRow}
 use Rattle.pywr.specs.Misshapen.{columnsRise}
-use Rattle.pywr.specs.Step.{adjust, applyInterval, applyNodeRows}
+use Rattle.pywr.specs.Step.{adjust, overNodeRows, intervalFor, applyInterval, resetBinaryRow, applyCoefficient}
 use Rattle.pywr.specs.Written.{columnsIn, valuesIn}
 use Rattle.store_rows.specs.Starts.{RowsWithin}
-use Rattle.step_work.specs.WorkRun.{heldAt, heldFrom}
+use Rattle.step_work.specs.WorkRun.{heldFrom}
 use Rattle.step_row_bounds.specs.RowBounds.{BoundsWritten}
 
 -- the store s with these columns, row starts and shape
@@ -32,16 +34,32 @@ over s columns rowStarts shape =
       shape = shape;
     }
 
+-- s with this shape
+abbrev pub withShape : Store → List ℕ → Store
+withShape s shape = over s (s .columns) (s .rowStarts) shape
+
 -- the row runs of s after its varying rows became `rows`, on the same columns
 pub record VaryingWritten (s : Store) (rows : List Row) (lower upper elements : List Float) : Type 0 where
   pub bounds : BoundsWritten rows (s .rowLower) (s .rowUpper) lower upper
   pub factors : elements ≡ sets (s .elements) 0 (flatMap valuesIn rows)
   pub columns : map columnsIn rows ≡ entries (columnsOfRow s) 1 0 (varyingCount s)
 
--- a node row: a node, a varying row and, unless it is continuous, a set whose integer column is in the row
-pub record NodeRowFits (columns rowStarts shape : List ℕ) (at : ℕ) : Type 0 where
+-- ---- what the passes need
+
+-- the tables of the shape run have room, and so have the nodes and the varying rows
+pub record ShapeFits (shape : List ℕ) : Type 0 where
+  pub shape-long : shapeLength ≤ length shape
+  pub nodes : nodesIn shape ≤ nodeCeiling
+  pub varying : varyingIn shape ≤ rowCeiling
+
+-- a node row: a node and a varying row
+pub record NodeRowWithin (shape : List ℕ) (at : ℕ) : Type 0 where
   pub node : nodeRowNode shape at < nodesIn shape
   pub row : nodeRowRow shape at < varyingIn shape
+
+-- and, unless it is continuous, a set whose integer column is in the row
+pub record NodeRowFits (columns rowStarts shape : List ℕ) (at : ℕ) : Type 0 where
+  pub within : NodeRowWithin shape at
   pub set : (nodeRowType shape at ≡ 0 → ⊥) → nodeRowSet shape at < setsIn shape
   pub column : (nodeRowType shape at ≡ 0 → ⊥)
       → listed (edgeColumnsIn shape + nodeRowSet shape at) (slice (getD rowStarts (nodeRowRow shape at) 0) (getD rowStarts (nodeRowRow shape at + 1) 0) columns) ≡ true
@@ -52,18 +70,41 @@ pub record VaryingFit (columns rowStarts shape : List ℕ) : Type 0 where
   pub nodes : nodesIn shape ≤ nodeCeiling
   pub rise : (r : ℕ) → r < varyingIn shape → columnsRise (edgeColumnsIn shape + setsIn shape) 0 (slice (getD rowStarts r 0) (getD rowStarts (r + 1) 0) columns) ≡ true
 
-pub record RunsLong (lower upper elements work : List Float) : Type 0 where
-  pub lower-long : rowCeiling ≤ length lower
-  pub upper-long : rowCeiling ≤ length upper
-  pub elements-long : elementCeiling ≤ length elements
-  pub work-long : stepWorkLength ≤ length work
+-- ---- what they promise
 
--- the rows after the node row at `at` was applied
-abbrev pub nodeRowApplied : Store → List Float → ℕ → List Row → List Row
-nodeRowApplied s work at rows =
-    adjust (applyInterval (nodeRowEntry s at .rowType) (edgeColumnCount s + nodeRowEntry s at .set) (heldAt work (nodeRowEntry s at .node))) (nodeRowEntry s at .row) rows
+-- the interval of a node row's node, as the work run holds it
+abbrev pub heldFor : Store → List Float → NodeRow → Interval
+heldFor s work n = intervalFor (sentinelOf (sentinelCode s)) (heldFrom work 0 (nodeCount s)) n
 
--- the rows after `count` node rows from `at` on
-abbrev pub nodeRowsApplied : Store → List Float → ℕ → ℕ → List Row → List Row
-nodeRowsApplied s work at count rows =
-    applyNodeRows (sentinelOf (sentinelCode s)) (edgeColumnCount s) (heldFrom work 0 (nodeCount s)) (entries (nodeRowEntry s) nodeRowWidth at count) rows
+-- what each pass does to the row of a node row
+abbrev pub boundsChange : List Float → Store → NodeRow → Row → Row
+boundsChange work s n = applyInterval (n .rowType) (heldFor s work n)
+
+abbrev pub resetChange : Store → NodeRow → Row → Row
+resetChange s n = resetBinaryRow (sentinelOf (sentinelCode s)) (n .rowType) (edgeColumnCount s + n .set)
+
+abbrev pub coefficientChange : List Float → Store → NodeRow → Row → Row
+coefficientChange work s n = applyCoefficient (n .rowType) (edgeColumnCount s + n .set) (heldFor s work n)
+
+-- the coefficient that an interval gives to a binary row
+unfoldable pub coefficientByWord : ℕ → Interval → Float
+coefficientByWord rowType by = cond (eqb rowType 1) (by .upper) (neg (by .lower))
+
+-- the rows after the node row at `at` changed its row
+abbrev pub nodeRowApplied : Store → (Store → NodeRow → Row → Row) → ℕ → List Row → List Row
+nodeRowApplied s change at rows = adjust (change s (nodeRowEntry s at)) (nodeRowEntry s at .row) rows
+
+-- the rows after `count` node rows from `at` on changed theirs
+abbrev pub nodeRowsApplied : Store → (Store → NodeRow → Row → Row) → ℕ → ℕ → List Row → List Row
+nodeRowsApplied s change at count rows = overNodeRows (change s) (entries (nodeRowEntry s) nodeRowWidth at count) rows
+
+module _ (s : Store) (change : Store → NodeRow → Row → Row) where
+  -- whatever rows the runs held, they hold them after the node row at `at`
+  abbrev pub NodeRowDone : ℕ → List Float → List Float → List Float → List Float → List Float → List Float → Type 0
+  NodeRowDone at lower upper elements lower′ upper′ elements′ =
+      (rows : List Row) → VaryingWritten s rows lower upper elements → VaryingWritten s (nodeRowApplied s change at rows) lower′ upper′ elements′
+
+  -- and after the first `count` node rows
+  abbrev pub NodeRowsDone : ℕ → List Float → List Float → List Float → List Float → List Float → List Float → Type 0
+  NodeRowsDone count lower upper elements lower′ upper′ elements′ =
+      (rows : List Row) → VaryingWritten s rows lower upper elements → VaryingWritten s (nodeRowsApplied s change nodeRowsAt count rows) lower′ upper′ elements′

@@ -15,7 +15,7 @@ use Rattle.pywr.specs.Programme.{Row}
 use Rattle.pywr.specs.Step.{adjust, withBounds, applyRowBounds}
 use Rattle.pywr.specs.Written.{lowerOf, upperOf}
 use Rattle.pywr.proofs.StoreLaws.{Holds, sets-holds}
-use Rattle.step_row_bounds.specs.RowBounds.{BoundsWritten, RowTightened}
+use Rattle.step_row_bounds.specs.RowBounds.{BoundsWritten, RowSet, RowTightened}
 
 -- ---- runs
 
@@ -36,13 +36,19 @@ module _ {A : Type 0} where
       ∙ set-from xs (set l to x) (suc to) p v (let k : suc p < suc (length xs) = h in omega arith)
 
   -- a store into what was written
-  pub set-written : (xs l : List A) (p : ℕ) (v : A) → p < length xs → set (sets l 0 xs) p v ≡ sets l 0 (set xs p v)
+  set-written : (xs l : List A) (p : ℕ) (v : A) → p < length xs → set (sets l 0 xs) p v ≡ sets l 0 (set xs p v)
   set-written xs l p v h = ap (λ (k : ℕ). set (sets l 0 xs) k v) (sym (zero-add p)) ∙ set-from xs l 0 p v h
 
   -- what was written stands there
   get-written : (xs l : List A) (p : ℕ) (d : A) → p < length xs → length xs ≤ length l → getD (sets l 0 xs) p d ≡ getD xs p d
   unfolding Holds
   get-written xs l p d h room = ap (λ (k : ℕ). getD (sets l 0 xs) k d) (sym (zero-add p)) ∙ sets-holds d xs l 0 (omega arith) p h
+
+  -- a change of what was written
+  pub change-written : (xs l : List A) (p : ℕ) (d : A) (change : A → A) → p < length xs → length xs ≤ length l
+      → set (sets l 0 xs) p (change (getD (sets l 0 xs) p d)) ≡ sets l 0 (set xs p (change (getD xs p d)))
+  change-written xs l p d change h room =
+      ap (λ (y : A). set (sets l 0 xs) p (change y)) (get-written xs l p d h room) ∙ set-written xs l p (change (getD xs p d)) h
 
 -- ---- one row adjusted
 
@@ -78,18 +84,25 @@ module _ (h : Row → Row) where
 noRow : Row
 noRow = record { lower = zero64; upper = zero64; elements = [] }
 
-module _ (f : Row → Float) (h : Row → Row) (best : Float → Float → Float) (x : Float) (e : (row : Row) → f (h row) ≡ best (f row) x) where
-  bound-tightened : (rows : List Row) (l : List Float) (r : ℕ) → r < length rows → length rows ≤ length l
-      → set (sets l 0 (map f rows)) r (best (getD (sets l 0 (map f rows)) r zero64) x) ≡ sets l 0 (map f (adjust h r rows))
-  bound-tightened rows l r lt room =
+-- a bound changed in its run is the bound of the row changed
+module _ (f : Row → Float) (h : Row → Row) (change : Float → Float) (e : (row : Row) → f (h row) ≡ change (f row)) where
+  bound-changed : (rows : List Row) (l : List Float) (r : ℕ) → r < length rows → length rows ≤ length l
+      → set (sets l 0 (map f rows)) r (change (getD (sets l 0 (map f rows)) r zero64)) ≡ sets l 0 (map f (adjust h r rows))
+  bound-changed rows l r lt room =
       let n = length-map rows f in
       let m : r < length (map f rows) = omega arith in
-      let here : getD (sets l 0 (map f rows)) r zero64 ≡ f (getD rows r noRow) =
-      get-written (map f rows) l r zero64 m (omega arith) ∙ getD-any (map f rows) r zero64 (f noRow) m ∙ List·getD-map f rows r noRow in
-      ap (λ (y : Float). set (sets l 0 (map f rows)) r (best y x)) here
-      ∙ set-written (map f rows) l r (best (f (getD rows r noRow)) x) m
-      ∙ ap (λ (y : Float). sets l 0 (set (map f rows) r y)) (sym (e (getD rows r noRow)))
+      let here : getD (map f rows) r zero64 ≡ f (getD rows r noRow) = getD-any (map f rows) r zero64 (f noRow) m ∙ List·getD-map f rows r noRow in
+      change-written (map f rows) l r zero64 change m (omega arith)
+      ∙ ap (λ (y : Float). sets l 0 (set (map f rows) r y)) (ap change here ∙ sym (e (getD rows r noRow)))
       ∙ ap (sets l 0) (sym (map-adjusted h f r rows noRow))
+
+lower-set : (i : Interval) (row : Row) → lowerOf (withBounds i row) ≡ i .lower
+unfolding lowerOf withBounds
+lower-set i row = refl
+
+upper-set : (i : Interval) (row : Row) → upperOf (withBounds i row) ≡ i .upper
+unfolding upperOf withBounds
+upper-set i row = refl
 
 lower-tightened : (by : Interval) (row : Row) → lowerOf (applyRowBounds by row) ≡ greater (lowerOf row) (by .lower)
 unfolding lowerOf applyRowBounds withBounds tighten
@@ -112,9 +125,21 @@ module _ (rows : List Row) (lower upper lower′ upper′ lower″ upper″ : Li
       let nu = written-length upper upper′ (map upperOf rows) (w .uppers) in
       record {
         lowers = t .lowers ∙ ap (λ (l : List Float). set l r (greater (getD l r zero64) (by .lower))) (w .lowers)
-            ∙ bound-tightened lowerOf (applyRowBounds by) greater (by .lower) (lower-tightened by) rows lower r lt (omega arith);
+            ∙ bound-changed lowerOf (applyRowBounds by) (λ held. greater held (by .lower)) (lower-tightened by) rows lower r lt (omega arith);
         uppers = t .uppers ∙ ap (λ (l : List Float). set l r (lesser (getD l r zero64) (by .upper))) (w .uppers)
-            ∙ bound-tightened upperOf (applyRowBounds by) lesser (by .upper) (upper-tightened by) rows upper r lt (omega arith);
+            ∙ bound-changed upperOf (applyRowBounds by) (λ held. lesser held (by .upper)) (upper-tightened by) rows upper r lt (omega arith);
+      }
+
+  -- a row's bounds set in their runs are those of the row with the interval
+  pub bounds-set : (r : ℕ) (i : Interval) → r < length rows → length rows ≤ length lower′ → length rows ≤ length upper′
+      → BoundsWritten rows lower upper lower′ upper′ → RowSet r i lower′ upper′ lower″ upper″
+      → BoundsWritten (adjust (withBounds i) r rows) lower upper lower″ upper″
+  bounds-set r i lt rl ru w t =
+      let nl = written-length lower lower′ (map lowerOf rows) (w .lowers) in
+      let nu = written-length upper upper′ (map upperOf rows) (w .uppers) in
+      record {
+        lowers = t .lowers ∙ ap (λ (l : List Float). set l r (i .lower)) (w .lowers) ∙ bound-changed lowerOf (withBounds i) (λ held. i .lower) (lower-set i) rows lower r lt (omega arith);
+        uppers = t .uppers ∙ ap (λ (l : List Float). set l r (i .upper)) (w .uppers) ∙ bound-changed upperOf (withBounds i) (λ held. i .upper) (upper-set i) rows upper r lt (omega arith);
       }
 
 -- ---- rows reset to one interval

@@ -16,6 +16,11 @@ pub record BoundsWritten (rows : List Row) (lower upper lower′ upper′ : List
   pub lowers : lower′ ≡ sets lower 0 (map lowerOf rows)
   pub uppers : upper′ ≡ sets upper 0 (map upperOf rows)
 
+-- the runs after one row's bounds were set to an interval
+pub record RowSet (row : ℕ) (bounds : Interval) (lower upper lower′ upper′ : List Float) : Type 0 where
+  pub lowers : lower′ ≡ set lower row (bounds .lower)
+  pub uppers : upper′ ≡ set upper row (bounds .upper)
+
 -- the runs after one row's bounds were tightened by an interval
 pub record RowTightened (row : ℕ) (by : Interval) (lower upper lower′ upper′ : List Float) : Type 0 where
   pub lowers : lower′ ≡ set lower row (greater (getD lower row zero64) (by .lower))

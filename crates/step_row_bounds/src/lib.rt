@@ -1,4 +1,5 @@
-// Row bounds of a step: varying rows reset to the sentinels, and tightened by intervals (reset_row_bounds and apply_row_bounds of builder.rs).
+// Row bounds of a step: varying rows reset to the sentinels, a row's bounds set or tightened by an interval (reset_row_bounds and apply_row_bounds of
+// builder.rs).
 use extremes::greater;
 use extremes::lesser;
 use layout::UPPERS_AT;
@@ -17,7 +18,7 @@ ghost use Rattle.pywr.specs.Programme.{Row};
 ghost use Rattle.pywr.specs.Store.{sentinelOf, entries};
 ghost use Rattle.pywr.specs.Step.{withBounds, applyIntervals};
 ghost use Rattle.step_work.specs.WorkRun.{heldAt, heldFrom};
-ghost use Rattle.step_row_bounds.specs.RowBounds.{BoundsWritten, RowTightened, RowTable};
+ghost use Rattle.step_row_bounds.specs.RowBounds.{BoundsWritten, RowSet, RowTightened, RowTable};
 
 // Interval k of a step's work run.
 pub fn held_interval(work: &[f64], k: usize) -> Interval
@@ -52,6 +53,15 @@ fn tighten(held: Interval, by: Interval) -> Interval
     }
 }
 
+// A row's bounds become the interval's.
+pub fn set_row_bounds(row_lower: &mut [f64], row_upper: &mut [f64], row: usize, bounds: Interval)
+    requires { ⌜ (row < length (now «row_lower»)) × (row < length (now «row_upper»)) ⌝ }
+    ensures { λ _. ⌜ RowSet row bounds (now («row_lower» .entry)) (now («row_upper» .entry)) (now («row_lower» .exit)) (now («row_upper» .exit)) ⌝ }
+{
+    row_lower[row] = bounds.lower;
+    row_upper[row] = bounds.upper;
+}
+
 // A row's bounds tightened by an interval: a looser bound is ignored.
 pub fn apply_row_bounds(row_lower: &mut [f64], row_upper: &mut [f64], row: usize, by: Interval)
     requires { ⌜ (row < length (now «row_lower»)) × (row < length (now «row_upper»)) ⌝ }
@@ -61,9 +71,7 @@ pub fn apply_row_bounds(row_lower: &mut [f64], row_upper: &mut [f64], row: usize
         lower: row_lower[row],
         upper: row_upper[row],
     };
-    let bounds = tighten(held, by);
-    row_lower[row] = bounds.lower;
-    row_upper[row] = bounds.upper;
+    set_row_bounds(row_lower, row_upper, row, tighten(held, by));
 }
 
 // The intervals from `first` on, applied one after another to the rows that a table of the shape run names.

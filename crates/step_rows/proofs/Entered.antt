@@ -18,7 +18,7 @@ use Rattle.store_rows.specs.Starts.{StartsRise}
 use Rattle.store_rows.proofs.Starts.{start-under}
 use Rattle.step_row_bounds.specs.RowBounds.{BoundsWritten}
 use Rattle.step_node_rows.specs.NodeConstraintBounds.{VaryingWritten, VaryingFit}
-use Rattle.step_coefficients.proofs.SetCoefficientLaws.{starts-mono}
+use Rattle.step_coefficients.proofs.CoefficientLaws.{starts-mono}
 
 -- ---- lists
 

@@ -17,10 +17,11 @@ use Rattle.pywr.specs.Misshapen.{columnsRise, rowColumnsRise, nodeRowFits, aggr
 use Rattle.store_shape.proofs.Entries.{entry-passes}
 use Rattle.store.proofs.Passed.{shaped}
 use Rattle.step_row_bounds.specs.RowBounds.{RowTable}
-use Rattle.step_node_rows.specs.NodeConstraintBounds.{NodeRowFits, VaryingFit}
+use Rattle.step_node_rows.specs.NodeConstraintBounds.{ShapeFits, NodeRowFits, VaryingFit}
 use Rattle.step_rows.specs.ConstraintBounds.{StepRuns}
 
 pub record Fitting (columns rowStarts shape : List ℕ) : Type 0 where
+  pub shape-fits : ShapeFits shape
   pub varying : VaryingFit columns rowStarts shape
   pub node-rows-few : getD shape 8 0 ≤ nodeRowCeiling
   pub node-rows : (k : ℕ) → k < getD shape 8 0 → NodeRowFits columns rowStarts shape (nodeRowsAt + 4 * k)
@@ -47,8 +48,7 @@ module _ (s : Store) where
       let ab : T (a && b) = and-l (a && b) c (and-l (a && b && c) (d || (e && f)) t) in
       let ef : (word s (at + 2) ≡ 0 → ⊥) → T (e && f) = (λ n. or-elim d (e && f) (and-r (a && b && c) (d || (e && f)) t) (λ u. absurd (n (eqb→eq (word s (at + 2)) 0 u))) (λ u. u)) in
       record {
-        node = ltb→lt (word s at) (nodeCount s) (and-l a b ab);
-        row = ltb→lt (word s (at + 1)) (varyingCount s) (and-r a b ab);
+        within = record { node = ltb→lt (word s at) (nodeCount s) (and-l a b ab); row = ltb→lt (word s (at + 1)) (varyingCount s) (and-r a b ab) };
         set = λ n. ltb→lt (word s (at + 3)) (setCount s) (and-l e f (ef n));
         column = λ n. to-true f (and-r e f (ef n));
       }
@@ -70,6 +70,7 @@ module _ (s : Store) where
       let n = h .counts in
       let few : varyingCount s ≤ 1024 = omega (arith, n .rows) in
       record {
+        shape-fits = record { shape-long = p .shape-long; nodes = n .nodes; varying = few };
         varying =
             record {
               rows =

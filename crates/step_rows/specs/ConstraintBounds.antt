@@ -6,14 +6,15 @@ use mathlib.Core.List.{List, [], map, flatMap}
 use lib.ListN.{length}
 use lib.Seq.{sets}
 use lib.Ieee.{Float}
-use Rattle.layout.specs.Layout.{rowCeiling, elementCeiling, rowStartsLength, shapeLength, stepWorkLength}
+use Rattle.layout.specs.Layout.{rowCeiling, elementCeiling, rowStartsLength, shapeLength, nodeRowsAt, stepWorkLength}
 use Rattle.pywr.specs.Programme.{Row}
 use Rattle.pywr.specs.StepIntervals.{Intervals}
 use Rattle.pywr.specs.Step.{stepRows}
-use Rattle.pywr.specs.Store.{Store, nodeCount, aggregateCount, virtualStorageCount, shapeOf, programmeIn}
+use Rattle.pywr.specs.Store.{Store, nodeCount, nodeRowCount, aggregateCount, virtualStorageCount, shapeOf, programmeIn}
 use Rattle.pywr.specs.Misshapen.{wellShaped}
 use Rattle.pywr.specs.Written.{lowerOf, upperOf, valuesIn}
 use Rattle.step_work.specs.WorkRun.{IntervalsHeld}
+use Rattle.step_node_rows.specs.NodeConstraintBounds.{resetChange, coefficientChange, nodeRowsApplied}
 
 -- a store of these six runs
 abbrev pub storeOf : List Float → List Float → List Float → List ℕ → List ℕ → List ℕ → Store
@@ -41,7 +42,12 @@ pub record StepRuns (s : Store) (work : List Float) : Type 0 where
   pub work-long : stepWorkLength ≤ length work
   pub well-shaped : wellShaped s ≡ true
 
--- the varying rows of a store after the intervals were applied
+-- the rows after the binary ones were reset and given the step's coefficients
+abbrev pub binaryRowsUpdated : Store → List Float → List Row → List Row
+binaryRowsUpdated s work rows =
+    nodeRowsApplied s (coefficientChange work) nodeRowsAt (nodeRowCount s) (nodeRowsApplied s resetChange nodeRowsAt (nodeRowCount s) rows)
+
+-- the varying rows of a store after a step
 abbrev pub steppedRows : Store → Intervals → List Row
 steppedRows s i = stepRows (programmeIn s .sentinel) (shapeOf s) i (programmeIn s .varying)
 

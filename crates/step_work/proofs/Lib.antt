@@ -1,3 +1,3 @@
 pub mod WorkRunLaws
-pub mod CrossedLaws
+pub mod RefusedLaws
 pub mod WrittenLaws

@@ -6,6 +6,7 @@ use native.Mathlib.Omega.{arith}
 use borrow.Author.Count.{below-none, below-more}
 use mathlib.Core.List.{List}
 use mathlib.Core.Bool.{Bool, true, false}
+use mathlib.Core.Option.{Option, none, some}
 use lib.ListN.{length, set, length-set}
 use lib.Seq.{getD-set-same, getD-set-other}
 use lib.Ieee.{Float}
@@ -15,8 +16,8 @@ use Rattle.pywr.specs.declared.Interval.{Interval}
 use Rattle.pywr.specs.Numbers.{zero64}
 use Rattle.pywr.specs.StepIntervals.{isCrossed}
 use Rattle.step_work.specs.WorkRun.{heldAt}
-use Rattle.step_work.specs.Written.{Written, crossedAnswer, Looked}
-use Rattle.step_work.proofs.CrossedLaws.{none-crossed, first-crossed}
+use Rattle.step_work.specs.Written.{Written, WrittenTo, foundAnswer, Looked}
+use Rattle.step_work.proofs.RefusedLaws.{none-refused, first-refused}
 
 -- x written at place k
 abbrev pub put : List Float → ℕ → Interval → List Float
@@ -87,21 +88,36 @@ module _ {f : ℕ → Interval} {base count : ℕ} {w₀ w : List Float} {i : �
           ordered = below-more (λ (k : ℕ). isCrossed (f k) ≡ false) i (h .ordered) (ap isCrossed (sym e) ∙ sym is ∙ uncrossed);
         }
 
-    -- the first crossed interval refuses
-    pub passed-stops : (number : ℕ) → b ≡ true → Looked number f base count w₀ (Refused number i) w
-    unfolding crossedAnswer
-    passed-stops number crossed =
-        let all : (k : ℕ) → k < i → isCrossed (f (0 + k)) ≡ false = λ k less. ap (λ (n : ℕ). isCrossed (f n)) (zero-add k) ∙ h .ordered k less in
-        let here : isCrossed (f (0 + i)) ≡ true = ap (λ (n : ℕ). isCrossed (f n)) (zero-add i) ∙ ap isCrossed (sym e) ∙ sym is ∙ crossed in
+    -- the first crossed interval ends the loop
+    pub passed-stops : b ≡ true → WrittenTo f base count w₀ i w
+    passed-stops crossed =
         record {
-          answer = ap (λ (n : ℕ). Refused number n) (sym (zero-add i)) ∙ sym (ap (crossedAnswer number) (first-crossed f count 0 0 i lt all here));
-          written = λ a. absurd (let z : _≡_ {A = ℕ} 0 1 = cc in omega arith);
+          few = h .writing .few;
+          so-far = h .writing .so-far;
+          ordered = h .ordered;
+          crossed = λ less. ap isCrossed (sym e) ∙ sym is ∙ crossed;
         }
 
-  pub passed-all : (number : ℕ) → count ≤ i → Passed f base count w₀ w i → Looked number f base count w₀ Accepted w
-  unfolding crossedAnswer
-  passed-all number le h =
+  pub passed-all : count ≤ i → Passed f base count w₀ w i → WrittenTo f base count w₀ i w
+  passed-all le h = record { few = h .writing .few; so-far = h .writing .so-far; ordered = h .ordered; crossed = λ less. absurd (omega arith) }
+
+-- ---- what a test says of the intervals
+
+module _ (test : ℕ → Interval → Option ℕ) (f : ℕ → Interval) (base count : ℕ) (w₀ w : List Float) where
+  pub looked-refused : (number i : ℕ) → i < count → ((k : ℕ) → k < i → test k (f k) ≡ none) → test i (f i) ≡ some number → Looked test f base count w₀ (Refused number i) w
+  unfolding foundAnswer
+  looked-refused number i lt before here =
+      let said : ℕ → Option ℕ = λ (k : ℕ). test k (f k) in
       record {
-        answer = sym (ap (crossedAnswer number) (none-crossed f count 0 0 (λ k lt. ap (λ (n : ℕ). isCrossed (f n)) (zero-add k) ∙ h .ordered k (omega (arith, h .writing .few)))));
-        written = λ a. writing-all le (h .writing);
+        answer = ap (λ (n : ℕ). Refused number n) (sym (zero-add i))
+            ∙ sym (ap foundAnswer (first-refused test f count 0 i number lt (λ k less. ap said (zero-add k) ∙ before k less) (ap said (zero-add i) ∙ here)));
+        written = λ a. absurd (let z : _≡_ {A = ℕ} 0 1 = cc in omega arith);
+      }
+
+  pub looked-all : ((k : ℕ) → k < count → test k (f k) ≡ none) → Written f base count w₀ w → Looked test f base count w₀ Accepted w
+  unfolding foundAnswer
+  looked-all all held =
+      record {
+        answer = sym (ap foundAnswer (none-refused test f count 0 (λ k less. ap (λ (n : ℕ). test n (f n)) (zero-add k) ∙ all k less)));
+        written = λ a. held;
       }

@@ -7,10 +7,9 @@ FOLDER = pathlib.Path(__file__).resolve().parent.parent
 sys.path.append(str(FOLDER.parent.parent / "examples"))  # the network and the year: make.py, year.py
 
 from make import INTAKE
-from year import answer, step_file, write
+from year import listing, write
 
 write(FOLDER / "data" / "year")
 (FOLDER / "data" / "intake.network").write_bytes(b"".join(record for _, record in INTAKE))
 (FOLDER / "args").write_text("intake.network\n" + "".join("year/%02d.step\n" % month for month in range(1, 13)))
-lines = [line for month in range(1, 13) for line in ["S %d" % (month - 1), *answer(step_file(month))]]
-(FOLDER / "stdout").write_text("".join(line + "\n" for line in lines))
+(FOLDER / "stdout").write_text("".join(line + "\n" for line in listing()))

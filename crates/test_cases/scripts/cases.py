@@ -10,6 +10,7 @@ sys.path.append(str(FOLDER.parent.parent / "examples"))  # the records of networ
 
 from build_cases import CASES
 from commands import build, commands, counted, expected, title
+from exclusive_cases import exclusives
 from factor_cases import factors
 from maker_cases import makers
 from step_cases import steps
@@ -42,6 +43,7 @@ builds()
 steps()
 makers()
 factors()
+exclusives()
 stdin, stdout = FOLDER / "stdin", FOLDER / "stdout"
 lines = stdout.read_text().splitlines(keepends=True)
 kept = next((k for k, line in enumerate(lines) if line.startswith(MARK)), len(lines))

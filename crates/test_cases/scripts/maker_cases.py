@@ -70,7 +70,7 @@ def all_listed():
 
 
 def all_stepped():
-    rows = [(0.0, 9.0), (0.0, 9.0), (-INF, INF), (-INF, INF), (0.0, 9.0), (0.0, 9.0), (-4.0, 6.0), (-4.0, 6.0)]
+    rows = [(0.0, 9.0), (0.0, 9.0), (0.0, INF), (0.0, INF), (0.0, 9.0), (0.0, 9.0), (-4.0, 6.0), (-4.0, 6.0)]
     elements = [*ELEMENTS[:2], {1: -1.0, 3: 9.0}, {1: 1.0, 3: -0.0}, *ELEMENTS[4:]]
     listed(3, [0.0] * 4, [(*row, e, maker) for row, e, maker in zip(rows, elements, MAKERS)], FIXED)
 

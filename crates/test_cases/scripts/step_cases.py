@@ -1,11 +1,11 @@
 # Steps for crates/test_cases: document 01's cases, each refusal from 12 to 17 but 15, each limit, short runs, misshapen stores, lists of steps.
-# Each number expected is document 01's. Used by cases.py.
+# Each number expected is document 01's; 21 is in exclusive_cases.py. Used by cases.py.
 import math
 import struct
 
 from commands import build, change, clear, listed, step, title
 from make import INPUT, LINK, OUTPUT, STORAGE, aggregate, edge, node, virtual_storage
-from steps import AGGREGATE, DAYS_IN, EXCLUSIVITY, LARGEST, MASS, NODE, VIRTUAL_STORAGE, aggregate_step, by, date, node_step, storage_step
+from steps import DAYS_IN, EXCLUSIVITY, LARGEST, MASS, NODE, VIRTUAL_STORAGE, aggregate_step, by, date, exclusive_rows, node_step, storage_step
 
 INF, NAN = math.inf, math.nan
 
@@ -247,18 +247,17 @@ def small(first=(0.0, 0.0, 9.0), second=(0.0, 0.0, 9.0), group=(0.0, 9.0), volum
     return date(*day, 1.0) + node_step(*first) + node_step(*second) + aggregate_step(*group) + storage_step(*volumes)
 
 
-def small_listed(low, high, lower, upper, cost=0.0, licence=(-4.0, 6.0), sentinel=INF, fresh=False):  # the coefficients are minus `lower`, and `upper`
-    wide = (0.0, sentinel) if fresh else (-sentinel, sentinel)
-    rows = [(low, high, {0: 1.0}, by(NODE, 0, 2))]
-    rows += [(*wide, {0: -1.0, 1: upper}, by(NODE, 1)), (*wide, {0: 1.0, 1: -lower}, by(NODE, 1)), (*licence, {0: -1.0}, by(VIRTUAL_STORAGE, 0))]
+def small_listed(low, high, lower, upper, cost=0.0, licence=(-4.0, 6.0), sentinel=INF):  # the coefficients are minus `lower`, and `upper`
+    output = exclusive_rows({0: 1.0}, 1, (lower, upper), by(NODE, 1), sentinel)
+    rows = [(low, high, {0: 1.0}, by(NODE, 0, 2)), *output, (*licence, {0: -1.0}, by(VIRTUAL_STORAGE, 0))]
     listed(1, [cost, 0.0], rows, [(0.0, 1.0, {1: 1.0}, by(EXCLUSIVITY, 0))], sentinel)
 
 
 def exclusive():
-    title("# an exclusive varying node: coefficients 1 and -1, then the upper bound, uncapped, and minus the lower; its rows unbounded")
+    title("# an exclusive varying node: coefficients 1 and -1, then the upper bound, uncapped, and minus the lower; its rows stay at 0 and the high sentinel")
     build(SMALL)
-    small_listed(0.0, INF, 1.0, 1.0, licence=(0.0, INF), fresh=True)
-    for lower, upper in ((3.0, 2000000.0), (-5.0, 7.0), (0.0, 0.0), (-INF, INF)):
+    small_listed(0.0, INF, 1.0, 1.0, licence=(0.0, INF))
+    for lower, upper in ((3.0, 2000000.0), (-5.0, 7.0), (0.0, 0.0)):
         step(small(second=(0.0, lower, upper)))
         small_listed(0.0, 9.0, lower, upper)
     step(small(second=(0.0, 3.0, 2.0)), "N 14 1")
@@ -270,15 +269,9 @@ def exclusive():
     step(small(group=(0.0, NAN)), "N 13 80")
     title("# the same with the finite sentinel")
     build(SMALL, finite=True)
-    small_listed(0.0, LARGEST, 1.0, 1.0, licence=(0.0, LARGEST), sentinel=LARGEST, fresh=True)
+    small_listed(0.0, LARGEST, 1.0, 1.0, licence=(0.0, LARGEST), sentinel=LARGEST)
     step(small(second=(0.0, 3.0, 2000000.0), day=(1, 1)))
     small_listed(0.0, 9.0, 3.0, 2000000.0, licence=(-LARGEST, LARGEST), sentinel=LARGEST)
-    title("# two nodes of one set with equal rows: on the shared rows the last wins, 7 over 5 and -3 over -2")
-    build(PAIR + aggregate([[0, 1]], (0, 1)))
-    for first, second in (((2.0, 5.0), (3.0, 7.0)), ((3.0, 7.0), (2.0, 5.0))):
-        step(pair((0.0, *first), (0.0, *second), more=aggregate_step(1.0, 8.0)))
-        upper, lower = (-INF, INF, {0: -1.0, 1: second[1]}, by(NODE, 0, 2)), (-INF, INF, {0: 1.0, 1: -second[0]}, by(NODE, 0, 2))
-        listed(1, [0.0, 0.0], [upper, lower, (1.0, 8.0, {0: 2.0}, by(AGGREGATE, 0))], [(0.0, 1.0, {1: 1.0}, by(EXCLUSIVITY, 0))])
 
 
 def marks():
@@ -300,7 +293,7 @@ def marks():
     step(file + file, "N 12 124")
     step(file[:80] + file[98:], "N 12 80")
     step(b"", "N 12 0")
-    small_listed(0.0, INF, 1.0, 1.0, licence=(0.0, INF), fresh=True)
+    small_listed(0.0, INF, 1.0, 1.0, licence=(0.0, INF))
     title("# the longest step file: its last records refused, a byte left over, and taken")
     build(node(INPUT) + node(OUTPUT) * 255 + edge(0, 1) + aggregate([[0]]) * 64 + virtual_storage([(0, 1.0)]) * 32)
     nodes, groups, stores = node_step(0.0, 0.0, 9.0), aggregate_step(1.0, 8.0), storage_step(0.0, 10.0, 4.0)

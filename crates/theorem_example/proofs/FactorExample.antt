@@ -145,17 +145,17 @@ factor-example =
 -- 3.6 left, and 6 taken at 0.1, 0.2 and 0.3: the network allows it, the programme does not admit it
 risingDiffers : Differ limited (network rising) (step (fin false 8106479329266893 (negsuc 50))) (plan (6 * unitsInOne)) true
 unfolding computing blank work built call part million tenth fifth threeTenths network step plan limited rising
-risingDiffers = record { net = _; parsed = refl; accepted = refl; constant = refl; kept = refl; stepAccepted = refl; allows = refl; admits = refl }
+risingDiffers = record { net = _; parsed = refl; accepted = refl; kept = refl; stepAccepted = refl; allows = refl; admits = refl }
 
 -- 0.6 left, and 1 taken at 0.3, 0.2 and 0.1: the programme admits what the network does not allow
 fallingDiffers : Differ limited (network falling) (step (fin false 5404319552844595 (negsuc 52))) (plan unitsInOne) false
 unfolding computing blank work built call part million tenth fifth threeTenths network step plan limited falling
-fallingDiffers = record { net = _; parsed = refl; accepted = refl; constant = refl; kept = refl; stepAccepted = refl; allows = refl; admits = refl }
+fallingDiffers = record { net = _; parsed = refl; accepted = refl; kept = refl; stepAccepted = refl; allows = refl; admits = refl }
 
 -- 812,500,000,000 less 3/4096 left, and 1/16 taken thirteen times at 1,000,000,000,000 less 1/1024
 thirteenDiffers : Differ unlimited (network thirteen) (step (fin false 3327999999999997 (negsuc 11))) (plan (unitsInOne / 16)) true
 unfolding computing blank work built call part million underTrillion network step plan unlimited thirteen
-thirteenDiffers = record { net = _; parsed = refl; accepted = refl; constant = refl; kept = refl; stepAccepted = refl; allows = refl; admits = refl }
+thirteenDiffers = record { net = _; parsed = refl; accepted = refl; kept = refl; stepAccepted = refl; allows = refl; admits = refl }
 
 pub record PremiseNeeded : Type 0 where
   -- an allowed plan is not admitted, and one that is not allowed is

@@ -15,7 +15,7 @@ use Rattle.pywr.specs.Programme.{Row}
 use Rattle.pywr.specs.Store.{programmeIn}
 use Rattle.pywr.specs.Plans.{Plan, unitsInOne, unitsIn1024th}
 use Rattle.pywr.specs.Allows.{partsSum}
-use Rattle.pywr.specs.Correspondence.{storeAfter, exclusiveConstant, factorsIn1024ths, factorsWhole}
+use Rattle.pywr.specs.Correspondence.{storeAfter, factorsIn1024ths, factorsWhole}
 use Rattle.pywr.specs.ExactElements.{factorSum}
 use Rattle.pywr.specs.FileBytes.{constant, edge, virtualStorageOf, date, nodeStep, virtualStorageStep}
 use Rattle.pywr.specs.Compute.{computing}
@@ -74,8 +74,7 @@ licenceRows : List Row
 licenceRows = programmeIn (storeAfter (built network) (call step ∷ [])) .varying
 
 pub record ReturnExample : Type 0 where
-  -- the premises of demand 3; that the factors be whole would not hold
-  constantOnly : ofNetwork exclusiveConstant false (parseNetwork network) ≡ true
+  -- the premise of demand 3; that the factors be whole would not hold
   factors : ofNetwork factorsIn1024ths false (parseNetwork network) ≡ true
   notWhole : ofNetwork factorsWhole true (parseNetwork network) ≡ false
   -- −1 on what is taken and 0.75 on what is returned, from −40 to 60
@@ -95,7 +94,6 @@ pub return-example : ReturnExample
 unfolding computing blank work ofNetwork built call allowed admitted licence network step plan inMegalitres plans licenceAmount sumOn licenceRows
 return-example =
     record {
-      constantOnly = refl;
       factors = refl;
       notWhole = refl;
       row = refl;

@@ -15,7 +15,7 @@ use Rattle.pywr.specs.NetworkFile.{parseNetwork}
 use Rattle.pywr.specs.Store.{Store}
 use Rattle.pywr.specs.Calls.{buildAnswer, buildStore, isAccepted}
 use Rattle.pywr.specs.Plans.{Plan}
-use Rattle.pywr.specs.Correspondence.{Call, storeAfter, reports, networkAllows, programmeAdmits, exclusiveConstant, anyAccepted, CorrespondenceWhere}
+use Rattle.pywr.specs.Correspondence.{Call, storeAfter, reports, networkAllows, programmeAdmits, anyAccepted, CorrespondenceWhere}
 use Rattle.pywr.specs.Cases.{blank, work}
 
 unfoldable pub ofNetwork : {A : Type 0} → (Network → A) → A → Result Network → A
@@ -40,7 +40,6 @@ pub record Differ (premise : Network → Bool) (network file : List ℕ) (plan :
   pub net : Network
   pub parsed : parseNetwork network ≡ value net
   pub accepted : isAccepted (buildAnswer Infinity network blank (replicate wordsLength 0) (replicate numbersLength zero64)) ≡ true
-  pub constant : exclusiveConstant net ≡ true
   pub kept : premise net ≡ true
   pub stepAccepted : anyAccepted (reports (built network) (call file ∷ [])) ≡ true
   pub allows : networkAllows (parseNetwork network) Infinity (reports (built network) (call file ∷ [])) plan ≡ isAllowed
@@ -51,7 +50,7 @@ unfolding built
 refutes {premise} {network} {file} {plan} {isAllowed} d correspond =
     differ isAllowed
     (sym (d .admits)
-    ∙ correspond network Infinity blank (replicate wordsLength 0) (replicate numbersLength zero64) (d .net) (d .parsed) (d .accepted) (d .constant) (d .kept)
+    ∙ correspond network Infinity blank (replicate wordsLength 0) (replicate numbersLength zero64) (d .net) (d .parsed) (d .accepted) (d .kept)
     (call file ∷ []) (d .stepAccepted) plan
     ∙ d .allows)
   where

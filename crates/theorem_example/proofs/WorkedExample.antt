@@ -21,7 +21,7 @@ use Rattle.pywr.specs.Store.{programmeIn}
 use Rattle.pywr.specs.Calls.{stepAnswer}
 use Rattle.pywr.specs.Plans.{Plan, unitsInOne}
 use Rattle.pywr.specs.Allows.{nodeAmount, ownInterval}
-use Rattle.pywr.specs.Correspondence.{storeAfter, periodsOf, readBy, exclusiveConstant, factorsIn1024ths}
+use Rattle.pywr.specs.Correspondence.{storeAfter, periodsOf, readBy, factorsIn1024ths}
 use Rattle.pywr.specs.FileBytes.{varying, constant, edge, date, nodeStep}
 use Rattle.pywr.specs.Compute.{computing}
 use Rattle.pywr.specs.Cases.{blank, work, whole, times, minusWhole}
@@ -122,8 +122,7 @@ interval : Float → Float → Interval
 interval lower upper = record { lower = lower; upper = upper }
 
 pub record Example : Type 0 where
-  -- the premises of `Correspondence`
-  constantOnly : ofNetwork exclusiveConstant false (parseNetwork network) ≡ true
+  -- the premise of `Correspondence`
   factors : ofNetwork factorsIn1024ths false (parseNetwork network) ≡ true
   -- 48.5, 40, −10 to 35 and 30; then 20, 40, −15 to 30 and 30
   firstIntervals : intervalsUnder first ≡ interval zero64 (fin false 97 (negsuc 0)) ∷ interval zero64 (times 5 3) ∷ interval (fin true 5 (pos 1)) (whole 35) ∷ interval zero64 (times 15 1) ∷ []
@@ -146,7 +145,6 @@ unfolding computing blank work ofNetwork built call allowed admitted network ste
     outcome refusal rowsWith stepCostsAre interval
 example =
     record {
-      constantOnly = refl;
       factors = refl;
       firstIntervals = refl;
       secondIntervals = refl;

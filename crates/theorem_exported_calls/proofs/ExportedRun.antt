@@ -40,9 +40,9 @@ accepted-is (value x) e = refl
 accepted-is (refused n p) e = cc
 
 pub exported-correspondence : ExportedCorrespondence
-exported-correspondence networkFile infinite old built words words′ numbers numbers′ place net parsed crossed constant factors calls last r any plan =
+exported-correspondence networkFile infinite old built words words′ numbers numbers′ place net parsed crossed factors calls last r any plan =
     let accepted : crossed .answer ≡ Accepted = crossed .after .answer ∙ accepted-is (buildAnswer (picked infinite) networkFile old words numbers) (sym (build-zero crossed)) in
     let after : AfterBuild (picked infinite) networkFile old words numbers Accepted built words′ numbers′ = subst
     (λ (a : Answer). AfterBuild (picked infinite) networkFile old words numbers a built words′ numbers′) accepted (crossed .after) in
-    port-correspondence networkFile (picked infinite) old built words words′ numbers numbers′ net parsed after constant factors (answered r) last (port-run r) (ap anyAccepted (reported r) ∙ any) plan
+    port-correspondence networkFile (picked infinite) old built words words′ numbers numbers′ net parsed after factors (answered r) last (port-run r) (ap anyAccepted (reported r) ∙ any) plan
     ∙ ap (λ (ts : List Report). networkAllows (parseNetwork networkFile) (picked infinite) ts plan) (reported r)

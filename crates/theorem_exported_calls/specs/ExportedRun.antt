@@ -10,7 +10,7 @@ use Rattle.pywr.specs.Network.{Network}
 use Rattle.pywr.specs.NetworkFile.{parseNetwork}
 use Rattle.pywr.specs.Store.{Store}
 use Rattle.pywr.specs.Plans.{Plan}
-use Rattle.pywr.specs.Correspondence.{Call, Report, networkAllows, programmeAdmits, exclusiveConstant, factorsIn1024ths, anyAccepted}
+use Rattle.pywr.specs.Correspondence.{Call, Report, networkAllows, programmeAdmits, factorsIn1024ths, anyAccepted}
 use Rattle.pywr_c_answers.specs.Crossing.{picked, BuildCrossed, StepCrossed}
 
 -- a call of `pywr_step` with the number that it answered
@@ -33,7 +33,6 @@ ExportedCorrespondence =
     (networkFile : List ℕ) (infinite : Bool) (old built : Store) (words words′ : List ℕ) (numbers numbers′ : List Float) (place : ℕ) (net : Network)
     → parseNetwork networkFile ≡ value net
     → BuildCrossed (picked infinite) networkFile old words numbers 0 place built words′ numbers′
-    → exclusiveConstant net ≡ true
     → factorsIn1024ths net ≡ true
     → (calls : List Numbered) (last : Store)
     → ExportedRun built calls last

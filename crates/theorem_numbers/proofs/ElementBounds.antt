@@ -1,5 +1,5 @@
--- Every row that a build makes: each element is a number and not −0.0. An element is a sum from 0.0 of 1.0, −1.0 and factors, fewer than a million of them; the
--- coefficient of an exclusive node, which may be of any size, is added last. Assumes nothing.
+-- Every row that a build makes: each element is finite and not −0.0. An element is a sum from 0.0 of 1.0, −1.0 and factors, fewer than a million of them; the
+-- coefficient of an exclusive node, which may be any finite double, is alone on its column. Assumes nothing.
 use mathlib.Core.Path.{refl}
 use Prim.Native.Nat.{ℕ, suc, _+_, _*_, _≤_}
 use native.Mathlib.Nat.{le-trans}
@@ -8,22 +8,23 @@ use mathlib.Core.Bool.{Bool, true, false, cond}
 use mathlib.Core.List.{List, [], _∷_, List·Memᴰ·head, List·Memᴰ·tail}
 use lib.ListN.{length}
 use lib.Dec.{T, eqb, lit≤}
-use lib.Ieee.{Float, nan, inf, fin, binary64, fits, add, neg}
-use Rattle.doubles.specs.Units.{mag, notMinusZero}
-use Rattle.doubles.proofs.Units.{finite-number}
-use Rattle.doubles.proofs.Monotone.{add-num}
+use lib.Ieee.{Float, binary64, add, neg}
+use lib.Ieee.Fits.{add-fits}
+use Rattle.doubles.specs.Units.{notMinusZero}
+use Rattle.doubles.proofs.Sums.{add-zero-finite}
 use Rattle.pywr.specs.Numbers.{zero64, one64}
 use Rattle.pywr.specs.Network.{output, storage, Aggregate, Part, VirtualStorage, kindOf}
 use Rattle.pywr.specs.ExclusiveSets.{setNumber}
 use Rattle.pywr.specs.Rows.{Element, addElement, addOn, ColumnMap, columnsInto, columnsOutOf, addNode, nodeRow, massRow}
 use Rattle.pywr.specs.Rows.{addNodes, addSetsOf, aggregateRow, addParts, virtualStorageRow, upperRow, lowerRow, addActive, exclusivityRow}
-use Rattle.pywr.proofs.ElementLaws.{add-none, add-cases}
-use Rattle.pywr.proofs.BoundLaws.{IsBound}
+use Rattle.pywr.proofs.ElementLaws.{add-none, add-over, add-cases}
+use Rattle.pywr.proofs.ExclusiveLaws.{Under}
+use Rattle.pywr.proofs.NumberLaws.{FiniteFit}
 use Rattle.pywr.proofs.MassLaws.{Every}
 use Rattle.pywr.proofs.ListLaws.{AllMem}
 use Rattle.pywr.proofs.WeightLaws.{columns-few}
 use Rattle.pywr.proofs.ReadLaws.{AggregateOk, SetOk}
-use Rattle.theorem_numbers.proofs.SumBounds.{Within, mostTerms, add-within, wider, neg-within, zero-within, one-within, add-plain}
+use Rattle.theorem_numbers.proofs.SumBounds.{Within, within-finite, mostTerms, add-within, wider, neg-within, zero-within, one-within, add-plain}
 use Rattle.theorem_numbers.proofs.ReadBounds.{SmallPart, SmallFactors}
 
 -- a sum of at most n terms that is not −0.0
@@ -33,7 +34,7 @@ pub record Added (n : ℕ) (x : Float) : Type 0 where
 
 -- what is claimed of a build's elements
 pub record Plain (x : Float) : Type 0 where
-  pub bound : IsBound x
+  pub number : FiniteFit x
   pub plain : T (notMinusZero binary64 x)
 
 abbrev pub AllAdded : ℕ → List Element → Type 0
@@ -84,31 +85,24 @@ add-on (c ∷ cs) x n row room small us =
 -- ---- the last number, of any size
 
 plain-of : (n : ℕ) (x : Float) → Added n x → Plain x
-plain-of n x u = record { bound = (u .within .fit, finite-number x (u .within .isFinite)); plain = u .plain }
+plain-of n x u = record { number = within-finite n x (u .within); plain = u .plain }
 
 all-plain : (n : ℕ) (row : List Element) → AllAdded n row → AllPlain row
 all-plain n [] us = tt
 all-plain n (e ∷ es) us = (plain-of n (e .value) (us .0), all-plain n es (us .1))
 
-add-any : (n : ℕ) (x y : Float) → Added n x → IsBound y → Plain (add binary64 x y)
-unfolding add fits mag
-add-any n nan y u b = absurd (u .within .isFinite)
-add-any n (inf s) y u b = absurd (u .within .isFinite)
-add-any n (fin s m e) nan u b = absurd (b .1)
-add-any n (fin s m e) (inf true) u b = record { bound = (tt, tt); plain = tt }
-add-any n (fin s m e) (inf false) u b = record { bound = (tt, tt); plain = tt }
-add-any n (fin s m e) (fin t k d) u b =
-    let x : Float = fin s m e in
-    let y : Float = fin t k d in
-    record { bound = add-num binary64 x y (u .within .fit) (b .0) tt tt; plain = add-plain x y (u .within .fit) (b .0) tt tt (u .plain) }
+new-plain : (x : Float) → FiniteFit x → Plain (add binary64 zero64 x)
+unfolding zero64
+new-plain x ok =
+    record {
+      number = record { finite = add-zero-finite binary64 x (ok .fit) (ok .finite); fit = add-fits binary64 zero64 x };
+      plain = add-plain zero64 x (zero-within 0 .fit) (ok .fit) tt (ok .finite) tt;
+    }
 
-add-last : (c n : ℕ) (x : Float) → IsBound x → (row : List Element) → AllAdded n row → AllPlain (addElement c x row)
-add-last c n x b [] us = rw (add-none c x) (add-any 0 zero64 x zero-added b, tt)
-add-last c n x b (e ∷ es) us =
-    add-cases c x e es AllPlain
-    (λ h. (add-any 0 zero64 x zero-added b, all-plain n (e ∷ es) us))
-    (λ h. (add-any n (e .value) x (us .0) b, all-plain n es (us .1)))
-    (λ h. (plain-of n (e .value) (us .0), add-last c n x b es (us .1)))
+-- over every column of the row
+add-last : (n k : ℕ) (x : Float) → FiniteFit x → (row : List Element) → Under n row → AllPlain row → AllPlain (addElement (n + k) x row)
+add-last n k x ok [] Under.none us = rw (add-none (n + k) x) (new-plain x ok, tt)
+add-last n k x ok (e ∷ es) (Under.more l under) us = rw (add-over (n + k) x e es (omega arith)) (us .0, add-last n k x ok es under (us .1))
 
 -- ---- the makers of rows, over at most 512 edges
 
@@ -159,13 +153,18 @@ module _ (f : ColumnMap) (few : length (f .mappedEdges) ≤ 512) where
   unfolding massRow
   mass-plain i = all-plain (0 + 1024) (massRow f i) (add-both i one64 (neg one64) 0 [] (lit≤ tt) one-within minus-one tt)
 
-  pub upper-plain : (i k : ℕ) (x : Float) → IsBound x → AllPlain (upperRow f i k x)
+  -- the coefficient's column is over the edge columns
+  pub upper-plain : (i k : ℕ) (x : Float) → FiniteFit x → Under (f .edgeColumns) (addNode f i (neg one64) []) → AllPlain (upperRow f i k x)
   unfolding upperRow
-  upper-plain i k x b = add-last (f .edgeColumns + k) (0 + 1024) x b (addNode f i (neg one64) []) (add-node i (neg one64) 0 [] (lit≤ tt) minus-one tt)
+  upper-plain i k x ok under =
+      let row : List Element = addNode f i (neg one64) [] in
+      add-last (f .edgeColumns) k x ok row under (all-plain (0 + 1024) row (add-node i (neg one64) 0 [] (lit≤ tt) minus-one tt))
 
-  pub lower-plain : (i k : ℕ) (x : Float) → IsBound x → AllPlain (lowerRow f i k x)
+  pub lower-plain : (i k : ℕ) (x : Float) → FiniteFit x → Under (f .edgeColumns) (addNode f i one64 []) → AllPlain (lowerRow f i k x)
   unfolding lowerRow
-  lower-plain i k x b = add-last (f .edgeColumns + k) (0 + 1024) x b (addNode f i one64 []) (add-node i one64 0 [] (lit≤ tt) one-within tt)
+  lower-plain i k x ok under =
+      let row : List Element = addNode f i one64 [] in
+      add-last (f .edgeColumns) k x ok row under (all-plain (0 + 1024) row (add-node i one64 0 [] (lit≤ tt) one-within tt))
 
   add-nodes : (is : List ℕ) (n : ℕ) (row : List Element) → n + length is * 1024 ≤ mostTerms → AllAdded n row → AllAdded (n + length is * 1024) (addNodes f is row)
   unfolding addNodes

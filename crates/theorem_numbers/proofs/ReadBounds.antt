@@ -7,11 +7,11 @@ use mathlib.Core.Option.{Option, none, some}
 use native.Mathlib.Omega.{arith}
 use lib.ListN.{length}
 use lib.Dec.{ltb}
-use Rattle.pywr.specs.Result.{value, _>>=_}
+use Rattle.pywr.specs.Result.{value, _>>=_, refusedIf}
 use Rattle.pywr.specs.Numbers.{isSmall, ofPattern}
 use Rattle.pywr.specs.Network.{Part, VirtualStorage, Network}
 use Rattle.pywr.specs.NetworkFile.{Read, ND, ED, AG, VS, readParts, readVirtualStorage, Mark, withNode, withEdge}
-use Rattle.pywr.specs.NetworkFile.{withAggregate, withVirtualStorage, readBody, Reading, readRecord, readRecords, checkNetwork, parseNetwork, refusedIf}
+use Rattle.pywr.specs.NetworkFile.{withAggregate, withVirtualStorage, readBody, Reading, readRecord, readRecords, checkNetwork, parseNetwork}
 use Rattle.pywr.specs.Programme.{NodeShape}
 use Rattle.pywr.specs.StepFile.{NodeStep, StepFile, readNodeStep, readNodeSteps, readStep}
 use Rattle.pywr.proofs.RunLaws.{bind-then, bind-value, need-value}

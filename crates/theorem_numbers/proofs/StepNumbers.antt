@@ -1,4 +1,4 @@
--- A step whose file was read leaves numbers: costs are sums of at most 1,024 terms, bounds and coefficients come from the file's intervals. Assumes nothing.
+-- A step whose file was read leaves numbers: costs are sums of at most 1,024 terms, bounds come from the file's intervals. Assumes nothing.
 use mathlib.Core.Path.{refl}
 use Prim.Native.Nat.{ℕ, zero, suc, _+_, _*_, _≤_}
 use native.Mathlib.Omega.{arith}
@@ -8,100 +8,95 @@ use lib.ListN.{length, getD, set, replicate}
 use lib.Dec.{eqb, lit≤}
 use lib.Ieee.{Float, binary64, add, div, neg}
 use Rattle.doubles.proofs.Units.{finite-number}
-use Rattle.doubles.proofs.Order.{neg-num, larger-num, smaller-num}
+use Rattle.doubles.proofs.Order.{larger-num, smaller-num}
 use Rattle.pywr.specs.declared.Sentinel.{Sentinel}
 use Rattle.pywr.specs.declared.Interval.{Interval}
 use Rattle.pywr.specs.Numbers.{zero64, two64, lesser, greater}
 use Rattle.pywr.specs.Network.{link, storage}
 use Rattle.pywr.specs.ColEdgeMap.{MappedEdge}
-use Rattle.pywr.specs.Rows.{Element, element}
 use Rattle.pywr.specs.Programme.{Column, Row, Programme, NodeShape, RowType, continuous, binaryUpper, binaryLower, NodeRow, Shape}
 use Rattle.pywr.specs.Interval.{tighten, sentinels}
 use Rattle.pywr.specs.StepFile.{NodeStep, StepFile}
 use Rattle.pywr.specs.StepIntervals.{intervals, Intervals}
 use Rattle.pywr.specs.Costs.{outgoingCost, incomingCost, edgeCost, kindAt, costAt, addCosts, stepCosts}
-use Rattle.pywr.specs.Step.{adjust, withBounds, applyRowBounds, setCoefficient, withCoefficient, applyInterval, applyNodeRows, applyIntervals, rowOf, stepRows, periods, withCosts, stepped}
-use Rattle.pywr.proofs.BoundLaws.{IsBound, IsInterval}
+use Rattle.pywr.specs.Step.{adjust, withBounds, applyRowBounds, withCoefficient, overNodeRows, intervalFor, applyInterval, applyNodeRows}
+use Rattle.pywr.specs.Step.{resetBinaryRow, resetBinaryRows, applyCoefficient, applyCoefficients, applyIntervals, rowOf, stepRows, periods, withCosts, stepped}
+use Rattle.pywr.proofs.BoundLaws.{high-bound, IsInterval}
+use Rattle.pywr.proofs.RowLaws.{own}
 use Rattle.pywr.proofs.VaryingLaws.{sentinels-interval}
 use Rattle.pywr.proofs.MassLaws.{Every}
-use Rattle.pywr.proofs.ListLaws.{AllMem}
+use Rattle.pywr.proofs.ListLaws.{AllMem, every-mem}
 use Rattle.pywr.proofs.StepReadLaws.{at-interval, IntervalsOk}
 use Rattle.theorem_numbers.proofs.SumBounds.{Within, mostTerms, add-within, wider, neg-within, half-within, zero-within}
 use Rattle.theorem_numbers.proofs.ReadBounds.{SmallCost}
-use Rattle.theorem_numbers.proofs.BuildNumbers.{RowOk, ColumnOk, ProgrammeOk, every-replicate}
+use Rattle.theorem_numbers.proofs.BuildNumbers.{ElementsOk, RowOk, ColumnOk, ProgrammeOk, mem-every, every-replicate, zero-bound}
 
--- ---- rows
+-- ---- the bounds of rows
 
-abbrev Ok : Row → Type 0
-Ok r = RowOk IsBound r
-
-bounded-ok : (i : Interval) → IsInterval i → (r : Row) → Ok r → Ok (withBounds i r)
-unfolding withBounds
-bounded-ok i ii r ok = record { lower = ii .lower; upper = ii .upper; elements = ok .elements }
+abbrev Bounded : Row → Type 0
+Bounded r = IsInterval (own r)
 
 tighten-interval : (a b : Interval) → IsInterval a → IsInterval b → IsInterval (tighten a b)
 unfolding tighten greater lesser
 tighten-interval a b ia ib =
     record { lower = larger-num binary64 (a .lower) (b .lower) (ia .lower) (ib .lower); upper = smaller-num binary64 (a .upper) (b .upper) (ia .upper) (ib .upper) }
 
-apply-ok : (i : Interval) → IsInterval i → (r : Row) → Ok r → Ok (applyRowBounds i r)
-unfolding applyRowBounds
-apply-ok i ii r ok =
-    let held : Interval = record { lower = r .lower; upper = r .upper } in
-    bounded-ok (tighten held i) (tighten-interval held i (record { lower = ok .lower; upper = ok .upper }) ii) r ok
+apply-ok : (i : Interval) → IsInterval i → (r : Row) → Bounded r → Bounded (applyRowBounds i r)
+unfolding applyRowBounds withBounds
+apply-ok i ii r ok = tighten-interval (own r) i ok ii
 
-set-coefficient : (c : ℕ) (x : Float) → IsBound x → (es : List Element) → Every (λ (e : Element). IsBound (e .value)) es → Every (λ (e : Element). IsBound (e .value)) (setCoefficient c x es)
-unfolding setCoefficient
-set-coefficient c x b [] us = tt
-set-coefficient c x b (e ∷ es) us = go (eqb (e .column) c) (set-coefficient c x b es (us .1))
-  where
-    go : (t : Bool) → Every (λ (e : Element). IsBound (e .value)) (setCoefficient c x es) → Every (λ (e : Element). IsBound (e .value)) (cond t (element c x ∷ es) (e ∷ setCoefficient c x es))
-    go true ih = (b, us .1)
-    go false ih = (us .0, ih)
-
-factor-ok : (c : ℕ) (x : Float) → IsBound x → (r : Row) → Ok r → Ok (withCoefficient c x r)
-unfolding withCoefficient
-factor-ok c x b r ok = record { lower = ok .lower; upper = ok .upper; elements = set-coefficient c x b (r .elements) (ok .elements) }
-
-interval-ok : (t : RowType) (c : ℕ) (i : Interval) → IsInterval i → (r : Row) → Ok r → Ok (applyInterval t c i r)
+interval-ok : (t : RowType) (i : Interval) → IsInterval i → (r : Row) → Bounded r → Bounded (applyInterval t i r)
 unfolding applyInterval
-interval-ok continuous c i ii r ok = apply-ok i ii r ok
-interval-ok binaryUpper c i ii r ok = factor-ok c (i .upper) (ii .upper) r ok
-interval-ok binaryLower c i ii r ok = factor-ok c (neg (i .lower)) (neg-num binary64 (i .lower) (ii .lower)) r ok
+interval-ok continuous i ii r ok = apply-ok i ii r ok
+interval-ok binaryUpper i ii r ok = ok
+interval-ok binaryLower i ii r ok = ok
 
-adjust-ok : (g : Row → Row) → ((r : Row) → Ok r → Ok (g r)) → (k : ℕ) (rows : List Row) → Every Ok rows → Every Ok (adjust g k rows)
+reset-binary-ok : (s : Sentinel) (t : RowType) (c : ℕ) (r : Row) → Bounded r → Bounded (resetBinaryRow s t c r)
+unfolding resetBinaryRow withCoefficient withBounds
+reset-binary-ok s continuous c r ok = ok
+reset-binary-ok s binaryUpper c r ok = record { lower = zero-bound; upper = high-bound s }
+reset-binary-ok s binaryLower c r ok = record { lower = zero-bound; upper = high-bound s }
+
+coefficient-ok : (t : RowType) (c : ℕ) (i : Interval) (r : Row) → Bounded r → Bounded (applyCoefficient t c i r)
+unfolding applyCoefficient withCoefficient
+coefficient-ok continuous c i r ok = ok
+coefficient-ok binaryUpper c i r ok = ok
+coefficient-ok binaryLower c i r ok = ok
+
+adjust-ok : (change : Row → Row) → ((r : Row) → Bounded r → Bounded (change r)) → (k : ℕ) (rows : List Row) → Every Bounded rows → Every Bounded (adjust change k rows)
 unfolding adjust
-adjust-ok g h k [] us = tt
-adjust-ok g h zero (x ∷ xs) us = (h x (us .0), us .1)
-adjust-ok g h (suc k) (x ∷ xs) us = (us .0, adjust-ok g h k xs (us .1))
+adjust-ok change h k [] us = tt
+adjust-ok change h zero (x ∷ xs) us = (h x (us .0), us .1)
+adjust-ok change h (suc k) (x ∷ xs) us = (us .0, adjust-ok change h k xs (us .1))
 
-node-rows-ok : (s : Sentinel) (edges : ℕ) (is : List Interval) → AllMem IsInterval is → (ns : List NodeRow) (rows : List Row) → Every Ok rows → Every Ok (applyNodeRows s edges is ns rows)
-unfolding applyNodeRows
-node-rows-ok s edges is ii [] rows us = us
-node-rows-ok s edges is ii (n ∷ ns) rows us =
-    let i : Interval = getD is (n .node) (sentinels s) in
-    let g : Row → Row = applyInterval (n .rowType) (edges + n .set) i in
-    node-rows-ok s edges is ii ns (adjust g (n .row) rows) (adjust-ok g (λ r ok. interval-ok (n .rowType) (edges + n .set) i (at-interval s is (n .node) ii) r ok) (n .row) rows us)
+node-rows-ok : (change : NodeRow → Row → Row) → ((n : NodeRow) (r : Row) → Bounded r → Bounded (change n r)) → (ns : List NodeRow) (rows : List Row) → Every Bounded rows
+    → Every Bounded (overNodeRows change ns rows)
+unfolding overNodeRows
+node-rows-ok change h [] rows us = us
+node-rows-ok change h (n ∷ ns) rows us = node-rows-ok change h ns (adjust (change n) (n .row) rows) (adjust-ok (change n) (h n) (n .row) rows us)
 
-intervals-ok : (rs : List ℕ) (is : List Interval) → AllMem IsInterval is → (rows : List Row) → Every Ok rows → Every Ok (applyIntervals rs is rows)
+intervals-ok : (rs : List ℕ) (is : List Interval) → AllMem IsInterval is → (rows : List Row) → Every Bounded rows → Every Bounded (applyIntervals rs is rows)
 unfolding applyIntervals
 intervals-ok [] is ii rows us = us
 intervals-ok (r ∷ rs) [] ii rows us = us
 intervals-ok (r ∷ rs) (i ∷ is) ii rows us =
-    intervals-ok rs is (λ j m. ii j (List·Memᴰ·tail m)) (adjust (applyRowBounds i) r rows) (adjust-ok (applyRowBounds i) (λ x ok. apply-ok i (ii i (List·Memᴰ·head refl)) x ok) r rows us)
+    intervals-ok rs is (λ j m. ii j (List·Memᴰ·tail m)) (adjust (applyRowBounds i) r rows) (adjust-ok (applyRowBounds i) (apply-ok i (ii i (List·Memᴰ·head refl))) r rows us)
 
-reset-ok : (s : Sentinel) (rows : List Row) → Every Ok rows → Every Ok (map (withBounds (sentinels s)) rows)
-reset-ok s [] us = tt
-reset-ok s (x ∷ xs) us = (bounded-ok (sentinels s) (sentinels-interval s) x (us .0), reset-ok s xs (us .1))
+reset-ok : (s : Sentinel) (rows : List Row) → Every Bounded (map (withBounds (sentinels s)) rows)
+unfolding withBounds
+reset-ok s [] = tt
+reset-ok s (x ∷ xs) = (sentinels-interval s, reset-ok s xs)
 
-rows-ok : (s : Sentinel) (shape : Shape) (a v : ℕ) (i : Intervals) → IntervalsOk a v i → (rows : List Row) → Every Ok rows → Every Ok (stepRows s shape i rows)
-unfolding stepRows
-rows-ok s shape a v i ii rows us =
-    let reset : List Row = map (withBounds (sentinels s)) rows in
-    let nodes : List Row = applyNodeRows s (shape .edgeColumns) (i .nodes) (shape .nodeRows) reset in
-    let groups : List Row = applyIntervals (shape .aggregates) (i .aggregates) nodes in
-    intervals-ok (map rowOf (shape .virtualStorages)) (i .virtualStorages) (ii .virtual-storages-are) groups
-    (intervals-ok (shape .aggregates) (i .aggregates) (ii .aggregates-are) nodes (node-rows-ok s (shape .edgeColumns) (i .nodes) (ii .nodes) (shape .nodeRows) reset (reset-ok s rows us)))
+rows-ok : (s : Sentinel) (shape : Shape) (a v : ℕ) (i : Intervals) → IntervalsOk a v i → (rows : List Row) → Every Bounded (stepRows s shape i rows)
+unfolding stepRows applyNodeRows intervalFor resetBinaryRows applyCoefficients
+rows-ok s shape a v i ii rows =
+    let e : ℕ = shape .edgeColumns in
+    node-rows-ok _ (λ n. coefficient-ok (n .rowType) (e + n .set) (getD (i .nodes) (n .node) (sentinels s))) (shape .nodeRows) _
+    (node-rows-ok _ (λ n. reset-binary-ok s (n .rowType) (e + n .set)) (shape .nodeRows) _
+    (intervals-ok (map rowOf (shape .virtualStorages)) (i .virtualStorages) (ii .virtual-storages-are) _
+    (intervals-ok (shape .aggregates) (i .aggregates) (ii .aggregates-are) _
+    (node-rows-ok _ (λ n. interval-ok (n .rowType) (getD (i .nodes) (n .node) (sentinels s)) (at-interval s (i .nodes) (n .node) (ii .nodes))) (shape .nodeRows) _
+    (reset-ok s rows)))))
 
 -- ---- costs
 
@@ -160,15 +155,17 @@ with-costs n (c ∷ cs) (x ∷ xs) oks us =
 
 -- ---- the whole step
 
-pub stepped-ok : (shape : Shape) (f : StepFile) (p : Programme) (a v : ℕ) → length (shape .mappedEdges) ≤ 512 → AllMem SmallCost (f .nodes)
-    → IntervalsOk a v (intervals (p .sentinel) (periods shape) f)
-    → ProgrammeOk IsBound p → ProgrammeOk IsBound (stepped shape f p)
+-- over the elements that the step leaves in its varying rows
+pub stepped-ok : (P : Float → Type 0) (shape : Shape) (f : StepFile) (p : Programme) (a v : ℕ) → length (shape .mappedEdges) ≤ 512 → AllMem SmallCost (f .nodes)
+    → IntervalsOk a v (intervals (p .sentinel) (periods shape) f) → AllMem (ElementsOk P) (stepped shape f p .varying) → ProgrammeOk P p → ProgrammeOk P (stepped shape f p)
 unfolding stepped stepCosts
-stepped-ok shape f p a v few small ii ok =
+stepped-ok P shape f p a v few small ii elements ok =
     let n : ℕ = length (p .columns) in
+    let rows : List Row = stepRows (p .sentinel) shape (intervals (p .sentinel) (periods shape) f) (p .varying) in
+    let bounded : AllMem Bounded rows = every-mem Bounded rows (rows-ok (p .sentinel) shape a v (intervals (p .sentinel) (periods shape) f) ii (p .varying)) in
     record {
       columns = with-costs (0 + length (shape .mappedEdges) * 2) (p .columns) (stepCosts shape n (f .nodes)) (ok .columns)
           (costs-within (shape .nodes) (f .nodes) small (shape .mappedEdges) 0 (replicate n zero64) (omega arith) (every-replicate (Within 0) n zero64 (zero-within 0)));
-      varying = rows-ok (p .sentinel) shape a v (intervals (p .sentinel) (periods shape) f) ii (p .varying) (ok .varying);
+      varying = mem-every (RowOk P) rows (λ r m. record { lower = bounded r m .lower; upper = bounded r m .upper; elements = elements r m });
       fixed = ok .fixed;
     }

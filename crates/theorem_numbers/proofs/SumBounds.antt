@@ -39,6 +39,9 @@ pub record Within (n : ℕ) (x : Float) : Type 0 where
   pub isFinite : T (finite x)
   pub most : mag binary64 x ≤ n * largestTerm
 
+pub within-finite : (n : ℕ) (x : Float) → Within n x → FiniteFit x
+within-finite n x u = record { finite = u .isFinite; fit = u .fit }
+
 -- how many terms a sum may have
 abbrev pub mostTerms : ℕ
 mostTerms = 1000000

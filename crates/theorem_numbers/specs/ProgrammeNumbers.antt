@@ -1,5 +1,5 @@
--- No bound, cost or element of a programme is NaN, and no element of a build is −0.0: what this says of a programme, and where it holds. So rows that join are
--- equal bit for bit. Assumes nothing.
+-- No bound, cost or element of a programme is NaN, every element is finite, and no element of a build is −0.0: what this says of a programme, and where it
+-- holds. So rows that join are equal bit for bit. Assumes nothing.
 use mathlib.Core.Path.{_≡_}
 use Prim.Native.Nat.{ℕ}
 use mathlib.Core.List.{List, _++_, map, List·Memᴰ}
@@ -15,7 +15,7 @@ use Rattle.pywr.specs.VariableRows.{sameRow}
 use Rattle.pywr.specs.VaryingRows.{requestsFrom}
 use Rattle.pywr.specs.Build.{requestedRow}
 use Rattle.pywr.specs.Programme.{Column, Row, Programme}
-use Rattle.pywr.specs.Plans.{allFrom}
+use Rattle.pywr.specs.Plans.{isFinite, allFrom}
 use Rattle.pywr.specs.Store.{Store, programmeIn}
 use Rattle.pywr.specs.Calls.{buildAnswer, buildStore, isAccepted}
 use Rattle.pywr.specs.Correspondence.{Call, storeAfter}
@@ -56,6 +56,27 @@ NoNaN =
     → isAccepted (buildAnswer s networkFile old words numbers) ≡ true
     → (calls : List Call)
     → withoutNaN (programmeIn (storeAfter (buildStore s networkFile old words numbers) calls)) ≡ true
+
+-- ---- finite elements
+
+unfoldable pub elementFinite : Element → Bool
+elementFinite e = isFinite (e .value)
+
+unfoldable pub rowElementsFinite : Row → Bool
+rowElementsFinite r = allFrom (λ (i : ℕ) (e : Element). elementFinite e) 0 (r .elements)
+
+-- every element of every row
+unfoldable pub elementsFinite : Programme → Bool
+elementsFinite p = allFrom (λ (i : ℕ) (r : Row). rowElementsFinite r) 0 (p .varying) && allFrom (λ (i : ℕ) (r : Row). rowElementsFinite r) 0 (p .fixed)
+
+-- after an accepted build and any list of steps every element is finite, with the steps, stores and files of `NoNaN`. Bounds may be infinite: where one would
+-- become a coefficient it is capped, or 10 or 21 refuses it
+abbrev pub FiniteElements : Type 0
+FiniteElements =
+    (networkFile : List ℕ) (s : Sentinel) (old : Store) (words : List ℕ) (numbers : List Float)
+    → isAccepted (buildAnswer s networkFile old words numbers) ≡ true
+    → (calls : List Call)
+    → elementsFinite (programmeIn (storeAfter (buildStore s networkFile old words numbers) calls)) ≡ true
 
 -- ---- no element −0.0
 

@@ -13,20 +13,21 @@ use lib.Ieee.{Float}
 use borrow.Author.Tests.{le-leb, lt-leb, eq-eqb}
 use Rattle.layout.specs.Layout.{aggregatesAt, edgesAt, makersAt, nodeRowsAt, rowStartsLength, shapeLength, stepWorkLength, virtualStoragesAt}
 use Rattle.laws.proofs.Tests.{by-cases}
+use Rattle.pywr.specs.declared.Sentinel.{Sentinel}
 use Rattle.pywr.specs.declared.Interval.{Interval}
 use Rattle.pywr.specs.declared.NodeBounds.{NodeBounds}
-use Rattle.pywr.specs.Result.{value, refused, _>>=_, need}
+use Rattle.pywr.specs.Result.{value, refused, _>>=_, need, firstRefused, refusedIf}
 use Rattle.pywr.specs.Bytes.{within, markIs}
 use Rattle.pywr.specs.Numbers.{zero64, isFlow, isSmall, isDays}
 use Rattle.pywr.specs.NetworkFile.{Read}
 use Rattle.pywr.specs.Programme.{NodeShape}
 use Rattle.pywr.specs.StepFile.{NodeStep, StepFile, expectMark, daysIn, readDate, isStorage, boundFits, volumeFits}
 use Rattle.pywr.specs.StepFile.{readNodeStep, readNodeSteps, readAggregateStep, readAggregateSteps, readVirtualStorageStep, readVirtualStorageSteps, readStep}
-use Rattle.pywr.specs.StepIntervals.{Intervals, firstCrossed, unless, ordered}
+use Rattle.pywr.specs.StepIntervals.{Intervals, isCrossed, isBeyond, badInterval, ordered}
 use Rattle.pywr.specs.Store.{Store, storeHasRoom, word, nodeEntry, virtualStorageEntry, shapeOf, columnsOfRow}
 use Rattle.pywr.specs.Misshapen.{countsFit, startsRise, columnsRise, rowColumnsRise, allEntries, wellShaped}
 use Rattle.pywr.specs.Misshapen.{nodeFits, edgeFits, nodeRowFits, aggregateFits, virtualStorageFits, makersOfKind, makerFits}
-use Rattle.pywr.specs.Calls.{stepRoom, stepRead, stepAnswer}
+use Rattle.pywr.specs.Calls.{stepRoom, stepRead, stepOrdered, stepAnswer}
 use Rattle.pywr.specs.Compute.{computing}
 use Rattle.store_shape.proofs.EntryLaws.{entries-length}
 use Rattle.theorem_prefixes.specs.Prefix.{longestStep, stepPrefix, StepPrefixLeast}
@@ -368,15 +369,27 @@ wide-read file tail e =
           (then-value _ _ _ (shapeOf wide) (need-true (wellShaped wide) 17 0 (shapeOf wide) wide-shaped) (r .1)),
     )
 
--- ---- 14 is not 12
+-- ---- 14 and 21 are not 12
 
-not-twelve : (i : Intervals) (f : StepFile) (p : ℕ) → (ordered i >>= λ _. value f) ≡ refused 12 p → ⊥
-unfolding ordered unless _>>=_
-not-twelve i f p e = nodes (firstCrossed 0 (i .nodes)) e
+not-twelve-from : (w : Sentinel) (v : ℕ → Bool) (i : Intervals) (f : StepFile) (p node : ℕ) (is : List Interval)
+    → (refusedIf i (firstRefused (badInterval w v) node is) >>= λ _. value f) ≡ refused 12 p → ⊥
+unfolding firstRefused refusedIf badInterval _>>=_
+not-twelve-from w v i f p node [] e = let z : _≡_ {A = ℕ} 0 1 = cc in omega arith
+not-twelve-from w v i f p node (x ∷ xs) e =
+    go (isCrossed x) (v node && (isBeyond w (x .lower) || isBeyond w (x .upper))) e (λ q. not-twelve-from w v i f p (suc node) xs q)
   where
-    nodes : (o : Option ℕ) → (unless 14 o i >>= λ _. value f) ≡ refused 12 p → ⊥
-    nodes none q = let z : _≡_ {A = ℕ} 0 1 = cc in omega arith
-    nodes (some k) q = let z : _≡_ {A = ℕ} 14 12 = cc in omega arith
+    go : (crossed beyond : Bool)
+        → (refusedIf i
+        (elim (cond {A = Option ℕ} crossed (some 14) (cond {A = Option ℕ} beyond (some 21) none)) [ none ↦ firstRefused (badInterval w v) (suc node) xs | some number ↦ some (number, node) ])
+        >>= λ _. value f) ≡ refused 12 p
+        → ((refusedIf i (firstRefused (badInterval w v) (suc node) xs) >>= λ _. value f) ≡ refused 12 p → ⊥) → ⊥
+    go true beyond q later = let z : _≡_ {A = ℕ} 14 12 = cc in omega arith
+    go false true q later = let z : _≡_ {A = ℕ} 21 12 = cc in omega arith
+    go false false q later = later q
+
+not-twelve : (store : Store) (f : StepFile) (p : ℕ) → (stepOrdered store f >>= λ _. value f) ≡ refused 12 p → ⊥
+unfolding stepOrdered ordered
+not-twelve store f p e = not-twelve-from _ _ _ f p 0 _ e
 
 left-over : (file : List ℕ) → file ≡ longest (0 ∷ []) → stepAnswer wide file (doubles stepWorkLength) ≡ refused 12 longestStep
 unfolding stepAnswer

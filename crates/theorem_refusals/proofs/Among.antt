@@ -1,14 +1,13 @@
 -- Refusals among a set of numbers: each way to make a result. Assumes nothing.
-use mathlib.Core.Path.{_≡_, subst}
-use Prim.Native.Nat.{ℕ, _≤_}
-use native.Mathlib.Omega.{arith}
-use mathlib.Core.Bool.{Bool, true, false, _&&_}
-use mathlib.Core.List.{List}
-use lib.Dec.{T, leb, leb→le, le→leb}
-use lib.Ieee.Fits.{and-l, and-r}
-use Rattle.pywr.specs.Result.{value, Result, refused, _>>=_, need}
+use mathlib.Core.Path.{_≡_, refl, subst}
+use Prim.Native.Nat.{ℕ, suc}
+use mathlib.Core.Bool.{Bool, true, false}
+use mathlib.Core.List.{List, [], _∷_}
+use mathlib.Core.Option.{Option, none, some}
+use lib.Dec.{T}
+use Rattle.pywr.specs.Result.{value, Result, refused, _>>=_, need, firstRefused, refusedIf}
 use Rattle.pywr.specs.Bytes.{u8, u16, u32, bits64, checked}
-use Rattle.theorem_refusals.specs.RefusalNumbers.{Among, passed, told, fromTo}
+use Rattle.theorem_refusals.specs.RefusalNumbers.{Among, passed, told}
 
 pub bind-among : {numbers : ℕ → Bool} {A B : Type 0} (r : Result A) (k : A → Result B) → Among numbers r → ((x : A) → Among numbers (k x)) → Among numbers (r >>= k)
 unfolding _>>=_
@@ -46,14 +45,17 @@ pub more-among : {numbers more : ℕ → Bool} {A : Type 0} (r : Result A) → (
 more-among (value x) w h = passed
 more-among (refused n p) w (told t) = told (w n t)
 
-both : (a b : Bool) → T a → T b → T (a && b)
-both true b h k = k
-
-pub wider : (least most least′ most′ n : ℕ) → least′ ≤ least → most ≤ most′ → T (fromTo least most n) → T (fromTo least′ most′ n)
-wider least most least′ most′ n h k t =
-    let low : least ≤ n = leb→le least n (and-l (leb least n) (leb n most) t) in
-    let high : n ≤ most = leb→le n most (and-r (leb least n) (leb n most) t) in
-    both (leb least′ n) (leb n most′) (le→leb least′ n (omega arith)) (le→leb n most′ (omega arith))
+-- a test's numbers, asked of a list
+pub first-among : {numbers : ℕ → Bool} {A B : Type 0} (test : ℕ → A → Option ℕ) → ((i : ℕ) (x : A) (n : ℕ) → test i x ≡ some n → T (numbers n)) → (i : ℕ) (xs : List A) (y : B)
+    → Among numbers (refusedIf y (firstRefused test i xs))
+unfolding firstRefused refusedIf
+first-among test ok i [] y = passed
+first-among {numbers} {A} {B} test ok i (x ∷ xs) y = go (test i x) refl (first-among test ok (suc i) xs y)
+  where
+    go : (o : Option ℕ) → test i x ≡ o → Among numbers (refusedIf y (firstRefused test (suc i) xs))
+        → Among numbers {A = B} (refusedIf y (elim o [ none ↦ firstRefused test (suc i) xs | some number ↦ some (number, i) ]))
+    go none q rest = rest
+    go (some n) q rest = told (ok i x n q)
 
 -- what a refusal's number is
 pub number-among : {numbers : ℕ → Bool} {A : Type 0} (r : Result A) (n p : ℕ) → Among numbers r → r ≡ refused n p → T (numbers n)

@@ -1,24 +1,23 @@
 -- Each call refuses with its own numbers, none of them 0; a build and a step with 16 exactly where a buffer is short. Assumes nothing.
 use mathlib.Core.Path.{_≡_, sym, ap, _∙_}
-use Prim.Native.Nat.{ℕ, _≤_}
-use native.Mathlib.Omega.{arith}
-use mathlib.Core.Bool.{Bool, true, false, cond}
+use Prim.Native.Nat.{ℕ}
+use mathlib.Core.Bool.{Bool, true, false, cond, _||_}
 use mathlib.Core.List.{List}
 use lib.ListN.{length}
 use lib.Dec.{T, eqb}
 use lib.Ieee.{Float}
-use Rattle.laws.proofs.Tests.{or-l}
+use Rattle.laws.proofs.Tests.{or-l, or-r}
 use Rattle.pywr.specs.declared.Sentinel.{Sentinel}
 use Rattle.pywr.specs.Result.{value, Result, refused, _>>=_, need}
 use Rattle.pywr.specs.NetworkFile.{parseNetwork}
 use Rattle.pywr.specs.Build.{build}
 use Rattle.pywr.specs.StepFile.{StepFile, readStep}
-use Rattle.pywr.specs.StepIntervals.{ordered}
-use Rattle.pywr.specs.Store.{Store, storeHasRoom, shapeOf}
+use Rattle.pywr.specs.StepIntervals.{hasBinaryRow}
+use Rattle.pywr.specs.Store.{Store, storeHasRoom, shapeOf, programmeIn}
 use Rattle.pywr.specs.Misshapen.{wellShaped}
-use Rattle.pywr.specs.Calls.{buildRoom, buildAnswer, stepRoom, stepRead, stepIntervals, stepAnswer, rowAnswer}
-use Rattle.theorem_refusals.specs.RefusalNumbers.{Among, passed, fromTo, ofNetworkFile, ofProgramme, ofBuild, ofJudged, ofStep, ofRow}
-use Rattle.theorem_refusals.proofs.Among.{bind-among, need-among, more-among, wider, number-among}
+use Rattle.pywr.specs.Calls.{buildRoom, buildAnswer, stepRoom, stepRead, stepIntervals, stepOrdered, stepAnswer, rowAnswer}
+use Rattle.theorem_refusals.specs.RefusalNumbers.{Among, passed, ofNetworkFile, ofProgramme, ofBuild, ofStepFile, ofIntervals, ofJudged, ofStep, ofRow}
+use Rattle.theorem_refusals.proofs.Among.{bind-among, need-among, more-among, number-among}
 use Rattle.theorem_refusals.proofs.NetworkNumbers.{network-file-numbers}
 use Rattle.theorem_refusals.proofs.StepNumbers.{step-file-numbers, interval-numbers}
 
@@ -54,19 +53,21 @@ readWith file room =
     need (wellShaped room) 17 0 (shapeOf room) >>= λ shaped. readStep (shaped .nodes) (length (shaped .aggregates)) (length (shaped .virtualStorages)) file
 
 abbrev orderedIn : Store → StepFile → Result StepFile
-orderedIn store f = ordered (stepIntervals store f) >>= λ _. value f
-
-within : (least most n : ℕ) → 12 ≤ least → most ≤ 14 → T (fromTo least most n) → T (ofJudged n)
-within least most n h k t = or-l (fromTo 12 14 n) (eqb n 17) (wider least most 12 14 n h k t)
+orderedIn store f = stepOrdered store f >>= λ _. value f
 
 read-among : (file : List ℕ) (room : Store) → Among ofJudged (readWith file room)
 read-among file room =
     bind-among _ _ (need-among (wellShaped room) 17 0 (shapeOf room) tt) (λ shaped.
-    more-among _ (λ n t. within 12 13 n (omega arith) (omega arith) t) (step-file-numbers (shaped .nodes) (length (shaped .aggregates)) (length (shaped .virtualStorages)) file))
+    more-among _ (λ n t. or-r (eqb n 17) (ofStepFile n || ofIntervals n) (or-l (ofStepFile n) (ofIntervals n) t))
+    (step-file-numbers (shaped .nodes) (length (shaped .aggregates)) (length (shaped .virtualStorages)) file))
 
 ordered-among : (store : Store) (f : StepFile) → Among ofJudged (orderedIn store f)
+unfolding stepOrdered
 ordered-among store f =
-    bind-among _ _ (more-among _ (λ n t. within 14 14 n (omega arith) (omega arith) t) (interval-numbers (stepIntervals store f))) (λ i. passed)
+    bind-among _ _
+    (more-among _ (λ n t. or-r (eqb n 17) (ofStepFile n || ofIntervals n) (or-r (ofStepFile n) (ofIntervals n) t))
+    (interval-numbers (programmeIn store .sentinel) (hasBinaryRow (shapeOf store .nodeRows)) (stepIntervals store f)))
+    (λ i. passed)
 
 module _ (store : Store) (file : List ℕ) (work : List Float) where
   step-among : Among ofStep (stepAnswer store file work)

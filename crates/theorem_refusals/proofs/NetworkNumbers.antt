@@ -15,11 +15,11 @@ use Rattle.pywr.specs.Bytes.{u16, checked}
 use Rattle.pywr.specs.Numbers.{ofPattern}
 use Rattle.pywr.specs.Network.{link, Node, Part, Network, isExclusive, incoming, outgoing}
 use Rattle.pywr.specs.NetworkFile.{ND, readNode, ED, readEdge, readMembers, readSets, AG, readAggregate, readParts, VS, readVirtualStorage, Mark, rank}
-use Rattle.pywr.specs.NetworkFile.{inOrder, hasRoom, readBody, Reading, readRecord, readRecords, firstRefused, isEmpty, unconnectedLink, badConstant, refusedIf, checkNetwork, parseNetwork}
+use Rattle.pywr.specs.NetworkFile.{inOrder, hasRoom, readBody, Reading, readRecord, readRecords, isEmpty, unconnectedLink, badConstant, checkNetwork, parseNetwork}
 use Rattle.pywr.proofs.RunLaws.{bind-then}
 use Rattle.pywr.proofs.ReadLaws.{need-test}
 use Rattle.theorem_refusals.specs.RefusalNumbers.{Among, passed, told, fromTo, ofEdge, ofOthers, ofNetworkFile}
-use Rattle.theorem_refusals.proofs.Among.{bind-among, need-among, checked-among, u8-among, u16-among, u32-among, bits-among}
+use Rattle.theorem_refusals.proofs.Among.{bind-among, need-among, first-among, checked-among, u8-among, u16-among, u32-among, bits-among}
 
 read-node : (file : List ℕ) (at : ℕ) → Among ofOthers (readNode file at)
 unfolding readNode
@@ -78,22 +78,6 @@ in-order place stage (some m) = go (leb stage (rank m))
     go true = passed
     go false = told tt
 
-first-number : (test : ℕ → Node → Option ℕ) → ((i : ℕ) (x : Node) (n : ℕ) → test i x ≡ some n → T (ofOthers n)) → (i : ℕ) (xs : List Node) (f : ℕ × ℕ)
-    → firstRefused test i xs ≡ some f → T (ofOthers (f .0))
-unfolding firstRefused
-first-number test ok i [] f e = let z : _≡_ {A = ℕ} 0 1 = cc in absurd (omega arith)
-first-number test ok i (x ∷ xs) f e = go (test i x) refl (λ k. first-number test ok (suc i) xs f k) e
-  where
-    go : (o : Option ℕ) → test i x ≡ o → (firstRefused test (suc i) xs ≡ some f → T (ofOthers (f .0)))
-        → _≡_ {A = Option (ℕ × ℕ)} (elim o [ none ↦ firstRefused test (suc i) xs | some number ↦ some (number, i) ]) (some f) → T (ofOthers (f .0))
-    go none q ih k = ih k
-    go (some n) q ih k = let same : (n, i) ≡ f = cc in subst (λ (g : ℕ × ℕ). T (ofOthers (g .0))) same (ok i x n q)
-
-unless-among : (net : Network) (o : Option (ℕ × ℕ)) → ((f : ℕ × ℕ) → o ≡ some f → T (ofOthers (f .0))) → Among ofOthers (refusedIf net o)
-unfolding refusedIf
-unless-among net none h = passed
-unless-among net (some f) h = told (h f refl)
-
 loose-number : (net : Network) (i : ℕ) (x : Node) (n : ℕ) → unconnectedLink net i x ≡ some n → T (ofOthers n)
 unfolding unconnectedLink
 loose-number net i x n e = go (eqb (x .kind) link && (isEmpty (incoming net i) || isEmpty (outgoing net i))) e
@@ -115,7 +99,7 @@ sound-network : (net : Network) → Among ofOthers (checkNetwork net)
 unfolding checkNetwork
 sound-network net =
     bind-among _ _ (need-among _ 7 0 net tt) (λ a.
-    bind-among _ _ (unless-among a _ (first-number (unconnectedLink a) (loose-number a) 0 (a .nodes))) (λ b. unless-among b _ (first-number (badConstant b) (bad-number b) 0 (b .nodes))))
+    bind-among _ _ (first-among (unconnectedLink a) (loose-number a) 0 (a .nodes) a) (λ b. first-among (badConstant b) (bad-number b) 0 (b .nodes) b))
 
 -- ---- an edge, and the records in turn
 

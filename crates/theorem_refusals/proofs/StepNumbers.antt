@@ -1,16 +1,19 @@
--- The step file is refused with 12 and 13 alone, and its intervals with 14. Assumes nothing.
+-- The step file is refused with 12 and 13 alone, and its intervals with 14 and 21. Assumes nothing.
+use mathlib.Core.Path.{_≡_, subst}
 use Prim.Native.Nat.{ℕ, zero, suc, _+_}
-use mathlib.Core.Bool.{Bool}
+use native.Mathlib.Omega.{arith}
+use mathlib.Core.Bool.{Bool, true, false, cond, _&&_, _||_}
 use mathlib.Core.List.{List, [], _∷_, _++_}
 use mathlib.Core.Option.{Option, none, some}
 use lib.Dec.{T}
 use Rattle.pywr.specs.declared.Interval.{Interval}
 use Rattle.pywr.specs.declared.NodeBounds.{NodeBounds}
+use Rattle.pywr.specs.declared.Sentinel.{Sentinel}
 use Rattle.pywr.specs.Programme.{NodeShape}
 use Rattle.pywr.specs.StepFile.{NodeStep, expectMark, readDate, readNodeStep, readNodeSteps, readAggregateStep, readAggregateSteps, readVirtualStorageStep, readVirtualStorageSteps, readStep}
-use Rattle.pywr.specs.StepIntervals.{Intervals, unless, ordered}
-use Rattle.theorem_refusals.specs.RefusalNumbers.{Among, passed, told, ofStepFile, ofIntervals}
-use Rattle.theorem_refusals.proofs.Among.{bind-among, need-among, checked-among, u8-among, bits-among}
+use Rattle.pywr.specs.StepIntervals.{Intervals, isCrossed, isBeyond, badInterval, ordered}
+use Rattle.theorem_refusals.specs.RefusalNumbers.{Among, passed, ofStepFile, ofIntervals}
+use Rattle.theorem_refusals.proofs.Among.{bind-among, need-among, first-among, checked-among, u8-among, bits-among}
 
 mark-among : (file : List ℕ) (at a b : ℕ) → Among ofStepFile (expectMark file at a b)
 unfolding expectMark
@@ -71,11 +74,15 @@ step-file-numbers shapes aggregates virtualStorages file =
     bind-among _ _ (step-aggregates file aggregates [] (n .next)) (λ g.
     bind-among _ _ (step-virtual-storages file virtualStorages [] (g .next)) (λ v. need-among _ 12 (v .next) _ tt))))
 
-crossed-among : {numbers : ℕ → Bool} {A : Type 0} (number : ℕ) (o : Option ℕ) (x : A) → T (numbers number) → Among numbers (unless number o x)
-unfolding unless
-crossed-among number none x t = passed
-crossed-among number (some place) x t = told t
+bad-number : (s : Sentinel) (varyingExclusive : ℕ → Bool) (node : ℕ) (x : Interval) (n : ℕ) → badInterval s varyingExclusive node x ≡ some n → T (ofIntervals n)
+unfolding badInterval
+bad-number s varyingExclusive node x n e = go (isCrossed x) (varyingExclusive node && (isBeyond s (x .lower) || isBeyond s (x .upper))) e
+  where
+    go : (b c : Bool) → cond {A = Option ℕ} b (some 14) (cond {A = Option ℕ} c (some 21) none) ≡ some n → T (ofIntervals n)
+    go true c k = let same : 14 ≡ n = cc in subst (λ (m : ℕ). T (ofIntervals m)) same tt
+    go false true k = let same : 21 ≡ n = cc in subst (λ (m : ℕ). T (ofIntervals m)) same tt
+    go false false k = let z : _≡_ {A = ℕ} 0 1 = cc in absurd (omega arith)
 
-pub interval-numbers : (i : Intervals) → Among ofIntervals (ordered i)
+pub interval-numbers : (s : Sentinel) (varyingExclusive : ℕ → Bool) (i : Intervals) → Among ofIntervals (ordered s varyingExclusive i)
 unfolding ordered
-interval-numbers i = crossed-among 14 _ i tt
+interval-numbers s varyingExclusive i = first-among (badInterval s varyingExclusive) (bad-number s varyingExclusive) 0 (i .nodes) i

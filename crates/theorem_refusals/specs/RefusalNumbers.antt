@@ -26,16 +26,16 @@ ofProgramme n = ofNetworkFile n || eqb n 11
 abbrev pub ofBuild : ℕ → Bool
 ofBuild n = ofProgramme n || eqb n 16
 
--- "Step: 16, 17, file left to right, 14": the file's are 12 and 13
+-- "Step: 16, 17, file left to right, 14": the file's are 12 and 13; 21 is "after 14 in the same pass" (document 02, L3)
 abbrev pub ofStepFile : ℕ → Bool
 ofStepFile = fromTo 12 13
 
 abbrev pub ofIntervals : ℕ → Bool
-ofIntervals = fromTo 14 14
+ofIntervals n = eqb n 14 || eqb n 21
 
 -- of a step with room, and of a step
 abbrev pub ofJudged : ℕ → Bool
-ofJudged n = fromTo 12 14 n || eqb n 17
+ofJudged n = eqb n 17 || (ofStepFile n || ofIntervals n)
 
 abbrev pub ofStep : ℕ → Bool
 ofStep n = ofJudged n || eqb n 16

@@ -1,4 +1,5 @@
 //! Cuts what this crate compiles out of the Rust source into OUT_DIR. Nothing of the source is kept in the repository.
+mod alterations;
 mod parts;
 mod text;
 
@@ -23,14 +24,7 @@ fn main() {
 
     let builder = read("solvers/builder.rs");
     write("builder_unaltered.rs", builder.whole());
-    // The one alteration: the distinct exclusive sets are walked in order of first appearance, where a HashSet has no fixed order.
-    write(
-        "builder.rs",
-        builder.with_line(
-            "let mut node_sets_in_a_mutual_exclusivity = HashSet::new();",
-            "let mut node_sets_in_a_mutual_exclusivity = crate::first_appearance::SetInOrder::new();",
-        ),
-    );
+    write("builder.rs", builder.altered(&alterations::BUILDER));
 }
 
 fn write(name: &str, text: String) {

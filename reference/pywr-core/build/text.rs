@@ -1,4 +1,5 @@
 //! One file of the source, and the cutting of items out of it. The source is formatted by rustfmt: an item ends at the first line `}` of its depth.
+use crate::alterations::Alteration;
 use crate::parts::Parts;
 use std::path::Path;
 
@@ -25,11 +26,15 @@ impl Text {
         self.lines.join("\n") + "\n"
     }
 
-    /// The whole text with one line replaced, which must stand in it exactly once.
-    pub fn with_line(&self, old: &str, new: &str) -> String {
-        let at = self.find(|line| line.trim() == old, old);
+    /// The whole text with the lines of each alteration replaced.
+    pub fn altered(&self, alterations: &[Alteration]) -> String {
         let mut lines = self.lines.clone();
-        lines[at] = new.to_string();
+        for alteration in alterations {
+            for (old, new) in alteration.lines {
+                let at = self.find(|line| line.trim() == *old, &format!("{old}, for {}", alteration.name));
+                lines[at] = new.to_string();
+            }
+        }
         lines.join("\n") + "\n"
     }
 
@@ -62,7 +67,7 @@ impl Text {
         let found: Vec<usize> = (0..self.lines.len()).filter(|&i| is(&self.lines[i])).collect();
         match found[..] {
             [at] => at,
-            _ => panic!("\n\n{}: expected `{what}` once, found it {} times\n\n", self.name, found.len()),
+            _ => panic!("\n\n{}: expected once, found {} times: {what}\n\n", self.name, found.len()),
         }
     }
 

@@ -1,4 +1,6 @@
-//! The set that takes the HashSet's place in the altered builder.rs: it is walked in order of first appearance.
+//! What the altered builder.rs asks for: which sets there are, in order of first appearance, and which elements come first in a step.
+
+/// Takes the HashSet's place.
 pub struct SetInOrder<T>(Vec<T>);
 
 impl<T: PartialEq> SetInOrder<T> {
@@ -19,5 +21,19 @@ impl<T> IntoIterator for SetInOrder<T> {
 
     fn into_iter(self) -> Self::IntoIter {
         self.0.into_iter()
+    }
+}
+
+/// Which places have come, up to the largest.
+#[derive(Default)]
+pub struct Places(Vec<bool>);
+
+impl Places {
+    /// Whether a place comes for the first time.
+    pub fn comes_first(&mut self, place: usize) -> bool {
+        if self.0.len() <= place {
+            self.0.resize(place + 1, false);
+        }
+        !std::mem::replace(&mut self.0[place], true)
     }
 }

@@ -5,7 +5,7 @@ mod col_edge_map {
     include!(concat!(env!("OUT_DIR"), "/col_edge_map.rs"));
 }
 
-/// builder.rs with the sets walked in order of first appearance.
+/// builder.rs with the alterations of build/alterations.rs.
 pub mod builder {
     include!(concat!(env!("OUT_DIR"), "/builder.rs"));
 }

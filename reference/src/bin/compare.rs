@@ -56,6 +56,7 @@ fn main() {
     };
     println!("networks {}, compared {}; {}", tally.builds.total(), tally.builds_compared, tally.builds.text());
     println!("steps {}, compared {}; {}", tally.steps.total(), tally.steps_compared, tally.steps.text());
+    println!("altered and unaltered Rust alike: networks {}, accepted steps {}", tally.in_both.builds, tally.in_both.steps);
     let compared = port.as_deref().is_none_or(|port| all_compared(port, &tally));
     let tried = port.as_deref().is_none_or(|port| tell_tried(port, tally.builds.total()));
     println!("the Rust's own 15, retired: {}", tally.retired());

@@ -57,6 +57,23 @@ pub fn interval(r: &mut Random) -> (f64, f64) {
     if a > b { (b, a) } else { (a, b) }
 }
 
+/// A lower and an upper bound, in order and within both sentinels.
+pub fn interval_within(r: &mut Random) -> (f64, f64) {
+    loop {
+        let (lower, upper) = interval(r);
+        if lower.abs() < f64::MAX && upper.abs() < f64::MAX {
+            return (lower, upper);
+        }
+    }
+}
+
+/// At a sentinel, or the next double within it.
+pub fn at_sentinel(r: &mut Random) -> f64 {
+    let high = [f64::INFINITY, f64::MAX, f64::MAX.next_down()];
+    let bound = *r.pick(&high);
+    if r.chance(50) { bound } else { -bound }
+}
+
 /// A cost, a volume or a factor: magnitude at most 1e12.
 pub fn amount(r: &mut Random) -> f64 {
     let limits = [

@@ -82,6 +82,13 @@ pub fn pushed(plan: &Plan, walk: &[usize], amount: &Whole) -> Option<Plan> {
     walk.iter().all(|&edge| !pushed.amounts[edge].is_negative()).then_some(pushed)
 }
 
+/// The plan with one set on in place of off, or off in place of on.
+fn with_switched(plan: &Plan, set: usize) -> Plan {
+    let mut switched = plan.clone();
+    switched.on[set] ^= true;
+    switched
+}
+
 /// Everyday amounts, a few of the smallest units, and large ones.
 fn amount(r: &mut Random) -> Whole {
     match r.below(10) {
@@ -102,6 +109,15 @@ pub fn units() -> [Whole; 2] {
 /// 1, less and more.
 pub fn ones() -> [Whole; 2] {
     units().map(|unit| unit.shifted(BITS_OF_ONE))
+}
+
+/// What misses a bound of its interval.
+fn missed_interval(rule: &Rule) -> Option<Bounded> {
+    match *rule {
+        Rule::Interval(what) => Some(what),
+        Rule::VaryingExclusive(node, _) => Some(Bounded::Node(node)),
+        Rule::Balance(_) | Rule::ConstantExclusive(..) | Rule::Active(_) => None,
+    }
 }
 
 /// Plans for one network under one step.
@@ -141,8 +157,7 @@ impl<'a> Planner<'a> {
         let mut plan = self.switched(r, plan);
         let mut broken: Vec<Rule> = self.side.broken(&plan).collect();
         for _ in 0..ROUNDS {
-            let intervals = broken.iter().filter_map(|rule| if let Rule::Interval(what) = rule { Some(*what) } else { None });
-            let missed: Vec<Bounded> = intervals.collect();
+            let missed: Vec<Bounded> = broken.iter().filter_map(missed_interval).collect();
             if missed.is_empty() {
                 break;
             }
@@ -158,7 +173,7 @@ impl<'a> Planner<'a> {
         plan
     }
 
-    /// Onto a bound of something, or as near to it as whole units come, by one walk: the bound that it misses if it misses one.
+    /// Onto a bound of something: the bound that it misses if it misses one.
     fn onto_bound(&self, r: &mut Random, plan: &Plan, what: Bounded) -> Option<(Plan, Walk)> {
         let (lower, upper) = self.side.interval(what);
         let amount = self.side.amount(what, plan);
@@ -166,8 +181,14 @@ impl<'a> Planner<'a> {
         let misses_upper = upper.is_finite() && amount > in_product_units(upper);
         let first = if misses_lower || !misses_upper && r.chance(50) { lower } else { upper };
         let target = [first, lower, upper].into_iter().find(|bound| bound.is_finite())?;
+        self.onto(r, plan, what, target)
+    }
+
+    /// To an amount of something, or as near to it as whole units come, by one walk.
+    fn onto(&self, r: &mut Random, plan: &Plan, what: Bounded, target: f64) -> Option<(Plan, Walk)> {
         let walk = self.walk_that_moves(r, what)?;
-        let more = (&in_product_units(target) - &amount).divided_by(&self.slope(what, &walk))?;
+        let missing = &in_product_units(target) - &self.side.amount(what, plan);
+        let more = missing.divided_by(&self.slope(what, &walk))?;
         Some((pushed(plan, &walk, &more)?, walk))
     }
 
@@ -217,7 +238,7 @@ impl<'a> Planner<'a> {
         let balanced = self.balanced(r);
         let mut plans =
             vec![self.unbalanced(r), self.repaired(r, zero.clone()), self.repaired(r, balanced.clone()), zero, balanced];
-        let bounded: Vec<Bounded> = self.side.bounded().collect();
+        let bounded: Vec<Bounded> = self.side.bounded().chain(self.side.varying_exclusive()).collect();
         for base in plans.clone() {
             let what = *r.pick(&bounded);
             let moved = self.onto_bound_and_beside(r, &base, what);
@@ -226,15 +247,14 @@ impl<'a> Planner<'a> {
         plans
     }
 
-    /// A plan, and others around it: a unit more on one edge, a set switched; onto bounds of up to three nodes, aggregates and virtual storages each,
-    /// and beside them.
+    /// A plan, and others around it: a unit more on one edge, a set switched; onto bounds of up to three nodes, aggregates and virtual storages each, and
+    /// of varying exclusive nodes, and beside them.
     pub fn around(&self, r: &mut Random, plan: &Plan) -> Vec<Plan> {
         let edge = r.below(plan.amounts.len());
         let mut plans = vec![plan.clone(), pushed(plan, &[edge], &Whole::from(1)).unwrap()];
         if !plan.on.is_empty() {
-            let (mut switched, set) = (plan.clone(), r.below(plan.on.len()));
-            switched.on[set] ^= true;
-            plans.push(switched);
+            let set = r.below(plan.on.len());
+            plans.push(with_switched(plan, set));
         }
         let mut bounded: Vec<Bounded> = self.side.bounded().collect();
         for kind in bounded.chunk_by_mut(|a, b| discriminant(a) == discriminant(b)) {
@@ -243,12 +263,37 @@ impl<'a> Planner<'a> {
                 plans.extend(self.onto_bound_and_beside(r, plan, what));
             }
         }
+        plans.extend(self.around_exclusive(r, plan));
+        plans
+    }
+
+    /// Onto both bounds of up to two varying exclusive nodes and beside them, with a set of theirs as it is, and switched.
+    fn around_exclusive(&self, r: &mut Random, plan: &Plan) -> Vec<Plan> {
+        let (file, sets) = (self.side.file(), self.side.sets());
+        let mut nodes = file.varying_exclusive_nodes();
+        r.shuffle(&mut nodes);
+        let mut plans = Vec::new();
+        for &node in nodes.iter().take(2) {
+            let listing: Vec<usize> = (0..sets.len()).filter(|&k| sets[k].contains(&node)).collect();
+            let (lower, upper) = self.side.interval(Bounded::Node(node));
+            for bound in [lower, upper] {
+                for moved in with_beside(self.onto(r, plan, Bounded::Node(node), bound)) {
+                    plans.push(with_switched(&moved, *r.pick(&listing)));
+                    plans.push(moved);
+                }
+            }
+        }
         plans
     }
 
     fn onto_bound_and_beside(&self, r: &mut Random, plan: &Plan, what: Bounded) -> Vec<Plan> {
-        let Some((plan, walk)) = self.onto_bound(r, plan, what) else { return Vec::new() };
-        let beside: Vec<Plan> = units().into_iter().chain(ones()).filter_map(|more| pushed(&plan, &walk, &more)).collect();
-        [vec![plan], beside].concat()
+        with_beside(self.onto_bound(r, plan, what))
     }
+}
+
+/// A plan that a walk has moved, and those a unit and 1 to either side of it.
+fn with_beside(moved: Option<(Plan, Walk)>) -> Vec<Plan> {
+    let Some((plan, walk)) = moved else { return Vec::new() };
+    let beside: Vec<Plan> = units().into_iter().chain(ones()).filter_map(|more| pushed(&plan, &walk, &more)).collect();
+    [vec![plan], beside].concat()
 }

@@ -1,10 +1,9 @@
 //! Lists of steps for a network: good ones, crossed limits, damaged and cut files between them.
 use super::damage;
 use super::encode::{Step, step_records};
-use super::numbers::{amount, days, flow, interval, unread, volumes};
+use super::numbers::{amount, at_sentinel, days, flow, interval, interval_within, unread, volumes};
 use crate::NetworkFile;
 use crate::random::Random;
-use pywr_core::network::NodeParts;
 use pywr_core::node::NodeType;
 use pywr_core::state::{AggregateNumbers, NodeNumbers, VirtualStorageNumbers};
 
@@ -16,7 +15,8 @@ pub fn steps(r: &mut Random, network: &NetworkFile) -> Vec<Vec<u8>> {
 
 fn file(r: &mut Random, network: &NetworkFile) -> Vec<u8> {
     let mut step = step(r, network);
-    if r.chance(15) {
+    let reaches = r.chance(15) && reach_sentinel(r, network, &mut step);
+    if r.chance(if reaches { 40 } else { 15 }) {
         cross(r, network, &mut step);
     }
     let records = step_records(&step);
@@ -33,19 +33,24 @@ pub fn step(r: &mut Random, network: &NetworkFile) -> Step {
         month,
         day,
         days: days(r),
-        nodes: network.nodes.iter().map(|n| node(r, n)).collect(),
+        nodes: (0..network.nodes.len()).map(|n| node(r, network, n)).collect(),
         aggregates: network.aggregates.iter().map(|_| aggregate(r)).collect(),
         virtual_storages: network.virtual_storages.iter().map(|_| virtual_storage(r)).collect(),
     }
 }
 
-fn node(r: &mut Random, node: &NodeParts) -> NodeNumbers {
+fn node(r: &mut Random, network: &NetworkFile, index: usize) -> NodeNumbers {
+    let node = network.nodes[index];
     let cost = amount(r);
     if node.kind == NodeType::Storage {
         let (min, max) = volumes(r);
         return NodeNumbers { cost, min, max, volume: amount(r) };
     }
-    let (min, max) = if node.constant.is_some() { (unread(r), unread(r)) } else { interval(r) };
+    let (min, max) = match node.constant {
+        Some(_) => (unread(r), unread(r)),
+        None if network.is_exclusive(index) => interval_within(r),
+        None => interval(r),
+    };
     NodeNumbers { cost, min, max, volume: unread(r) }
 }
 
@@ -58,6 +63,25 @@ fn aggregate(r: &mut Random) -> AggregateNumbers {
 /// A virtual storage's least volume may be over its greatest.
 fn virtual_storage(r: &mut Random) -> VirtualStorageNumbers {
     VirtualStorageNumbers { min: amount(r), max: amount(r), volume: amount(r) }
+}
+
+/// Puts a bound of one or two varying exclusive nodes at a sentinel or next to it, and lets it cross the other in some cases; says whether there is such
+/// a node.
+fn reach_sentinel(r: &mut Random, network: &NetworkFile, step: &mut Step) -> bool {
+    let exclusive = network.varying_exclusive_nodes().into_iter();
+    let with_flow: Vec<usize> = exclusive.filter(|&n| network.nodes[n].kind != NodeType::Storage).collect();
+    for _ in 0..if with_flow.is_empty() { 0 } else { r.between(1, 2) } {
+        let numbers = &mut step.nodes[*r.pick(&with_flow)];
+        let bound = at_sentinel(r);
+        match r.below(8) {
+            0 => (numbers.min, numbers.max) = (bound, bound),
+            1 => numbers.min = bound,
+            2 => numbers.max = bound,
+            _ if bound < 0.0 => numbers.min = bound,
+            _ => numbers.max = bound,
+        }
+    }
+    !with_flow.is_empty()
 }
 
 /// Lets a node's lower pass its upper, by as little as can be in half of the cases.

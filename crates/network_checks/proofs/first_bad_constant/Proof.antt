@@ -3,7 +3,8 @@ use native.Mathlib.Nat.{sub-zero}
 use native.Mathlib.Omega.{arith}
 use mathlib.Core.Path.{_≡_, sym, _∙_}
 use Prim.Native.Nat.{_+_, _*_, _-_, _≤_}
-use Rattle.pywr.specs.NetworkFile.{firstRefused, badConstant}
+use Rattle.pywr.specs.Result.{firstRefused}
+use Rattle.pywr.specs.NetworkFile.{badConstant}
 use Rattle.fields.specs.Records.{recordsAt}
 use Rattle.network_node.specs.Node.{nodeAt}
 use Rattle.network_laws.specs.NetworkAt.{nodeRecords}

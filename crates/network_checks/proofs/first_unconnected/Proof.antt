@@ -2,7 +2,8 @@
 use native.Mathlib.Nat.{sub-zero}
 use mathlib.Core.Path.{_≡_, sym, _∙_}
 use Prim.Native.Nat.{_+_, _*_, _-_, _≤_}
-use Rattle.pywr.specs.NetworkFile.{firstRefused, unconnectedLink}
+use Rattle.pywr.specs.Result.{firstRefused}
+use Rattle.pywr.specs.NetworkFile.{unconnectedLink}
 use Rattle.fields.specs.Records.{recordsAt}
 use Rattle.network_node.specs.Node.{nodeAt}
 use Rattle.network_laws.specs.NetworkAt.{nodeRecords}

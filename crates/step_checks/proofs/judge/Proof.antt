@@ -51,6 +51,7 @@ find-intervals-requires c κs =
       start .pre .2,
       start .pre .3,
       n .nodes,
+      n .node-rows,
       n .aggregates,
       n .virtualStorages,
       long s (start .args .file .now) (start .args .work .now) ok

@@ -44,7 +44,7 @@ returns-2 c =
     let after-days = after-kept-sentinel .before in
     let start = to-start after-days in
     λ s e. all-found s (start .args .shape .now) (start .args .file .now) e (after-days .days .result) (after-days .days .ensures) (after-kept-sentinel .kept-sentinel .result)
-    (after-kept-sentinel .kept-sentinel .ensures) _ _ _ (after-find-node-intervals .find-node-intervals .ensures) (start .pre .2) (start .pre .3)
+    (after-kept-sentinel .kept-sentinel .ensures) _ _ _ (after-find-node-intervals .find-node-intervals .ensures) (start .pre .2) (start .pre .4)
     (after-enum-told .enum-told .given .1) _ _ (after-find-aggregate-intervals .find-aggregate-intervals .ensures)
     (after-find-virtual-storage-intervals .find-virtual-storage-intervals .ensures)
 

@@ -20,72 +20,60 @@ to-start c =
     let after-slice-known3 = after-shared-slice-known3 .before .before .before in
     after-slice-known3 .before .before .before
 
-abbrev to-reset-row-bounds : tie.After-update-node-constraint-bounds-arg3 → tie.After-reset-row-bounds
+abbrev to-reset-row-bounds : tie.After-update-node-constraint-bounds-arg2 → tie.After-reset-row-bounds
 to-reset-row-bounds c =
-    let after-slice-known5 = c .before .before .before in
-    let after-row-lower = after-slice-known5 .before .before .before in
-    after-row-lower .before
+    let after-row-upper = c .before .before .before in
+    after-row-upper .before .before .before
 
 abbrev to-update-node-constraint-bounds : tie.After-wide16 → tie.After-update-node-constraint-bounds
 to-update-node-constraint-bounds c =
-    let after-elements = c .before .before .before in
-    let after-slice-known6 = after-elements .before .before .before in
-    after-slice-known6 .before .before
+    let after-row-upper2 = c .before .before .before in
+    after-row-upper2 .before .before .before
 
 abbrev to-apply-intervals : tie.After-wide162 → tie.After-apply-intervals
 to-apply-intervals c =
     let after-row-upper3 = c .before .before .before in
     after-row-upper3 .before .before .before
 
-abbrev to-apply-intervals2 : tie.After-slice-known12 → tie.After-apply-intervals2
+abbrev to-apply-intervals2 : tie.After-update-binary-rows-arg3 → tie.After-apply-intervals2
 to-apply-intervals2 c =
-    let after-row-lower4 = c .before .before .before in
+    let after-slice-known11 = c .before .before .before in
+    let after-row-lower4 = after-slice-known11 .before .before .before in
     after-row-lower4 .before
 
-abbrev to-wide16 : tie.After-slice-known12 → tie.After-wide16
-to-wide16 c =
-    let after-apply-intervals2 = to-apply-intervals2 c in
-    let after-apply-intervals = to-apply-intervals (after-apply-intervals2 .before .before .before) in
-    after-apply-intervals .before .before .before
+abbrev to-update-binary-rows : tie.After-slice-known14 → tie.After-update-binary-rows
+to-update-binary-rows c =
+    let after-row-upper5 = c .before .before .before in
+    after-row-upper5 .before .before .before
 
 reset-row-bounds-requires : tie.Need-reset-row-bounds-requires
 reset-row-bounds-requires c κs =
     let start = to-start c in
     let p = start .pre in
-    (p .shape-long, fits (start) .aggregates .varying, p .row-lower-long, p .row-upper-long)
+    (p .shape-long, fits start .shape-fits .varying, p .row-lower-long, p .row-upper-long)
 
 update-node-constraint-bounds-requires : tie.Need-update-node-constraint-bounds-requires
 update-node-constraint-bounds-requires c κs =
     let after-reset-row-bounds = to-reset-row-bounds c in
     let start = to-start (after-reset-row-bounds .before) in
     let p = start .pre in
-    let f = fits (start) in (
-      record {
-        lower-long = omega (arith, after-reset-row-bounds .reset-row-bounds .kept .0, p .row-lower-long);
-        upper-long = omega (arith, after-reset-row-bounds .reset-row-bounds .kept .1 .0, p .row-upper-long);
-        elements-long = p .elements-long;
-        work-long = p .work-long;
-      },
-      f .varying,
+    let f = fits start in (
+      omega (arith, after-reset-row-bounds .reset-row-bounds .kept .0, p .row-lower-long),
+      omega (arith, after-reset-row-bounds .reset-row-bounds .kept .1 .0, p .row-upper-long),
+      p .work-long,
+      f .shape-fits,
       f .node-rows-few,
-      f .node-rows,
+      λ k lt. f .node-rows k lt .within,
     )
 
 apply-intervals-requires : tie.Need-apply-intervals-requires
 apply-intervals-requires c κs =
     let after-wide16 = c .before .before in
-    let after-elements = after-wide16 .before .before .before in
-    let after-slice-known6 = after-elements .before .before .before in
-    let after-update-node-constraint-bounds = after-slice-known6 .before .before in
-    let after-update-node-constraint-bounds-arg = after-update-node-constraint-bounds .before .before .before in
-    let after-slice-known4 = after-update-node-constraint-bounds-arg .before .before .before in
-    let after-reset-row-bounds = after-slice-known4 .before .before in
-    let after-shared-slice-known4 = after-reset-row-bounds .before .before .before in
-    let after-shared-slice-known = after-shared-slice-known4 .before .before .before in
-    let after-slice-known = after-shared-slice-known .before .before .before in
-    let start = after-slice-known .before in
+    let after-update-node-constraint-bounds = to-update-node-constraint-bounds after-wide16 in
+    let after-reset-row-bounds = to-reset-row-bounds (after-update-node-constraint-bounds .before) in
+    let start = to-start (after-reset-row-bounds .before) in
     let p = start .pre in
-    let f = fits (start) in (
+    let f = fits start in (
       rw (after-wide16 .wide16 .ensures .0) (f .aggregates),
       omega (arith, after-update-node-constraint-bounds .update-node-constraint-bounds .kept .0, after-reset-row-bounds .reset-row-bounds .kept .0, p .row-lower-long),
       omega (arith, after-update-node-constraint-bounds .update-node-constraint-bounds .kept .1 .0, after-reset-row-bounds .reset-row-bounds .kept .1 .0, p .row-upper-long),
@@ -96,21 +84,12 @@ apply-intervals-requires c κs =
 apply-intervals-requires-2 : tie.Need-apply-intervals-requires-2
 apply-intervals-requires-2 c κs =
     let after-wide162 = c .before .before in
-    let after-row-upper3 = after-wide162 .before .before .before in
-    let after-apply-intervals = after-row-upper3 .before .before .before in
-    let after-wide16 = after-apply-intervals .before .before .before in
-    let after-elements = after-wide16 .before .before .before in
-    let after-slice-known6 = after-elements .before .before .before in
-    let after-update-node-constraint-bounds = after-slice-known6 .before .before in
-    let after-update-node-constraint-bounds-arg = after-update-node-constraint-bounds .before .before .before in
-    let after-slice-known4 = after-update-node-constraint-bounds-arg .before .before .before in
-    let after-reset-row-bounds = after-slice-known4 .before .before in
-    let after-shared-slice-known4 = after-reset-row-bounds .before .before .before in
-    let after-shared-slice-known = after-shared-slice-known4 .before .before .before in
-    let after-slice-known = after-shared-slice-known .before .before .before in
-    let start = after-slice-known .before in
+    let after-apply-intervals = to-apply-intervals after-wide162 in
+    let after-update-node-constraint-bounds = to-update-node-constraint-bounds (after-apply-intervals .before .before .before) in
+    let after-reset-row-bounds = to-reset-row-bounds (after-update-node-constraint-bounds .before) in
+    let start = to-start (after-reset-row-bounds .before) in
     let p = start .pre in
-    let f = fits (start) in (
+    let f = fits start in (
       rw (after-wide162 .wide162 .ensures .0) (f .virtualStorages),
       omega (
         arith,
@@ -130,32 +109,62 @@ apply-intervals-requires-2 c κs =
       omega (arith, after-wide162 .wide162 .ensures .0, f .virtual-storages-few),
     )
 
-same-length : tie.Need-same-length
-same-length c =
+update-binary-rows-requires : tie.Need-update-binary-rows-requires
+update-binary-rows-requires c κs =
     let after-apply-intervals2 = to-apply-intervals2 c in
     let after-apply-intervals = to-apply-intervals (after-apply-intervals2 .before .before .before) in
     let after-update-node-constraint-bounds = to-update-node-constraint-bounds (after-apply-intervals .before .before .before) in
     let after-reset-row-bounds = to-reset-row-bounds (after-update-node-constraint-bounds .before) in
-    after-apply-intervals2 .apply-intervals2 .kept .0 ∙ after-apply-intervals .apply-intervals .kept .0
+    let start = to-start (after-reset-row-bounds .before) in
+    let p = start .pre in
+    let f = fits start in (
+      omega (
+        arith,
+        after-apply-intervals2 .apply-intervals2 .kept .0,
+        after-apply-intervals .apply-intervals .kept .0,
+        after-update-node-constraint-bounds .update-node-constraint-bounds .kept .0,
+        after-reset-row-bounds .reset-row-bounds .kept .0,
+        p .row-lower-long,
+      ),
+      omega (
+        arith,
+        after-apply-intervals2 .apply-intervals2 .kept .1 .0,
+        after-apply-intervals .apply-intervals .kept .1 .0,
+        after-update-node-constraint-bounds .update-node-constraint-bounds .kept .1 .0,
+        after-reset-row-bounds .reset-row-bounds .kept .1 .0,
+        p .row-upper-long,
+      ),
+      p .elements-long,
+      p .work-long,
+      f .varying,
+      f .node-rows-few,
+      f .node-rows,
+    )
+
+same-length : tie.Need-same-length
+same-length c =
+    let after-update-binary-rows = to-update-binary-rows c in
+    let after-apply-intervals2 = to-apply-intervals2 (after-update-binary-rows .before) in
+    let after-apply-intervals = to-apply-intervals (after-apply-intervals2 .before .before .before) in
+    let after-update-node-constraint-bounds = to-update-node-constraint-bounds (after-apply-intervals .before .before .before) in
+    let after-reset-row-bounds = to-reset-row-bounds (after-update-node-constraint-bounds .before) in
+    after-update-binary-rows .update-binary-rows .kept .0 ∙ after-apply-intervals2 .apply-intervals2 .kept .0 ∙ after-apply-intervals .apply-intervals .kept .0
     ∙ after-update-node-constraint-bounds .update-node-constraint-bounds .kept .0 ∙ after-reset-row-bounds .reset-row-bounds .kept .0
 
 same-length-2 : tie.Need-same-length-2
 same-length-2 c =
-    let after-apply-intervals2 = to-apply-intervals2 c in
+    let after-update-binary-rows = to-update-binary-rows c in
+    let after-apply-intervals2 = to-apply-intervals2 (after-update-binary-rows .before) in
     let after-apply-intervals = to-apply-intervals (after-apply-intervals2 .before .before .before) in
     let after-update-node-constraint-bounds = to-update-node-constraint-bounds (after-apply-intervals .before .before .before) in
     let after-reset-row-bounds = to-reset-row-bounds (after-update-node-constraint-bounds .before) in
-    after-apply-intervals2 .apply-intervals2 .kept .1 .0 ∙ after-apply-intervals .apply-intervals .kept .1 .0
+    after-update-binary-rows .update-binary-rows .kept .1 .0 ∙ after-apply-intervals2 .apply-intervals2 .kept .1 .0 ∙ after-apply-intervals .apply-intervals .kept .1 .0
     ∙ after-update-node-constraint-bounds .update-node-constraint-bounds .kept .1 .0 ∙ after-reset-row-bounds .reset-row-bounds .kept .1 .0
-
-same-length-3 : tie.Need-same-length-3
-same-length-3 c =
-    let after-update-node-constraint-bounds = to-update-node-constraint-bounds (to-wide16 c) in
-    after-update-node-constraint-bounds .update-node-constraint-bounds .kept .1 .1 .0
 
 returns : tie.Need-returns
 returns c =
-    let after-apply-intervals2 = to-apply-intervals2 c in
+    let after-update-binary-rows = to-update-binary-rows c in
+    let after-apply-intervals2 = to-apply-intervals2 (after-update-binary-rows .before) in
     let after-wide162 = after-apply-intervals2 .before .before .before in
     let after-apply-intervals = to-apply-intervals after-wide162 in
     let after-wide16 = after-apply-intervals .before .before .before in
@@ -163,10 +172,10 @@ returns c =
     let after-reset-row-bounds = to-reset-row-bounds (after-update-node-constraint-bounds .before) in
     let start = to-start (after-reset-row-bounds .before) in
     λ s i has held.
-    step-written _ _ _ _ _ _ _ (fits (start) .varying) (start .pre .elements-long) s _ _ _ _ _ _ _ _ _ _ _
+    step-written _ _ _ _ _ _ _ (fits start .varying) (start .pre .elements-long) s _ _ _ _ _ _ _ _ _ _ _ _ _
     (after-reset-row-bounds .reset-row-bounds .ensures) (after-update-node-constraint-bounds .update-node-constraint-bounds .ensures)
     (after-wide16 .wide16 .ensures .0) (after-apply-intervals .apply-intervals .ensures)
-    (after-wide162 .wide162 .ensures .0) (after-apply-intervals2 .apply-intervals2 .ensures) i has held
+    (after-wide162 .wide162 .ensures .0) (after-apply-intervals2 .apply-intervals2 .ensures) (after-update-binary-rows .update-binary-rows .ensures) i has held
 
 pub update-constraint-bounds-spec : {M : Type 1} → statement M
 update-constraint-bounds-spec =
@@ -180,7 +189,8 @@ update-constraint-bounds-spec =
     (λ c. search needs)
     (λ c κs. search needs)
     apply-intervals-requires-2
+    update-binary-rows-requires
     same-length
     same-length-2
-    same-length-3
+    (λ c. search needs)
     returns)

@@ -4,7 +4,7 @@ use pywr::{BUILD_NUMBERS, BUILD_WORDS, STEP_WORK, Store};
 use pywr_core::network::Network;
 use pywr_core::state::State;
 use pywr_core::timestep::Timestep;
-use pywr_reference::solver::{InOrder, Solver};
+use pywr_reference::solver::{Altered, Solver};
 use pywr_reference::timed::{network_reader, step_reader::StepReader};
 use pywr_reference::{Reference, Sentinel, step_file};
 use std::hint::black_box;
@@ -34,25 +34,25 @@ impl Port {
 }
 
 #[inline(never)]
-pub fn rust_build(network: &[u8]) -> (Network, InOrder) {
+pub fn rust_build(network: &[u8]) -> (Network, Altered) {
     let network = network_reader::read(network).unwrap();
     let solver = rust_create(&network);
     (network, solver)
 }
 
 #[inline(never)]
-pub fn rust_create(network: &Network) -> InOrder {
-    InOrder::create(network, f64::INFINITY).unwrap()
+pub fn rust_create(network: &Network) -> Altered {
+    Altered::create(network, f64::INFINITY).unwrap()
 }
 
 #[inline(never)]
-pub fn rust_step(network: &Network, solver: &mut InOrder, reader: &mut StepReader, step: &[u8]) {
+pub fn rust_step(network: &Network, solver: &mut Altered, reader: &mut StepReader, step: &[u8]) {
     let (timestep, state) = reader.read(step).unwrap();
     solver.step(network, &timestep, state).unwrap();
 }
 
 #[inline(never)]
-fn rust_update(network: &Network, solver: &mut InOrder, (timestep, state): &(Timestep, State)) {
+fn rust_update(network: &Network, solver: &mut Altered, (timestep, state): &(Timestep, State)) {
     solver.step(network, timestep, state).unwrap();
 }
 
@@ -61,7 +61,7 @@ pub struct Calls<'a> {
     case: &'a Case,
     pub port: Port,
     network: Network,
-    solver: InOrder,
+    solver: Altered,
     reader: StepReader<'a>,
     read: (Timestep, State),
 }

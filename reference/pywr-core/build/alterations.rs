@@ -1,0 +1,50 @@
+//! The alterations of builder.rs, each by lines of it that must stand there exactly once.
+pub struct Alteration {
+    /// What the altered text does, for the message where a line is not found.
+    pub name: &'static str,
+    /// A line, without its indentation, and the text that takes its place.
+    pub lines: &'static [(&'static str, &'static str)],
+}
+
+pub const BUILDER: [Alteration; 3] = [
+    // A HashSet is walked in no fixed order.
+    Alteration {
+        name: "distinct exclusive sets in order of first appearance",
+        lines: &[(
+            "let mut node_sets_in_a_mutual_exclusivity = HashSet::new();",
+            "let mut node_sets_in_a_mutual_exclusivity = crate::first_appearance::SetInOrder::new();",
+        )],
+    },
+    // Document 02's L3. No interval names these rows, so nothing tightens them behind this.
+    Alteration {
+        name: "rows of varying exclusive nodes at 0 and the high sentinel",
+        lines: &[(
+            "self.builder.reset_row_bounds();",
+            "self.builder.reset_row_bounds();
+             for node_row in self.node_constraints_row_ids.iter() {
+                 if !matches!(node_row.row_type, NodeRowType::Continuous) {
+                     let row = node_row.row_id.to_usize().unwrap();
+                     self.builder.row_lower[row] = 0.0;
+                     self.builder.row_upper[row] = self.builder.f64_max;
+                 }
+             }",
+        )],
+    },
+    // Document 02's L3. An element's place stands for its row and column.
+    Alteration {
+        name: "the smallest of a step's coefficients",
+        lines: &[
+            (
+                "for (row, col, value) in self.builder.coefficients_to_update.drain(..) {",
+                "let mut places = crate::first_appearance::Places::default();
+                 for (row, col, value) in self.builder.coefficients_to_update.drain(..) {",
+            ),
+            (
+                "self.builder.elements[start + pos] = value;",
+                "if places.comes_first(start + pos) || value < self.builder.elements[start + pos] {
+                     self.builder.elements[start + pos] = value;
+                 }",
+            ),
+        ],
+    },
+];
