@@ -1,7 +1,8 @@
 #!/usr/bin/env python3
 # Writes the example network files beside this script (flows in Ml/d).
-#   make.py           writes worked.network, supply.network, returns.network, intake.network, pumps.network, and refused/ with slips in intake.network
-#   make.py --dump    prints the records of the first five in hexadecimal, each with what it is
+#   make.py           writes worked.network, supply.network, returns.network, intake.network, pumps.network, a chain keyed in two orders,
+#                     chain_downstream.network and chain_by_age.network, and refused/ with slips in intake.network
+#   make.py --dump    prints the records of the first seven in hexadecimal, each with what it is
 #   make.py --check   reads the written files by the rules and says what they hold, or how they are refused
 import itertools
 import math
@@ -93,6 +94,26 @@ INTAKE = [
 ]
 # intake.network with pumps whose limits each step brings
 PUMPS = INTAKE[:3] + [("node 3, pump 1, varying", node(LINK)), ("node 4, pump 2, varying", node(LINK))] + INTAKE[5:]
+# one chain, its pipes keyed downstream and in the order in which they were laid
+CHAIN_NODES = [
+    ("node 0, spring, varying", node(INPUT)),
+    ("node 1, collecting main, 0 to 25", node(LINK, (0.0, 25.0))),
+    ("node 2, treatment works, 0 to 20", node(LINK, (0.0, 20.0))),
+    ("node 3, trunk main, 0 to 30", node(LINK, (0.0, 30.0))),
+    ("node 4, village, varying", node(OUTPUT)),
+]
+CHAIN_PIPES = [
+    ("spring to collecting main", edge(0, 1)),
+    ("collecting main to treatment works", edge(1, 2)),
+    ("treatment works to trunk main", edge(2, 3)),
+    ("trunk main to village", edge(3, 4)),
+]
+
+
+def keyed(*order):
+    return CHAIN_NODES + [("edge %d, %s" % (number, CHAIN_PIPES[k][0]), CHAIN_PIPES[k][1]) for number, k in enumerate(order)]
+
+
 # intake.network with one edge keyed wrongly: its number, its record, and the number of the refusal
 SLIPS = {
     "into_input": (5, edge(2, 1), 5),  # catchment inflow to reservoir, turned round
@@ -191,6 +212,7 @@ def check(name, records, data):
 
 here = pathlib.Path(__file__).resolve().parent
 NETWORKS = {"worked": WORKED, "supply": SUPPLY, "returns": RETURNS, "intake": INTAKE, "pumps": PUMPS}
+NETWORKS |= {"chain_downstream": keyed(0, 1, 2, 3), "chain_by_age": keyed(1, 3, 2, 0)}
 if __name__ == "__main__":
     for name, records in NETWORKS.items():
         name += ".network"

@@ -1,7 +1,7 @@
 //! Runs the port beside the reference on one case.
 use crate::generate::Case;
 use crate::port::{Answer, Port};
-use crate::reference::InBoth;
+use crate::reference::{InBoth, Unions};
 use crate::{LARGEST, RETIRED, Reference, Refusal, Sentinel};
 
 /// How often each answer came: at 0 accepted, at n refused with number n.
@@ -33,6 +33,23 @@ impl Answers {
     }
 }
 
+/// How many networks reached the columns, those refused with 11 too.
+#[derive(Debug, Clone, Copy, Default)]
+pub struct ByUnions {
+    pub with: u64,
+    pub without: u64,
+    /// With a union, and accepted; without it the programme would be over a ceiling.
+    pub under_by_unions: u64,
+}
+
+impl ByUnions {
+    fn count(&mut self, unions: Unions, accepted: bool) {
+        let counts = if unions.count > 0 { &mut self.with } else { &mut self.without };
+        *counts += 1;
+        self.under_by_unions += (accepted && unions.over_without) as u64;
+    }
+}
+
 /// What was reached, and how much of it was compared with the port.
 #[derive(Debug, Default)]
 pub struct Tally {
@@ -40,10 +57,23 @@ pub struct Tally {
     pub steps: Answers,
     pub builds_compared: u64,
     pub steps_compared: u64,
+    pub by_unions: ByUnions,
     pub in_both: InBoth,
 }
 
 impl Tally {
+    /// The reference's build of a case, counted.
+    fn build(&mut self, case: &Case, sentinel: Sentinel) -> Result<Reference, Refusal> {
+        let built = Reference::build_of_any_size(&case.network, sentinel);
+        let unions = built.as_ref().map(Reference::unions).ok();
+        let build = built.and_then(Reference::within_ceilings);
+        if let Some(unions) = unions {
+            self.by_unions.count(unions, build.is_ok());
+        }
+        self.builds.count(answer(&build));
+        build
+    }
+
     /// Counts the Rust's answer to a step. The retired number is an error, with a port or without.
     pub fn count_step(&mut self, answer: Result<(), Refusal>) -> Result<(), String> {
         self.steps.count(answer);
@@ -71,11 +101,9 @@ pub fn compare(case: &Case, port: &mut Option<Box<dyn Port>>, tally: &mut Tally)
         return run_alone(case, case.sentinel, tally);
     };
     let sentinel = port.sentinel(case.sentinel);
-    let build = Reference::build(&case.network, sentinel);
-    let answer = build.as_ref().map(|_| ()).map_err(|r| *r);
-    tally.builds.count(answer);
+    let build = tally.build(case, sentinel);
     tally.builds_compared += 1;
-    same_answer(answer, port.build(&case.network, sentinel)).map_err(|e| format!("build: {e}"))?;
+    same_answer(answer(&build), port.build(&case.network, sentinel)).map_err(|e| format!("build: {e}"))?;
     match build {
         Ok(mut reference) => {
             port.same_programme(&reference).map_err(|e| format!("build: {e}"))?;
@@ -105,15 +133,17 @@ fn compare_steps(case: &Case, reference: &mut Reference, port: &mut dyn Port, ta
 }
 
 fn run_alone(case: &Case, sentinel: Sentinel, tally: &mut Tally) -> Result<(), String> {
-    let build = Reference::build(&case.network, sentinel);
-    tally.builds.count(build.as_ref().map(|_| ()).map_err(|r| *r));
-    if let Ok(mut reference) = build {
+    if let Ok(mut reference) = tally.build(case, sentinel) {
         for (k, step) in case.steps.iter().enumerate() {
             tally.count_step(reference.step(step)).map_err(|e| format!("step {k}: {e}"))?;
         }
         tally.count_in_both(&reference);
     }
     Ok(())
+}
+
+fn answer(build: &Result<Reference, Refusal>) -> Result<(), Refusal> {
+    build.as_ref().map(|_| ()).map_err(|refusal| *refusal)
 }
 
 fn same_answer(reference: Result<(), Refusal>, port: Answer) -> Result<(), String> {

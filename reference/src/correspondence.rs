@@ -7,6 +7,7 @@ use crate::generate::{self, Case};
 use crate::makers::have_equal_rows;
 use crate::plans::*;
 use crate::random::Random;
+use crate::reference::Unions;
 use crate::{NetworkFile, Programme, Reference, Sentinel, case_file};
 use pywr_core::network::VirtualStorageParts;
 use pywr_core::node::NodeType;
@@ -20,8 +21,9 @@ pub struct Tried {
     pub networks: usize,
     pub with_fractions: usize,
     pub with_several_parts: usize,
-    /// With a varying exclusive node.
+    /// With a varying exclusive node; with columns that unite.
     pub with_varying_exclusive: usize,
+    pub with_unions: usize,
     /// Programmes after an accepted step.
     pub programmes: usize,
     /// Plans that a network and a step were made to fit, and how many of them are allowed.
@@ -73,12 +75,13 @@ pub struct ByFactors {
 }
 
 impl Tried {
-    fn count_network(&mut self, file: &NetworkFile, columns_of_edges: &[usize]) {
+    fn count_network(&mut self, file: &NetworkFile, columns_of_edges: &[usize], unions: Unions) {
         let several = |v| parts_by_column(file, columns_of_edges, v).values().any(|parts| parts.len() > 1);
         self.networks += 1;
         self.with_fractions += file.virtual_storages.iter().any(has_fractions) as usize;
         self.with_several_parts += file.virtual_storages.iter().any(several) as usize;
         self.with_varying_exclusive += !file.varying_exclusive_nodes().is_empty() as usize;
+        self.with_unions += (unions.count > 0) as usize;
     }
 
     fn start_programme(&mut self) {
@@ -148,6 +151,7 @@ impl fmt::Display for Tried {
         writeln!(f, "  with fractional factors: {}", self.with_fractions)?;
         writeln!(f, "  with several parts on a column: {}", self.with_several_parts)?;
         writeln!(f, "  with varying exclusive nodes: {}", self.with_varying_exclusive)?;
+        writeln!(f, "  with columns that unite: {}", self.with_unions)?;
         writeln!(f, "programmes: {}", self.programmes)?;
         if self.fitted > 0 {
             writeln!(f, "fitted plans: {}", self.fitted)?;
@@ -369,7 +373,7 @@ pub fn try_generated(seed: u64, index: u64, tried: &mut Tried) -> Result<(), Str
         sides.try_plans(r, &plans, tried).map_err(tell)?;
     }
     if accepted.is_some() {
-        tried.count_network(&file, &columns_of_edges);
+        tried.count_network(&file, &columns_of_edges, reference.unions());
     }
     Ok(())
 }
@@ -382,6 +386,7 @@ pub struct FittedCase {
     plan: Plan,
     programme: Programme,
     columns_of_edges: Vec<usize>,
+    unions: Unions,
     /// For the plans around the fitted one.
     seed: u64,
 }
@@ -401,23 +406,25 @@ impl FittedCase {
         assert_eq!(answer, Some(Ok(())), "seed {seed}, index {index}: the step that fits");
         let (programme, columns_of_edges) = (reference.programme().clone(), reference.columns_of_edges());
         let name = format!("seed {seed}, index {index}, fitted");
-        Some(Self { name, case, network, plan, programme, columns_of_edges, seed: r.bits() })
+        let unions = reference.unions();
+        Some(Self { name, case, network, plan, programme, columns_of_edges, unions, seed: r.bits() })
     }
 
     /// Tries the plan and others around it. An error is a case file, as of `try_generated`.
     pub fn try_plans(&self, tried: &mut Tried) -> Result<(), String> {
-        tried.count_network(&self.network, &self.columns_of_edges);
-        self.compare(&self.programme, tried).map_err(|e| case_file::write(&self.case, &format!("{}: {e}", self.name)))
+        tried.count_network(&self.network, &self.columns_of_edges, self.unions);
+        self.compare(&self.programme, &self.columns_of_edges, tried)
+            .map_err(|e| case_file::write(&self.case, &format!("{}: {e}", self.name)))
     }
 
-    /// Whether the same plans tell that the programme has a fault.
-    pub fn finds(&self, fault: impl Fn(&mut Programme)) -> bool {
-        let mut programme = self.programme.clone();
-        fault(&mut programme);
-        self.compare(&programme, &mut Tried::default()).is_err()
+    /// Whether the same plans tell that the programme, or the columns of the edges, have a fault.
+    pub fn finds(&self, fault: impl Fn(&NetworkFile, &mut Programme, &mut [usize])) -> bool {
+        let (mut programme, mut columns_of_edges) = (self.programme.clone(), self.columns_of_edges.clone());
+        fault(&self.network, &mut programme, &mut columns_of_edges);
+        self.compare(&programme, &columns_of_edges, &mut Tried::default()).is_err()
     }
 
-    fn compare(&self, programme: &Programme, tried: &mut Tried) -> Result<(), String> {
+    fn compare(&self, programme: &Programme, columns_of_edges: &[usize], tried: &mut Tried) -> Result<(), String> {
         let (sentinel, step) = (self.case.sentinel, &self.case.steps[self.case.steps.len() - 1]);
         let network = NetworkSide::new(&self.network, sentinel, step);
         tried.start_programme();
@@ -425,6 +432,6 @@ impl FittedCase {
         tried.fitted_allowed += network.allows(&self.plan) as usize;
         let r = &mut Random::new(self.seed);
         let plans = Planner::new(&network).around(r, &self.plan);
-        Sides { network, programme, columns_of_edges: &self.columns_of_edges, sentinel }.try_plans(r, &plans, tried)
+        Sides { network, programme, columns_of_edges, sentinel }.try_plans(r, &plans, tried)
     }
 }

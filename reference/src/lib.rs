@@ -2,6 +2,7 @@
 pub mod case_file;
 pub mod case_list;
 pub mod ceilings;
+pub mod columns;
 pub mod commands;
 pub mod comparison;
 pub mod correspondence;

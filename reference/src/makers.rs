@@ -51,7 +51,7 @@ type Asker = (u16, usize, Elements);
 
 /// The makers of a fresh programme's rows, in the order of the rows. An error says where the rows are not those that the file asks for.
 pub fn of(file: &NetworkFile, columns_of_edges: &[usize], fresh: &Programme) -> Result<Vec<Maker>, String> {
-    let network = Gatherer::new(file, columns_of_edges, fresh.columns.len() - fresh.sets());
+    let network = Gatherer::new(file, columns_of_edges, fresh.edge_columns());
     let (varying, fixed) = fresh.rows.split_at(fresh.varying_rows());
     let mut makers = makers_of_varying(network.varying_askers(), varying)?;
     makers.extend(makers_of_fixed(network.fixed_askers(), fixed)?);

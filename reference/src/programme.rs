@@ -31,6 +31,11 @@ impl Programme {
         self.columns.iter().filter(|c| c.integer).count()
     }
 
+    /// The columns of edges: the others are those of sets.
+    pub fn edge_columns(&self) -> usize {
+        self.columns.len() - self.sets()
+    }
+
     pub fn varying_rows(&self) -> usize {
         self.rows.iter().filter(|r| r.varying).count()
     }

@@ -1,9 +1,9 @@
 //! The answers that stand in `crates/test_cases` are the reference's, wherever it has one; its sample has every answer.
-use pywr_reference::OF_A_NETWORK;
 use pywr_reference::case_list::{self, CaseList};
 use pywr_reference::commands::{self, Command, FULL_LENGTH};
 use pywr_reference::replay::{Replay, without_signs_of_zeros};
 use pywr_reference::sample::{COUNT, SEED, Sample};
+use pywr_reference::{OF_A_NETWORK, Reference};
 
 /// How many commands of each kind there are, and of how many the reference has the answer.
 #[derive(Debug, Default)]
@@ -98,6 +98,13 @@ fn the_sample() {
     let [builds, steps] = [sample.tally.builds, sample.tally.steps];
     assert!(OF_A_NETWORK.iter().all(|&n| builds.of(n) >= 2), "{}", builds.text());
     assert!([0, 12, 13, 14, 21].iter().all(|&n| steps.of(n) >= 2), "{}", steps.text());
+    let unites = |command: &&Command| match command {
+        Command::Build(sentinel, file) => {
+            Reference::build_of_any_size(file, *sentinel).is_ok_and(|built| built.unions().count > 0)
+        }
+        _ => false,
+    };
+    assert_eq!(sample.commands.iter().filter(unites).count(), 8);
 }
 
 #[test]

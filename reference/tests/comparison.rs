@@ -2,11 +2,13 @@
 use pywr_reference::comparison::{Tally, compare};
 use pywr_reference::port::{Answer, Port};
 use pywr_reference::programme::Row;
-use pywr_reference::{Programme, Reference, Sentinel, generate};
+use pywr_reference::solver::{Solver, Unaltered};
+use pywr_reference::{NetworkFile, Programme, Reference, Sentinel, generate};
 
 /// A port that is the reference, but for one fault.
 struct Faulty {
     fault: Fault,
+    network: Vec<u8>,
     reference: Option<Reference>,
     refused: bool,
     /// A step was accepted.
@@ -26,9 +28,10 @@ enum Fault {
     OtherSentinel,
     NumberOfTwentyOne,
     ExclusiveRowsReset,
+    ColumnsNotUnited,
 }
 
-const ALL: [Fault; 11] = {
+const ALL: [Fault; 12] = {
     use Fault::*;
     [
         None,
@@ -42,6 +45,7 @@ const ALL: [Fault; 11] = {
         OtherSentinel,
         NumberOfTwentyOne,
         ExclusiveRowsReset,
+        ColumnsNotUnited,
     ]
 };
 
@@ -70,7 +74,7 @@ impl Port for Faulty {
 
     fn build(&mut self, network: &[u8], sentinel: Sentinel) -> Answer {
         let sentinel = if self.fault == Fault::OtherSentinel { Sentinel::Infinity } else { sentinel };
-        (self.refused, self.stepped) = (false, false);
+        (self.network, self.refused, self.stepped) = (network.to_vec(), false, false);
         let build = Reference::build(network, sentinel).map(|built| self.reference = Some(built));
         self.with_fault(Ok(build))
     }
@@ -102,12 +106,20 @@ impl Port for Faulty {
         programme.columns.iter_mut().for_each(|c| c.lower = -c.lower);
         Ok(programme)
     }
+
+    fn columns_of_edges(&self) -> Option<Vec<usize>> {
+        if self.fault != Fault::ColumnsNotUnited {
+            return self.reference.as_ref().map(Reference::columns_of_edges);
+        }
+        let network = NetworkFile::read(&self.network).unwrap().network();
+        Some(Unaltered::create(&network, f64::INFINITY).unwrap().columns_of_edges(&network))
+    }
 }
 
 #[test]
 fn faults_are_found() {
     for fault in ALL {
-        let port = Faulty { fault, reference: None, refused: false, stepped: false };
+        let port = Faulty { fault, network: Vec::new(), reference: None, refused: false, stepped: false };
         let mut port: Option<Box<dyn Port>> = Some(Box::new(port));
         let mut tally = Tally::default();
         let cases = (0..200).map(|i| generate::case(4, i));

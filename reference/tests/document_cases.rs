@@ -1,6 +1,7 @@
-//! Document 01's worked example, its cases marked with a dot, and document 02's L3.
+//! Document 01's worked example, its cases marked with a dot, and document 02's L2 and L3.
 mod records;
 
+use pywr_reference::makers::MASS;
 use pywr_reference::programme::Row;
 use pywr_reference::{Reference, Sentinel};
 use records::*;
@@ -33,26 +34,95 @@ fn worked_example() {
     assert_eq!(built(&[nd(INPUT), constant(OUTPUT, 0.0, 48.5), ed(0, 1)]).programme().to_string(), listing);
 }
 
-#[test]
-fn chains() {
-    let nodes = [nd(INPUT), nd(LINK), nd(LINK), nd(LINK), nd(OUTPUT)].concat();
-    let fixed = |r: &Reference| r.programme().rows.iter().filter(|row| !row.varying).cloned().collect::<Vec<_>>();
-    let keyed = built(&[nodes.clone(), ed(1, 2), ed(3, 4), ed(2, 3), ed(0, 1)]);
-    assert_eq!(keyed.columns_of_edges(), [0, 1, 1, 0]);
-    assert_eq!(fixed(&keyed).len(), 1);
-    assert_eq!(fixed(&keyed)[0].elements, [(0, 1.0), (1, -1.0)]);
-    assert_eq!((fixed(&keyed)[0].lower, fixed(&keyed)[0].upper), (0.0, 0.0));
-    let in_order = built(&[nodes, ed(0, 1), ed(1, 2), ed(2, 3), ed(3, 4)]);
-    assert_eq!(in_order.columns_of_edges(), [0, 0, 0, 0]);
-    assert_eq!(fixed(&in_order).len(), 0);
+/// The links with a mass row, and its elements.
+fn mass_rows(reference: &Reference) -> Vec<(u16, Vec<(usize, f64)>)> {
+    let programme = reference.programme();
+    let rows = programme.makers.iter().zip(&programme.rows).filter(|(maker, _)| maker.kind == MASS);
+    rows.map(|(maker, row)| (maker.index, row.elements.clone())).collect()
 }
 
+type Edge = (u16, u16);
+
+fn orders(edges: &[Edge]) -> Vec<Vec<Edge>> {
+    let Some((&first, rest)) = edges.split_first() else { return vec![Vec::new()] };
+    let insert = |order: Vec<Edge>| (0..=order.len()).map(move |at| [&order[..at], &[first], &order[at..]].concat());
+    orders(rest).into_iter().flat_map(insert).collect()
+}
+
+/// Builds nodes with edges in an order.
+fn keyed(nodes: &[u8], edges: &[Edge]) -> Reference {
+    let nodes = nodes.iter().map(|&kind| nd(kind));
+    built(&nodes.chain(edges.iter().map(|&(from, to)| ed(from, to))).collect::<Vec<_>>())
+}
+
+const CHAIN: [u8; 5] = [INPUT, LINK, LINK, LINK, OUTPUT];
+
+/// "Document 01's first chain becomes one column with no mass row", as it is keyed there and in every other order.
 #[test]
-fn a_zero_element_stays() {
-    let reference = built(&[nd(INPUT), nd(LINK), nd(LINK), ed(0, 1), ed(1, 2), ed(2, 1)]);
-    assert_eq!(reference.columns_of_edges(), [0, 1, 1]);
-    let mass = reference.programme().rows.iter().find(|row| !row.varying).unwrap();
-    assert_eq!(mass.elements, [(0, 1.0), (1, 0.0)]);
+fn a_chain_in_every_order() {
+    let first = [(1, 2), (3, 4), (2, 3), (0, 1)];
+    let orders = orders(&first);
+    assert!(orders.len() == 24 && orders.contains(&first.to_vec()));
+    for order in orders {
+        let reference = keyed(&CHAIN, &order);
+        assert_eq!(reference.columns_of_edges(), [0, 0, 0, 0], "{order:?}");
+        assert_eq!((reference.programme().edge_columns(), mass_rows(&reference)), (1, Vec::new()), "{order:?}");
+    }
+}
+
+/// "later numbers close up": the edge from 5 to 6 is behind two columns of the chain when it comes.
+#[test]
+fn a_later_number_closes_up() {
+    let nodes = [&CHAIN[..], &[INPUT, OUTPUT]].concat();
+    let reference = keyed(&nodes, &[(1, 2), (3, 4), (5, 6), (2, 3), (0, 1)]);
+    assert_eq!(reference.columns_of_edges(), [0, 0, 1, 0, 0]);
+    assert_eq!((reference.programme().edge_columns(), mass_rows(&reference)), (2, Vec::new()));
+}
+
+/// "A zero element stays": link 1 has an edge in and a ring's edges in and out.
+#[test]
+fn a_fed_ring_in_every_order() {
+    let feed = (0, 1);
+    for order in orders(&[feed, (1, 2), (2, 1)]) {
+        let reference = keyed(&[INPUT, LINK, LINK], &order);
+        let of_feed = if order[0] == feed { 0 } else { 1 };
+        let columns = order.iter().map(|&edge| if edge == feed { of_feed } else { 1 - of_feed });
+        assert_eq!(reference.columns_of_edges(), columns.collect::<Vec<usize>>(), "{order:?}");
+        let row = if of_feed == 0 { [(0, 1.0), (1, 0.0)] } else { [(0, 0.0), (1, 1.0)] };
+        assert_eq!(mass_rows(&reference), [(1, row.to_vec())], "{order:?}");
+    }
+}
+
+/// A ring that nothing feeds closes on one column; of four links two columns can unite before.
+#[test]
+fn a_closed_ring_in_every_order() {
+    let rings: [&[Edge]; 3] = [&[(0, 1), (1, 0)], &[(0, 1), (1, 2), (2, 0)], &[(0, 1), (1, 2), (2, 3), (3, 0)]];
+    for ring in rings {
+        for order in orders(ring) {
+            let reference = keyed(&vec![LINK; ring.len()], &order);
+            assert_eq!(reference.columns_of_edges(), vec![0; ring.len()], "{order:?}");
+            assert_eq!((reference.programme().edge_columns(), mass_rows(&reference)), (1, Vec::new()), "{order:?}");
+        }
+    }
+}
+
+/// Chains from 0 and 3 over links 1 and 4 meet at link 2, which gives to 6 over link 5.
+#[test]
+fn chains_that_meet_at_three_edges_stay_apart() {
+    let chains: [[Edge; 2]; 3] = [[(0, 1), (1, 2)], [(3, 4), (4, 2)], [(2, 5), (5, 6)]];
+    for order in orders(chains.as_flattened()) {
+        let reference = keyed(&[INPUT, LINK, LINK, INPUT, LINK, LINK, OUTPUT], &order);
+        let columns = reference.columns_of_edges();
+        let column = |edge: Edge| columns[order.iter().position(|&at| at == edge).unwrap()];
+        let [one, other, below] = chains.map(|[first, second]| {
+            assert_eq!(column(first), column(second), "{order:?}");
+            column(first)
+        });
+        let mut row = vec![(one, 1.0), (other, 1.0), (below, -1.0)];
+        row.sort_by_key(|element| element.0);
+        assert_eq!(reference.programme().edge_columns(), 3, "{order:?}");
+        assert_eq!(mass_rows(&reference), [(2, row)], "{order:?}");
+    }
 }
 
 #[test]

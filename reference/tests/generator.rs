@@ -1,11 +1,13 @@
-//! The generator: the same cases from the same seed, files that are read back, every refusal and both sides of each ceiling reached; varying exclusive
-//! nodes, their bounds at the sentinels, and 21 beside 14.
+//! The generator: the same cases from the same seed, files that are read back, every refusal and both sides of each ceiling reached; columns that unite;
+//! varying exclusive nodes, their bounds at the sentinels, and 21 beside 14.
 use pywr_core::node::NodeType;
 use pywr_core::state::State;
-use pywr_reference::comparison::{Tally, compare};
+use pywr_reference::columns::Columns;
+use pywr_reference::comparison::{ByUnions, Tally, compare};
 use pywr_reference::generate::Case;
 use pywr_reference::generate::encode::network_records;
 use pywr_reference::makers::have_equal_rows;
+use pywr_reference::solver::{Solver, Unaltered};
 use pywr_reference::{NetworkFile, OF_A_NETWORK, Reference, Refusal, Sentinel, case_file, generate, step_file};
 use std::collections::BTreeSet;
 
@@ -51,7 +53,9 @@ fn refusals_and_ceilings_are_reached() {
         assert!(tally.steps.of(number) >= 10, "{}", tally.steps.text());
     }
     assert!(tally.steps.of(21) > 400, "{}", tally.steps.text());
-    assert!(tally.in_both.builds > 1500 && tally.in_both.steps > 4500, "{:?}", tally.in_both);
+    assert!(tally.in_both.builds > 1300 && tally.in_both.steps > 4000, "{:?}", tally.in_both);
+    let ByUnions { with, without, under_by_unions } = tally.by_unions;
+    assert!(with > 500 && without > 3200 && under_by_unions > 8, "{:?}", tally.by_unions);
 }
 
 /// Accepted networks of 1,500 cases. README has the counts that the tests find in them.
@@ -60,6 +64,32 @@ fn accepted() -> impl Iterator<Item = (NetworkFile, Case, Reference)> {
         let reference = Reference::build(&case.network, case.sentinel).ok()?;
         Some((NetworkFile::read(&case.network).unwrap(), case, reference))
     })
+}
+
+/// Networks with a union; with several; with three of the source's columns or more under one number; with a ring of such; with a later number that closes
+/// up; with an exclusive set, whose column does.
+#[test]
+fn unions_are_reached() {
+    let mut counts = [0; 6];
+    for (file, _, reference) in accepted() {
+        let (network, unions) = (file.network(), reference.unions().count);
+        let Columns { of_edges, count, mass_rows } = Columns::of(&file);
+        let mut before = vec![BTreeSet::new(); count];
+        let unaltered = Unaltered::create(&network, f64::INFINITY).unwrap().columns_of_edges(&network);
+        of_edges.iter().zip(unaltered).for_each(|(&column, there)| _ = before[column].insert(there));
+        let is_joint = |node: usize| file.nodes[node].kind == NodeType::Link && !mass_rows.contains(&node);
+        let is_ring = |column| file.edges.iter().zip(&of_edges).all(|(edge, &c)| c != column || is_joint(edge.0));
+        let found = [
+            unions > 0,
+            unions > 1,
+            before.iter().any(|there| there.len() > 2),
+            (0..count).any(|column| before[column].len() > 1 && is_ring(column)),
+            (0..count).any(|column| before[column].len() == 1 && !before[column].contains(&column)),
+            unions > 0 && file.distinct_sets() > 0,
+        ];
+        counts.iter_mut().zip(found).for_each(|(count, found)| *count += found as usize);
+    }
+    assert_eq!(counts, [125, 87, 65, 16, 92, 59]);
 }
 
 /// Networks with a varying exclusive node; a storage among them; one twice in a set; one in two sets; two of a set with equal rows.
@@ -86,7 +116,7 @@ fn varying_exclusive_nodes_are_reached() {
         ];
         counts.iter_mut().zip(found).for_each(|(count, found)| *count += found as usize);
     }
-    assert_eq!(counts, [565, 324, 285, 322, 186]);
+    assert_eq!(counts, [565, 324, 284, 324, 192]);
 }
 
 /// Of bounds of varying exclusive nodes: under 0, and at each sentinel and next to it, of either sign.
@@ -151,5 +181,5 @@ fn both_refusals_of_a_nodes_bounds_meet() {
             }
         }
     }
-    assert_eq!(counts, [137, 19, 27, 18]);
+    assert_eq!(counts, [137, 19, 26, 18]);
 }

@@ -108,6 +108,20 @@ fn links_balance() {
     assert!(of([over(1.0), over(1.0)]) && !of([units(1.0), over(1.0)]));
 }
 
+/// Document 01's first chain, whose columns unite: link 2 has no mass row, and all four edges must carry the same.
+#[test]
+fn links_balance_where_columns_unite() {
+    let nodes = [nd(INPUT), nd(LINK), nd(LINK), nd(LINK), nd(OUTPUT)];
+    let network = [&nodes[..], &[ed(1, 2), ed(3, 4), ed(2, 3), ed(0, 1)]].concat();
+    let step = [day(1.0), free(), free(), nb(0.0, 2.0, 5.0, 0.0), free(), free()];
+    let of = |amounts: [Whole; 4]| allowed(&network, Sentinel::Infinity, &step, &amounts, &[]);
+    assert!(of([(); 4].map(|()| units(2.0))) && of([(); 4].map(|()| units(5.0))));
+    assert!(!of([(); 4].map(|()| under(2.0))) && !of([(); 4].map(|()| over(5.0))));
+    // At link 2 alone, where the Rust's two columns meet, and on each edge alone.
+    assert!(!of([units(3.0), over(3.0), over(3.0), units(3.0)]) && !of([over(3.0), units(3.0), units(3.0), over(3.0)]));
+    assert!((0..4).all(|e| !of(std::array::from_fn(|at| if at == e { over(3.0) } else { units(3.0) }))));
+}
+
 /// An input's constant 1 to 4, an output's 2 to 3 by the step.
 #[test]
 fn inputs_and_outputs_by_their_own_bounds() {

@@ -9,9 +9,11 @@ use pywr_reference::generate::plans::pushed;
 use pywr_reference::makers::{AGGREGATE, EXCLUSIVITY, MASS, NODE, VIRTUAL_STORAGE};
 use pywr_reference::plans::{Plan, is_in_1024ths};
 use pywr_reference::programme::Row;
+use pywr_reference::solver::{Solver, Unaltered};
 use pywr_reference::{Maker, NetworkFile, Programme, Reference, Sentinel};
 use records::*;
 use sides::answers;
+use std::collections::BTreeMap;
 
 /// Cases as generated. Only few of the plans that are tried are allowed.
 #[test]
@@ -21,7 +23,7 @@ fn generated_cases_correspond() {
         try_generated(14, index, &mut tried).unwrap_or_else(|e| panic!("{e}"));
     }
     assert!(tried.networks > 1100 && tried.with_fractions > 400 && tried.with_several_parts > 340, "{tried}");
-    assert!(tried.with_varying_exclusive > 680, "{tried}");
+    assert!(tried.with_varying_exclusive > 680 && tried.with_unions > 140, "{tried}");
     assert!(tried.programmes > 4200 && tried.plans > 85_000 && tried.allowed > 350, "{tried}");
     assert!(tried.forbidden_by_one.least() > 10, "{tried}");
 }
@@ -34,7 +36,7 @@ fn fitted_cases_correspond() {
         case.try_plans(&mut tried).unwrap_or_else(|e| panic!("{e}"));
     }
     assert!(tried.networks > 2900 && tried.with_fractions > 1550 && tried.with_several_parts > 1200, "{tried}");
-    assert!(tried.with_varying_exclusive > 1700, "{tried}");
+    assert!(tried.with_varying_exclusive > 1700 && tried.with_unions > 400, "{tried}");
     assert!(tried.fitted == tried.networks && tried.fitted_allowed > 2700, "{tried}");
     assert!(tried.plans > 70_000 && tried.allowed > 10_000 && tried.forbidden() > 60_000, "{tried}");
     assert!(tried.forbidden_by_one.least() > 400, "{tried}");
@@ -59,11 +61,26 @@ fn change_factors(programme: &mut Programme, change: fn(f64) -> f64) {
     rows_of(programme, VIRTUAL_STORAGE).flat_map(|row| &mut row.elements).for_each(|(_, element)| *element = change(*element));
 }
 
-/// A fault's name, and what it does to a programme.
-type Fault = (String, Box<dyn Fn(&mut Programme)>);
+/// A fault's name, and what it does to a network's programme and to the columns of its edges.
+type Fault = (String, Box<dyn Fn(&NetworkFile, &mut Programme, &mut [usize])>);
 
 fn fault(name: &str, change: impl Fn(&mut Programme) + 'static) -> Fault {
-    (name.into(), Box::new(change))
+    (name.into(), Box::new(move |_, programme, _| change(programme)))
+}
+
+/// The columns of the source that a union moves stay apart from the one with the lowest edge, and no row has them.
+fn leave_behind(file: &NetworkFile, programme: &mut Programme, columns_of_edges: &mut [usize]) {
+    let network = file.network();
+    let there = Unaltered::create(&network, f64::INFINITY).unwrap().columns_of_edges(&network);
+    let (mut first, mut apart) = (BTreeMap::new(), BTreeMap::new());
+    for (column, there) in columns_of_edges.iter_mut().zip(there) {
+        if *first.entry(*column).or_insert(there) != there {
+            *column = *apart.entry(there).or_insert_with(|| {
+                programme.columns.push(programme.columns[*column]);
+                programme.columns.len() - 1
+            });
+        }
+    }
 }
 
 /// A change of a row and its name.
@@ -135,6 +152,7 @@ fn faults_of_a_programme_are_found() {
         fault("factors one double up", |p| change_factors(p, f64::next_up)),
         fault("factors rounded", |p| change_factors(p, f64::round)),
         fault("columns at most 10", |p| p.columns.iter_mut().for_each(|column| column.upper = column.upper.min(10.0))),
+        ("columns that a union moves left behind".into(), Box::new(leave_behind)),
     ];
     faults.extend(faults_of_bounds());
     faults.extend(faults_of_varying_exclusive_nodes());

@@ -1,12 +1,18 @@
 //! The altered and the unaltered Rust, and the Rust's own refusals, on generated networks and on inputs of docs/DIFFERENCES.md.
 mod records;
 
+use pywr_core::node::NodeType;
 use pywr_core::solvers::SolverSetupError;
+use pywr_core::state::State;
+use pywr_reference::columns::Columns;
 use pywr_reference::generate::Case;
+use pywr_reference::makers::{self, MASS};
 use pywr_reference::reference::refusal;
 use pywr_reference::solver::{Altered, Solver, Unaltered};
 use pywr_reference::{NetworkFile, Programme, Reference, Refusal, Sentinel, generate, step_file};
 use records::*;
+use std::collections::BTreeSet;
+use std::iter::successors;
 use std::panic::catch_unwind;
 
 const CASES: u64 = 3000;
@@ -20,11 +26,20 @@ fn networks() -> impl Iterator<Item = NetworkFile> {
     cases().map(|(file, _)| file)
 }
 
-/// Builds: with at most one distinct set both are the same bit for bit; with more, the counts are.
+fn columns<S: Solver>(file: &NetworkFile) -> Vec<usize> {
+    let network = file.network();
+    S::create(&network, f64::INFINITY).unwrap().columns_of_edges(&network)
+}
+
+fn has_union(file: &NetworkFile) -> bool {
+    columns::<Altered>(file) != columns::<Unaltered>(file)
+}
+
+/// Builds without a union: with at most one distinct set both are the same bit for bit; with more, the counts are.
 #[test]
 fn both_variants_agree() {
     let mut counts = [0; 2];
-    for file in networks().filter(|file| file.check().is_ok()) {
+    for file in networks().filter(|file| file.check().is_ok() && !has_union(file)) {
         let network = file.network();
         for sentinel in [Sentinel::Infinity, Sentinel::LargestFinite] {
             let altered = Altered::create(&network, sentinel.high()).unwrap().programme();
@@ -35,6 +50,98 @@ fn both_variants_agree() {
         }
     }
     assert!(counts.iter().all(|&n| n > 500), "{counts:?}");
+}
+
+/// The links with a mass row.
+fn mass_rows<S: Solver>(file: &NetworkFile) -> Vec<u16> {
+    let fresh = S::create(&file.network(), f64::INFINITY).unwrap().programme();
+    let makers = makers::of(file, &columns::<S>(file), &fresh).unwrap();
+    makers.iter().filter(|maker| maker.kind == MASS).map(|maker| maker.index).collect()
+}
+
+/// A column of the source lies whole in one. Each union spares a column, and a mass row at least: a ring that closes on several columns has a row more.
+#[test]
+fn unions_spare_columns_and_mass_rows() {
+    let (mut unions, mut rings) = (0, 0);
+    for file in networks().filter(|file| file.check().is_ok() && file.distinct_sets() <= 1) {
+        let [altered, unaltered] = [columns::<Altered>(&file), columns::<Unaltered>(&file)];
+        let count = |columns: &[usize]| columns.iter().collect::<BTreeSet<_>>().len();
+        let pairs: BTreeSet<_> = unaltered.iter().zip(&altered).collect();
+        assert_eq!(pairs.len(), count(&unaltered));
+        let columns_spared = count(&unaltered) - count(&altered);
+        let (kept, before) = (mass_rows::<Altered>(&file), mass_rows::<Unaltered>(&file));
+        assert!(kept.iter().all(|link| before.contains(link)));
+        let rows_spared = before.len() - kept.len();
+        assert!(rows_spared >= columns_spared && (rows_spared > 0) == (columns_spared > 0));
+        unions += columns_spared;
+        rings += rows_spared - columns_spared;
+    }
+    assert!(unions > 500 && rings > 10, "{unions}, {rings}");
+}
+
+/// The places of the edges column by column, each column in flow order.
+fn in_flow_order(file: &NetworkFile) -> Vec<usize> {
+    let Columns { of_edges, count, mass_rows } = Columns::of(file);
+    let is_joint = |node: usize| file.nodes[node].kind == NodeType::Link && !mass_rows.contains(&node);
+    let mut order = Vec::new();
+    for column in 0..count {
+        let edges: Vec<usize> = (0..of_edges.len()).filter(|&e| of_edges[e] == column).collect();
+        // A ring has no first edge.
+        let first = edges.iter().copied().find(|&e| !is_joint(file.edges[e].0)).unwrap_or(edges[0]);
+        let next = |&e: &usize| edges.iter().copied().find(|&below| file.edges[below].0 == file.edges[e].1);
+        order.extend(successors(Some(first), next).take(edges.len()));
+    }
+    order
+}
+
+/// Document 01's costs: "from's outgoing plus to's incoming [..] Costs add into the column in edge order from 0.0".
+fn costs(file: &NetworkFile, columns: &[usize], state: &State) -> Vec<f64> {
+    let mut costs = vec![0.0; columns.iter().max().unwrap() + 1];
+    let part = |node: usize, of_storage: f64| match file.nodes[node].kind {
+        NodeType::Link => state.nodes[node].cost / 2.0,
+        NodeType::Storage => of_storage * state.nodes[node].cost,
+        _ => state.nodes[node].cost,
+    };
+    for (&(from, to), &column) in file.edges.iter().zip(columns) {
+        costs[column] += part(from, -1.0) + part(to, 1.0);
+    }
+    costs
+}
+
+/// Where columns unite, the altered Rust makes what the unaltered one makes of the same edges in flow order, where none do: a programme equal bit for
+/// bit, but for a step's costs, which add in edge order and are held to the file's numbers.
+#[test]
+fn unions_make_what_flow_order_makes() {
+    let (mut builds, mut steps) = (0, 0);
+    let is_meant = |file: &NetworkFile| file.check().is_ok() && has_union(file) && file.distinct_sets() <= 1;
+    for (file, case) in cases().filter(|(file, _)| is_meant(file)) {
+        let order = in_flow_order(&file);
+        let flowing = NetworkFile { edges: order.iter().map(|&e| file.edges[e]).collect(), ..file.clone() };
+        let (network, flowing_network, high) = (file.network(), flowing.network(), case.sentinel.high());
+        let mut altered = Altered::create(&network, high).unwrap();
+        let mut unaltered = Unaltered::create(&flowing_network, high).unwrap();
+        let columns = altered.columns_of_edges(&network);
+        assert_eq!(unaltered.columns_of_edges(&flowing_network), order.iter().map(|&e| columns[e]).collect::<Vec<_>>());
+        assert!(altered.programme().same_bits(&unaltered.programme()));
+        builds += 1;
+        if !file.varying_exclusive_nodes().is_empty() {
+            continue;
+        }
+        for (timestep, state) in case.steps.iter().filter_map(|step| step_file::read(&file, step).ok()) {
+            let answers = [altered.step(&network, &timestep, &state), unaltered.step(&flowing_network, &timestep, &state)];
+            let [one, other] = answers.map(|answer| answer.map_err(refusal));
+            assert_eq!(one, other);
+            if one.is_ok() {
+                let (programme, mut flowing) = (altered.programme(), unaltered.programme());
+                for (column, cost) in flowing.columns.iter_mut().zip(costs(&file, &columns, &state)) {
+                    column.cost = cost;
+                }
+                assert!(programme.same_bits(&flowing));
+                steps += 1;
+            }
+        }
+    }
+    assert!(builds > 100 && steps > 300, "{builds}, {steps}");
 }
 
 /// The altered programme with what the alterations of a step change put back: in the rows of varying exclusive nodes the bounds, and the coefficient,
@@ -51,11 +158,13 @@ fn put_back(altered: &Programme, unaltered: &Programme, high: f64) -> (Programme
     (programme, others)
 }
 
-/// With at most one distinct set a step makes the same programme bit for bit, but for the rows of varying exclusive nodes; refusals are alike.
+/// Without a union and with at most one distinct set a step makes the same programme bit for bit, but for the rows of varying exclusive nodes; refusals
+/// are alike.
 #[test]
 fn steps_differ_in_rows_of_varying_exclusive_nodes_alone() {
     let [mut same, mut with_varying_exclusive, mut coefficients] = [0; 3];
-    for (file, case) in cases().filter(|(file, _)| file.check().is_ok() && file.distinct_sets() <= 1) {
+    let is_meant = |file: &NetworkFile| file.check().is_ok() && file.distinct_sets() <= 1 && !has_union(file);
+    for (file, case) in cases().filter(|(file, _)| is_meant(file)) {
         let (network, high) = (file.network(), case.sentinel.high());
         let mut altered = Altered::create(&network, high).unwrap();
         let mut unaltered = Unaltered::create(&network, high).unwrap();
@@ -122,6 +231,29 @@ fn rows_of_varying_exclusive_nodes_in_both_variants() {
     assert_eq!(rows_after::<Altered>(&pump, &unlimited), here([f64::INFINITY, -0.0]));
     let mut reference = Reference::build(&pump, Sentinel::Infinity).unwrap();
     assert_eq!(reference.step(&unlimited), Err(Refusal::new(21, 0)));
+}
+
+/// The counts, the columns of the edges and the links with a mass row.
+fn shape<S: Solver>(network: &[u8]) -> (String, Vec<usize>, Vec<u16>) {
+    let file = NetworkFile::read(network).unwrap();
+    let fresh = S::create(&file.network(), f64::INFINITY).unwrap().programme();
+    (fresh.counts(), columns::<S>(&file), mass_rows::<S>(&file))
+}
+
+/// Row 26 of docs/DIFFERENCES.md: a storage that gives to itself over two links is the smallest network whose columns unite. Then the shortest chain
+/// from an input to an output, and document 01's first.
+#[test]
+fn columns_unite_in_one_variant() {
+    let ring = [nd(STORAGE), nd(LINK), nd(LINK), ed(0, 1), ed(2, 0), ed(1, 2)].concat();
+    assert_eq!(shape::<Unaltered>(&ring), ("P 2 3 2 5".into(), vec![0, 1, 1], vec![1]));
+    assert_eq!(shape::<Altered>(&ring), ("P 1 2 2 2".into(), vec![0, 0, 0], vec![]));
+    let short = [nd(INPUT), nd(LINK), nd(LINK), nd(OUTPUT), ed(0, 1), ed(2, 3), ed(1, 2)].concat();
+    assert_eq!(shape::<Unaltered>(&short), ("P 2 3 2 4".into(), vec![0, 1, 1], vec![1]));
+    assert_eq!(shape::<Altered>(&short), ("P 1 1 1 1".into(), vec![0, 0, 0], vec![]));
+    let nodes = [nd(INPUT), nd(LINK), nd(LINK), nd(LINK), nd(OUTPUT)].concat();
+    let first = [nodes, ed(1, 2), ed(3, 4), ed(2, 3), ed(0, 1)].concat();
+    assert_eq!(shape::<Unaltered>(&first), ("P 2 3 2 4".into(), vec![0, 1, 1, 0], vec![2]));
+    assert_eq!(shape::<Altered>(&first), ("P 1 1 1 1".into(), vec![0, 0, 0, 0], vec![]));
 }
 
 /// 7 and 9 are errors of the Rust, 8 and 10 panics; what passes them builds.

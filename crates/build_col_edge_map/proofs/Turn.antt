@@ -1,28 +1,30 @@
 -- The walk over the edges that gives them their columns. Assumes nothing.
 use Prim.Native.Nat.{ℕ, zero, suc, _+_, _*_, _-_, _<_, _≤_}
-use mathlib.Core.Path.{_≡_, refl, sym, ap, _∙_, subst}
-use mathlib.Core.Logic.{_≢_}
+use mathlib.Core.Path.{_≡_, refl, ap, _∙_}
+use mathlib.Core.Logic.{_⊎_, inl, inr, _≢_}
 use mathlib.Core.List.{List, [], _∷_, map}
 use mathlib.Core.Bool.{Bool, true, false, cond}
 use mathlib.Core.Option.{Option, none, some}
 use native.Mathlib.Omega.{arith}
 use native.Mathlib.Numerals.{add-one}
-use lib.ListN.{length, getD, take, drop, replicate, length-replicate, drop-of-length-le}
+use lib.ListN.{length, getD, take, drop, set, replicate, length-replicate, drop-of-length-le}
 use borrow.Author.Tests.{eq-eqb, ne-eqb}
 use lib.Seq.{drop-cons}
 use lib.Dec.{eqb}
 use Rattle.pywr.specs.Bytes.{byte, le16}
 use Rattle.pywr.specs.Network.{link, Edge, Network, source, target, edgesWith, incoming, outgoing}
-use Rattle.pywr.specs.ColEdgeMap.{Columns, columns, columnAt, putNew, addSimpleEdge, addEqualEdges, single, sharesWith, placeEdge, placeEdges}
-use Rattle.pywr.proofs.ColumnLaws.{put-length, new-length}
+use Rattle.pywr.specs.ColEdgeMap.{Columns, columns, columnAt, put, putNew, addSimpleEdge, addEqualEdges, single, sharesWith, placeEdge, placeEdges}
+use Rattle.pywr.proofs.UnionLaws.{unite-cases}
+use Rattle.pywr.proofs.ColumnLaws.{put-length, Kept, under-united, none-there}
 use Rattle.pywr.proofs.LinkLaws.{many, single-is}
 use Rattle.network_edge.specs.Edge.{edgeAt}
-use Rattle.network_laws.specs.NetworkAt.{nodeRecords, edgeRecords, networkAt}
+use Rattle.network_laws.specs.NetworkAt.{edgeRecords, networkAt}
 use Rattle.network_laws.proofs.Index.{edge-count, edge-index}
 use Rattle.network_laws.proofs.RecordReaders.{kind-law}
 use Rattle.laws.specs.Linked.{Linked}
 use Rattle.build_incident_edges.specs.IncidentEdges.{EdgesListed}
 use Rattle.build_col_edge_map.specs.Mapped.{code, Mapped, only, sharesAcross}
+use Rattle.build_col_edge_map.proofs.MappedLaws.{mapped-at}
 
 -- ---- the one edge of a list
 
@@ -91,20 +93,47 @@ code-some (some n) k q f = let e : n ≡ k - 1 = omega arith in ap {B = Option �
 
 -- ---- the walk
 
-place-length : (o : Option ℕ) (e : ℕ) (c : Columns) → length (placeEdge o e c .of) ≡ length (c .of)
-unfolding placeEdge addSimpleEdge addEqualEdges
-place-length none e c = go (columnAt c e)
-  where
-    go : (o : Option ℕ) → length (addSimpleEdge o e c .of) ≡ length (c .of)
-    go none = new-length c e
-    go (some k) = refl
-place-length (some p) e c = go (columnAt c e) (columnAt c p)
-  where
-    go : (o r : Option ℕ) → length (addEqualEdges o r e p c .of) ≡ length (c .of)
-    go none none = put-length (putNew e c) p (c .count) ∙ new-length c e
-    go none (some k) = put-length c e k
-    go (some k) none = put-length c p k
-    go (some k) (some j) = refl
+-- each column's number is under the count
+abbrev pub Below : Columns → Type 0
+Below c = (x k : ℕ) → columnAt c x ≡ some k → k < c .count
+
+set-was : (os : List (Option ℕ)) (e k x j : ℕ) → getD (set os e (some k)) x none ≡ some j → (j ≡ k) ⊎ (getD os x none ≡ some j)
+set-was [] e k x j h = inr h
+set-was (o ∷ os) zero k zero j h = inl (cc)
+set-was (o ∷ os) zero k (suc x) j h = inr h
+set-was (o ∷ os) (suc e) k zero j h = inr h
+set-was (o ∷ os) (suc e) k (suc x) j h = set-was os e k x j h
+
+module _ (size : ℕ) where
+  put-kept : (e k : ℕ) (c : Columns) → k < c .count → Kept Below size c → Kept Below size (put e k c)
+  unfolding put columnAt
+  put-kept e k c h kept = record { long = put-length c e k ∙ kept .long; holds = λ x j q. go x j (set-was (c .of) e k x j q) }
+    where
+      go : (x j : ℕ) → (j ≡ k) ⊎ (getD (c .of) x none ≡ some j) → j < c .count
+      go x j (inl q) = omega arith
+      go x j (inr q) = kept .holds x j q
+
+  new-kept : (e : ℕ) (c : Columns) → Kept Below size c → Kept Below size (putNew e c)
+  unfolding putNew put columnAt
+  new-kept e c kept =
+      put-kept e (c .count) (record { of = c .of; count = suc (c .count) }) (omega arith) (record { long = kept .long; holds = λ x j q. let h = kept .holds x j q in omega arith })
+
+  -- an edge's turn keeps the table's length, and each number under the count
+  place-kept : (o : Option ℕ) (e : ℕ) (c : Columns) → Kept Below size c → Kept Below size (placeEdge o e c)
+  unfolding placeEdge addSimpleEdge addEqualEdges putNew
+  place-kept none e c kept = go (columnAt c e)
+    where
+      go : (o : Option ℕ) → Kept Below size (addSimpleEdge o e c)
+      go none = new-kept e c kept
+      go (some k) = kept
+  place-kept (some p) e c kept = go (columnAt c e) (columnAt c p) refl refl
+    where
+      go : (o r : Option ℕ) → columnAt c e ≡ o → columnAt c p ≡ r → Kept Below size (addEqualEdges o r e p c)
+      go none none q s = put-kept p (c .count) (putNew e c) (omega arith) (new-kept e c kept)
+      go none (some k) q s = put-kept e k c (kept .holds p k s) kept
+      go (some k) none q s = put-kept p k c (kept .holds e k q) kept
+      go (some k) (some j) q s =
+          unite-cases (Kept Below size) k j c (λ r. kept) (λ d f l n u. record { long = l ∙ kept .long; holds = under-united u e p q s f (kept .holds) })
 
 place-next : (net : Network) (es : List Edge) (e : ℕ) (c : Columns) (o : Option ℕ) (x d : Edge) → e < length es → getD es e d ≡ x → sharesWith net x ≡ o
     → placeEdges net e (drop e es) c ≡ placeEdges net (e + 1) (drop (e + 1) es) (placeEdge o e c)
@@ -154,7 +183,7 @@ module _ (file : List ℕ) (nodes edges : ℕ) where
     pub now-columns : Columns
     pub few : e ≤ edges
     pub few-columns : count ≤ e
-    pub long : length (now-columns .of) ≡ edges
+    pub kept : Kept Below edges now-columns
     pub mapped : Mapped now-columns table count
     pub rest : (a v : ℕ) → columns (networkAt file nodes edges a v) ≡ placeEdges (networkAt file nodes edges a v) e (drop e (edgeRecords file nodes edges)) now-columns
 
@@ -169,10 +198,18 @@ module _ (file : List ℕ) (nodes edges : ℕ) where
         now-columns = record { of = replicate (length (edgeRecords file nodes edges)) none; count = 0 };
         few = omega arith;
         few-columns = omega arith;
-        long = length-replicate (length (edgeRecords file nodes edges)) none ∙ edges-long;
+        kept = record { long = length-replicate (length (edgeRecords file nodes edges)) none ∙ edges-long; holds = λ x k q. none-there (length (edgeRecords file nodes edges)) x k q };
         mapped = record { table-is = zeros-taken (length (edgeRecords file nodes edges)) 512 (omega (arith, edges-long)); count-is = refl };
         rest = λ a v. refl;
       }
+
+  -- no number in the table is over the count
+  pub number-most : {e count : ℕ} {table : List ℕ} → Placed e count table → (x : ℕ) → x < edges → getD table x 0 ≤ count
+  number-most {count} {table} h x lt = rw (mapped-at (h .now-columns) table count (h .mapped) x (omega (arith, h .kept .long))) (go (columnAt (h .now-columns) x) refl)
+    where
+      go : (o : Option ℕ) → columnAt (h .now-columns) x ≡ o → code o ≤ count
+      go none q = omega arith
+      go (some k) q = omega (arith, h .kept .holds x k q, h .mapped .count-is)
 
   module _ (e count r : ℕ) (table table′ : List ℕ) (h : Placed e count table) (lt : e < edges) (from : le16 file (20 * nodes + 6 * e + 2) < nodes) (few : r ≤ count + 1) where
     placed : (o : Option ℕ) → sharedBy e ≡ o → Mapped (placeEdge o e (h .now-columns)) table′ r → Placed (e + 1) r table′
@@ -181,7 +218,7 @@ module _ (file : List ℕ) (nodes edges : ℕ) where
           now-columns = placeEdge o e (h .now-columns);
           few = omega arith;
           few-columns = omega (arith, h .few-columns);
-          long = place-length o e (h .now-columns) ∙ h .long;
+          kept = place-kept edges o e (h .now-columns) (h .kept);
           mapped = m;
           rest = λ a v.
               h .rest a v

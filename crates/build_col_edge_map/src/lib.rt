@@ -1,12 +1,12 @@
 // The columns of the edges: edges that a link with one edge in and one out joins share a column.
 ghost use mathlib.Core.Path.{_≡_};
-ghost use Prim.Native.Nat.{ℕ, _+_, _<_, _≤_};
+ghost use Prim.Native.Nat.{ℕ, suc, _+_, _<_, _≤_};
 ghost use mathlib.Core.List.{List};
 ghost use lib.ListN.{length, getD};
 ghost use Rattle.layout.specs.Layout.{nodeCeiling, edgeCeiling};
 ghost use Rattle.pywr.specs.Bytes.{byte, le16};
 ghost use Rattle.pywr.specs.Network.{source, target};
-ghost use Rattle.pywr.specs.ColEdgeMap.{Columns, columns, columnAt, addSimpleEdge, addEqualEdges};
+ghost use Rattle.pywr.specs.ColEdgeMap.{Columns, columns, columnAt, addSimpleEdge, united, uniteUnder, unite, addEqualEdges};
 ghost use Rattle.network_laws.specs.NetworkAt.{networkAt};
 ghost use Rattle.laws.specs.Linked.{Linked};
 ghost use Rattle.network_node.specs.Node.{nodeLength, kindOffset, nodePlace};
@@ -36,15 +36,70 @@ pub fn add_simple_edge(
     count
 }
 
-// The edge and the edge before it share a column. Where both have columns, nothing merges. Answers the count of columns.
+// What a number of the table becomes when the columns numbered `low` and `high` there unite; 0, no column, stays.
+fn united(low: u16, high: u16, column: u16) -> u16
+    ensures { λ r. ⌜ r ≡ united low high column ⌝ }
+{
+    if column == high {
+        return low;
+    }
+    if high < column {
+        return column - 1;
+    }
+    column
+}
+
+// The columns numbered `low` and `high` in the table unite under `low`, and later numbers close up. Answers the count of columns.
+fn unite_under(
+    edge_to_col: &mut [u16; EDGE_CEILING],
+    edges: usize,
+    count: usize,
+    low: u16,
+    high: u16,
+) -> usize
+    requires { ⌜ (edges ≤ edgeCeiling) × (1 ≤ count) ⌝ }
+    ensures { λ r. ⌜ (r ≤ count) × ((c : Columns) (a b : ℕ) → Mapped c (now («edge_to_col» .entry)) count → length (c .of) ≡ edges → low ≡ suc a → high ≡ suc b
+        → Mapped (uniteUnder a b c) (now («edge_to_col» .exit)) r) ⌝ }
+{
+    let mut e: usize = 0;
+    while e < edges {
+        edge_to_col[e] = united(low, high, edge_to_col[e]);
+        e += 1;
+    }
+    count - 1
+}
+
+// Two columns unite, unless they are one already. Answers the count of columns.
+fn unite(
+    edge_to_col: &mut [u16; EDGE_CEILING],
+    edges: usize,
+    count: usize,
+    column: u16,
+    other: u16,
+) -> usize
+    requires { ⌜ (edges ≤ edgeCeiling) × (1 ≤ count) ⌝ }
+    ensures { λ r. ⌜ (r ≤ count) × ((c : Columns) (a b : ℕ) → Mapped c (now («edge_to_col» .entry)) count → length (c .of) ≡ edges → column ≡ suc a → other ≡ suc b
+        → Mapped (unite a b c) (now («edge_to_col» .exit)) r) ⌝ }
+{
+    if column < other {
+        return unite_under(edge_to_col, edges, count, column, other);
+    }
+    if other < column {
+        return unite_under(edge_to_col, edges, count, other, column);
+    }
+    count
+}
+
+// The edge and the edge before it share a column; where both have one, the two unite. Answers the count of columns.
 pub fn add_equal_edges(
     edge_to_col: &mut [u16; EDGE_CEILING],
+    edges: usize,
     count: usize,
     edge: EdgeIndex,
     before: EdgeIndex,
 ) -> usize
-    requires { ⌜ (edge .0 < edgeCeiling) × (before .0 < edgeCeiling) × (count < edgeCeiling) ⌝ }
-    ensures { λ r. ⌜ (r ≤ count + 1) × ((c : Columns) → Mapped c (now («edge_to_col» .entry)) count → edge .0 < length (c .of) → before .0 < length (c .of)
+    requires { ⌜ (edge .0 < edges) × (before .0 < edges) × (edges ≤ edgeCeiling) × (count < edgeCeiling) × (getD (now «edge_to_col») (edge .0) 0 ≤ count) ⌝ }
+    ensures { λ r. ⌜ (r ≤ count + 1) × ((c : Columns) → Mapped c (now («edge_to_col» .entry)) count → length (c .of) ≡ edges
         → Mapped (addEqualEdges (columnAt c (edge .0)) (columnAt c (before .0)) (edge .0) (before .0) c) (now («edge_to_col» .exit)) r) ⌝ }
 {
     let e = widths::wide16(edge.0);
@@ -63,8 +118,9 @@ pub fn add_equal_edges(
     }
     if other == 0 {
         edge_to_col[b] = column;
+        return count;
     }
-    count
+    unite(edge_to_col, edges, count, column, other)
 }
 
 // The one edge of a node's list plus 1, or 0 where it has no edge or several.
@@ -135,7 +191,7 @@ pub fn map_edges(
             count = add_simple_edge(edge_to_col, count, edge);
             e += 1;
         } else {
-            count = add_equal_edges(edge_to_col, count, edge, EdgeIndex(before - 1));
+            count = add_equal_edges(edge_to_col, edges, count, edge, EdgeIndex(before - 1));
             e += 1;
         }
     }

@@ -1,4 +1,5 @@
 pub mod LinkedLaws
+pub mod Pigeonhole
 pub mod Runs
 pub mod Sets
 pub mod Tails

@@ -12,6 +12,7 @@ use lib.ListN.{length, getD, getElem?, replicate, length-set}
 use lib.Seq.{getD-set-same, getD-set-other}
 use Rattle.pywr.specs.Network.{Edge, Network}
 use Rattle.pywr.specs.ColEdgeMap.{Columns, columnAt, put, putNew, addSimpleEdge, addEqualEdges, sharesWith, placeEdge, placeEdges}
+use Rattle.pywr.proofs.UnionLaws.{Unites, swap-unites, unite-cases}
 
 -- edge e goes into column k, and nothing else changes
 pub record Grows (c d : Columns) (e k : ℕ) : Type 0 where
@@ -82,6 +83,37 @@ module _ {c d : Columns} {e k : ℕ} (p : ℕ) (g : Grows c d e k) (there : colu
       go (inl q) = let h = below p k there in let r = q .1 in omega arith
       go (inr y) = let h = below x j y in omega arith
 
+-- the columns of x and y unite, y the one edge beside x
+module _ {c d : Columns} {a b : ℕ} (u : Unites c d a b) (x y : ℕ) (ix : columnAt c x ≡ some a) (iy : columnAt c y ≡ some b) (apart : a ≢ b) where
+  -- in its own column only x lacked the edge there, and it has y now: what lacks one lies in the other column
+  meet : (Beside : ℕ → ℕ → Type 0) → Beside x y → ((z : ℕ) → Beside x z → z ≡ y) → OneLacks Beside c → OneLacks Beside d
+  meet Beside by only one p q j ip iq lp lq = go (u .was p j ip) (u .was q j iq)
+    where
+      old : (z k : ℕ) → u .to k ≡ j → Lacks Beside d j z → Lacks Beside c k z
+      old z k e l w h i = l w h (u .now w k i ∙ ap {B = Option ℕ} some e)
+
+      never : (z : ℕ) → columnAt c z ≡ some a → u .to a ≡ j → Lacks Beside d j z → ⊥
+      never z i e l =
+          let same : z ≡ x =
+          one z x a i ix (old z a e l)
+          (λ w h m. let r : w ≡ y = only w h in let m′ : columnAt c y ≡ some a = rw r at m in apart (let n = iy in cc)) in
+          l y (subst (λ (w : ℕ). Beside w y) (sym same) by) (u .now y b iy ∙ ap {B = Option ℕ} some (sym (u .one) ∙ e))
+
+      go : (k : ℕ) × (columnAt c p ≡ some k) × (u .to k ≡ j) → (l : ℕ) × (columnAt c q ≡ some l) × (u .to l ≡ j) → p ≡ q
+      go (k, i, e) (l, m, f) = which (u .only k l (e ∙ sym f))
+        where
+          which : (k ≡ l) ⊎ (((k ≡ a) × (l ≡ b)) ⊎ ((k ≡ b) × (l ≡ a))) → p ≡ q
+          which (inl r) = one p q k i (m ∙ ap {B = Option ℕ} some (sym r)) (old p k e lp) (old q k (ap (u .to) r ∙ f) lq)
+          which (inr (inl r)) = absurd (never p (i ∙ ap {B = Option ℕ} some (r .0)) (ap (u .to) (sym (r .0)) ∙ e) lp)
+          which (inr (inr r)) = absurd (never q (m ∙ ap {B = Option ℕ} some (r .1)) (ap (u .to) (sym (r .1)) ∙ f) lq)
+
+  pub under-united : ((z k : ℕ) → columnAt c z ≡ some k → k < c .count) → (z j : ℕ) → columnAt d z ≡ some j → j < d .count
+  under-united below z j i =
+      let r = u .was z j i in
+      let h = u .under (r .0) (below z (r .0) (r .1)) (below x a ix) (below y b iy) in
+      let q = r .2 in
+      omega arith
+
 module _ (prev : ℕ → Option ℕ) where
   -- the edge before an edge, and the edge after it
   abbrev pub Before : ℕ → ℕ → Type 0
@@ -112,6 +144,15 @@ module _ (prev : ℕ → Option ℕ) (once : (a b p : ℕ) → prev a ≡ some p
         below = under e g there n (ps .below);
         oneHead = far e g there (Before prev) before (λ x h. let q : some x ≡ some p = sym h ∙ before in cc) (ps .oneHead);
         oneTail = near e g there (After prev) before (ps .oneTail);
+      }
+
+  -- the columns of an edge and of the edge before it unite
+  pub join-both : {c d : Columns} {a b : ℕ} (e p : ℕ) → Unites c d a b → a ≢ b → prev e ≡ some p → columnAt c e ≡ some a → columnAt c p ≡ some b → Paths prev c → Paths prev d
+  join-both e p u apart before ie ip ps =
+      record {
+        below = under-united u e p ie ip apart (ps .below);
+        oneHead = meet u e p ie ip apart (Before prev) before (λ z h. let q : some z ≡ some p = sym h ∙ before in cc) (ps .oneHead);
+        oneTail = meet (swap-unites u) p e ip ie (λ q. apart (sym q)) (After prev) before (λ z h. once z e p h before) (ps .oneTail);
       }
 
   -- an edge takes a new column
@@ -157,12 +198,13 @@ pub new-length : (c : Columns) (e : ℕ) → length (putNew e c .of) ≡ length 
 unfolding putNew
 new-length c e = length-set (c .of) e (some (c .count))
 
--- ---- a property that the three ways of growing keep is kept by the fold
+-- ---- a property that the three ways of growing and the union keep is kept by the fold
 
 pub record Closed (prev : ℕ → Option ℕ) (Q : Columns → Type 0) : Type 0 where
   pub new : (c d : Columns) (e : ℕ) → Grows c d e (c .count) → d .count ≡ suc (c .count) → Q c → Q d
   pub next : (c d : Columns) (e k p : ℕ) → Grows c d e k → d .count ≡ c .count → prev e ≡ some p → columnAt c p ≡ some k → Q c → Q d
   pub back : (c d : Columns) (p k e : ℕ) → Grows c d p k → d .count ≡ c .count → prev e ≡ some p → columnAt c e ≡ some k → Q c → Q d
+  pub both : (c d : Columns) (e p a b : ℕ) → Unites c d a b → a ≢ b → prev e ≡ some p → columnAt c e ≡ some a → columnAt c p ≡ some b → Q c → Q d
 
 -- the table's length, and the property
 pub record Kept (Q : Columns → Type 0) (size : ℕ) (c : Columns) : Type 0 where
@@ -183,7 +225,9 @@ module _ (prev : ℕ → Option ℕ) (Q : Columns → Type 0) (closed : Closed p
   equal-kept : (e p : ℕ) (o r : Option ℕ) (c : Columns) → e < size → prev e ≡ some p → columnAt c e ≡ o → columnAt c p ≡ r → Kept Q size c
       → Kept Q size (addEqualEdges o r e p c)
   unfolding addEqualEdges put putNew
-  equal-kept e p (some k) (some j) c h b qe qp kept = kept
+  equal-kept e p (some k) (some j) c h b qe qp kept =
+      unite-cases (Kept Q size) k j c (λ q. kept)
+      (λ d f l n u. record { long = l ∙ kept .long; holds = closed .both c d e p k j u f b qe qp (kept .holds) })
   equal-kept e p none (some k) c h b qe qp kept =
       record { long = put-length c e k ∙ kept .long; holds = closed .next c (put e k c) e k p (put-grows c e k (let l = kept .long in omega arith) qe) refl b qp (kept .holds) }
   equal-kept e p (some k) none c h b qe qp kept =
@@ -228,7 +272,7 @@ empty-at (suc n) (suc e) = empty-at n e
 abbrev pub start : ℕ → Columns
 start n = record { of = replicate n none; count = 0 }
 
-none-there : {X : Type 0} (n e k : ℕ) → columnAt (start n) e ≡ some k → X
+pub none-there : {X : Type 0} (n e k : ℕ) → columnAt (start n) e ≡ some k → X
 unfolding columnAt
 none-there n e k h = let z = empty-at n e in let q : _≡_ {A = ℕ} 0 1 = cc in absurd (omega arith)
 
@@ -240,61 +284,97 @@ paths-closed prev once =
       new = λ c d e g n ps. join-new prev once g n ps;
       next = λ c d e k p g n b t ps. join-next prev once p g n b t ps;
       back = λ c d p k e g n b t ps. join-prev prev once e g n b t ps;
+      both = λ c d e p a b u f h ie ip ps. join-both prev once e p u f h ie ip ps;
     }
 
 pub paths-start : (prev : ℕ → Option ℕ) (n : ℕ) → Paths prev (start n)
 paths-start prev n =
     record { below = λ e k h. none-there n e k h; oneHead = λ a b k h i l m. none-there n a k h; oneTail = λ a b k h i l m. none-there n a k h }
 
--- ---- amounts: where an edge carries what the edge before it carries, a column carries one amount
+-- ---- what holds between an edge and the edge before it holds between any two edges of a column
 
-pub record Even (amount : ℕ → ℕ) (c : Columns) : Type 0 where
+pub record Equivalence (R : ℕ → ℕ → Type 0) : Type 0 where
+  pub itself : (a : ℕ) → R a a
+  pub back : (a b : ℕ) → R a b → R b a
+  pub on : (a b c : ℕ) → R a b → R b c → R a c
+
+pub record Related (R : ℕ → ℕ → Type 0) (c : Columns) : Type 0 where
   pub below : (e k : ℕ) → columnAt c e ≡ some k → k < c .count
-  pub same : (a b k : ℕ) → columnAt c a ≡ some k → columnAt c b ≡ some k → amount a ≡ amount b
+  pub same : (a b k : ℕ) → columnAt c a ≡ some k → columnAt c b ≡ some k → R a b
 
-module _ (prev : ℕ → Option ℕ) (amount : ℕ → ℕ) (passes : (e p : ℕ) → prev e ≡ some p → amount e ≡ amount p) where
-  -- e joins the column of an edge m that carries the same
-  even-join : (c d : Columns) (e k m : ℕ) → Grows c d e k → d .count ≡ c .count → columnAt c m ≡ some k → amount e ≡ amount m → Even amount c → Even amount d
-  even-join c d e k m g n there eq ev =
+module _ (prev : ℕ → Option ℕ) (R : ℕ → ℕ → Type 0) (r : Equivalence R) (passes : (e p : ℕ) → prev e ≡ some p → R e p) where
+  equal : (a b : ℕ) → a ≡ b → R a b
+  equal a b q = subst (R a) q (r .itself a)
+
+  -- e joins the column of an edge m that it is related to
+  related-join : (c d : Columns) (e k m : ℕ) → Grows c d e k → d .count ≡ c .count → columnAt c m ≡ some k → R e m → Related R c → Related R d
+  related-join c d e k m g n there with-m ev =
       record { below = λ x j h. go-below x j (grown g x j h); same = λ a b j h i. go a b j (grown g a j h) (grown g b j i) }
     where
       go-below : (x j : ℕ) → ((x ≡ e) × (j ≡ k)) ⊎ (columnAt c x ≡ some j) → j < d .count
-      go-below x j (inl q) = let h = ev .below m k there in let r = q .1 in omega arith
+      go-below x j (inl q) = let h = ev .below m k there in let w = q .1 in omega arith
       go-below x j (inr y) = let h = ev .below x j y in omega arith
 
-      old : (x j : ℕ) → j ≡ k → columnAt c x ≡ some j → amount x ≡ amount e
-      old x j q i = ev .same x m k (i ∙ ap {B = Option ℕ} some q) there ∙ sym eq
+      old : (x y j : ℕ) → y ≡ e → j ≡ k → columnAt c x ≡ some j → R x y
+      old x y j p q i = r .on x e y (r .on x m e (ev .same x m k (i ∙ ap {B = Option ℕ} some q) there) (r .back e m with-m)) (equal e y (sym p))
 
-      go : (a b j : ℕ) → ((a ≡ e) × (j ≡ k)) ⊎ (columnAt c a ≡ some j) → ((b ≡ e) × (j ≡ k)) ⊎ (columnAt c b ≡ some j) → amount a ≡ amount b
-      go a b j (inl x) (inl y) = ap amount (x .0 ∙ sym (y .0))
-      go a b j (inl x) (inr y) = ap amount (x .0) ∙ sym (old b j (x .1) y)
-      go a b j (inr x) (inl y) = old a j (y .1) x ∙ ap amount (sym (y .0))
+      go : (a b j : ℕ) → ((a ≡ e) × (j ≡ k)) ⊎ (columnAt c a ≡ some j) → ((b ≡ e) × (j ≡ k)) ⊎ (columnAt c b ≡ some j) → R a b
+      go a b j (inl x) (inl y) = equal a b (x .0 ∙ sym (y .0))
+      go a b j (inl x) (inr y) = r .back b a (old b a j (x .0) (x .1) y)
+      go a b j (inr x) (inl y) = old a b j (y .0) (y .1) x
       go a b j (inr x) (inr y) = ev .same a b j x y
 
-  even-new : (c d : Columns) (e : ℕ) → Grows c d e (c .count) → d .count ≡ suc (c .count) → Even amount c → Even amount d
-  even-new c d e g n ev =
+  -- the columns of e and p, which are related, unite
+  related-both : (c d : Columns) (e p a b : ℕ) → Unites c d a b → a ≢ b → columnAt c e ≡ some a → columnAt c p ≡ some b → R e p → Related R c → Related R d
+  related-both c d e p a b u apart ie ip with-p ev =
+      record { below = under-united u e p ie ip apart (ev .below); same = λ x y j h i. go x y (u .was x j h) (u .was y j i) }
+    where
+      across : (x y : ℕ) → columnAt c x ≡ some a → columnAt c y ≡ some b → R x y
+      across x y h i = r .on x e y (ev .same x e a h ie) (r .on e p y with-p (ev .same p y b ip i))
+
+      go : {j : ℕ} (x y : ℕ) → (k : ℕ) × (columnAt c x ≡ some k) × (u .to k ≡ j) → (l : ℕ) × (columnAt c y ≡ some l) × (u .to l ≡ j) → R x y
+      go x y (k, h, m) (l, i, n) = which (u .only k l (m ∙ sym n))
+        where
+          which : (k ≡ l) ⊎ (((k ≡ a) × (l ≡ b)) ⊎ ((k ≡ b) × (l ≡ a))) → R x y
+          which (inl q) = ev .same x y k h (i ∙ ap {B = Option ℕ} some (sym q))
+          which (inr (inl q)) = across x y (h ∙ ap {B = Option ℕ} some (q .0)) (i ∙ ap {B = Option ℕ} some (q .1))
+          which (inr (inr q)) = r .back y x (across y x (i ∙ ap {B = Option ℕ} some (q .1)) (h ∙ ap {B = Option ℕ} some (q .0)))
+
+  related-new : (c d : Columns) (e : ℕ) → Grows c d e (c .count) → d .count ≡ suc (c .count) → Related R c → Related R d
+  related-new c d e g n ev =
       record { below = λ x j h. go-below x j (grown g x j h); same = λ a b j h i. go a b j (grown g a j h) (grown g b j i) }
     where
       go-below : (x j : ℕ) → ((x ≡ e) × (j ≡ c .count)) ⊎ (columnAt c x ≡ some j) → j < d .count
-      go-below x j (inl q) = let r = q .1 in omega arith
+      go-below x j (inl q) = let w = q .1 in omega arith
       go-below x j (inr y) = let h = ev .below x j y in omega arith
 
       clash-new : {X : Type 0} (x j : ℕ) → j ≡ c .count → columnAt c x ≡ some j → X
       clash-new x j q i = let h = ev .below x j i in absurd (omega arith)
 
-      go : (a b j : ℕ) → ((a ≡ e) × (j ≡ c .count)) ⊎ (columnAt c a ≡ some j) → ((b ≡ e) × (j ≡ c .count)) ⊎ (columnAt c b ≡ some j) → amount a ≡ amount b
-      go a b j (inl x) (inl y) = ap amount (x .0 ∙ sym (y .0))
+      go : (a b j : ℕ) → ((a ≡ e) × (j ≡ c .count)) ⊎ (columnAt c a ≡ some j) → ((b ≡ e) × (j ≡ c .count)) ⊎ (columnAt c b ≡ some j) → R a b
+      go a b j (inl x) (inl y) = equal a b (x .0 ∙ sym (y .0))
       go a b j (inl x) (inr y) = clash-new b j (x .1) y
       go a b j (inr x) (inl y) = clash-new a j (y .1) x
       go a b j (inr x) (inr y) = ev .same a b j x y
 
-  pub even-closed : Closed prev (Even amount)
-  even-closed =
+  pub related-closed : Closed prev (Related R)
+  related-closed =
       record {
-        new = even-new;
-        next = λ c d e k p g n b t ev. even-join c d e k p g n t (passes e p b) ev;
-        back = λ c d p k e g n b t ev. even-join c d p k e g n t (sym (passes e p b)) ev;
+        new = related-new;
+        next = λ c d e k p g n b t ev. related-join c d e k p g n t (passes e p b) ev;
+        back = λ c d p k e g n b t ev. related-join c d p k e g n t (r .back e p (passes e p b)) ev;
+        both = λ c d e p a b u f h ie ip ev. related-both c d e p a b u f ie ip (passes e p h) ev;
       }
 
-  pub even-start : (n : ℕ) → Even amount (start n)
-  even-start n = record { below = λ e k h. none-there n e k h; same = λ a b k h i. none-there n a k h }
+  pub related-start : (n : ℕ) → Related R (start n)
+  related-start n = record { below = λ e k h. none-there n e k h; same = λ a b k h i. none-there n a k h }
+
+-- where an edge carries what the edge before it carries, a column carries one amount
+abbrev pub SameAmount : (ℕ → ℕ) → ℕ → ℕ → Type 0
+SameAmount amount a b = amount a ≡ amount b
+
+abbrev pub Even : (ℕ → ℕ) → Columns → Type 0
+Even amount = Related (SameAmount amount)
+
+pub same-amount : (amount : ℕ → ℕ) → Equivalence (SameAmount amount)
+same-amount amount = record { itself = λ a. refl; back = λ a b q. sym q; on = λ a b c q p. q ∙ p }

@@ -26,6 +26,7 @@ use Rattle.pywr.specs.VaryingRows.{RowRequest, exclusiveRequests, reques
 use Rattle.pywr.specs.Build.{edgeColumn, setColumn, allColumns, nodeShape, placedNodeRows, placedVirtualStorages, requestedRow, assemble, programmeOf, elementCount, underCeilings}
 use Rattle.pywr.specs.Step.{rowOf}
 use Rattle.pywr.specs.Written.{integerColumns, rowsOf}
+use Rattle.pywr.proofs.UnionLaws.{unite-cases}
 use Rattle.pywr.proofs.ColumnLaws.{put-length, new-length}
 use Rattle.pywr.proofs.WeightLaws.{pipes-length}
 use Rattle.pywr.proofs.JoinLaws.{AllFit, add-fit, add-on-fit, RowsFit, Placed, JoinKept, joins-kept, placed-stays, placed-length}
@@ -46,7 +47,8 @@ simple-count none e c = (new-length c e, le-refl (suc (c .count)))
 
 equal-count : (o r : Option ℕ) (e p : ℕ) (c : Columns) → (length (addEqualEdges o r e p c .of) ≡ length (c .of)) × (addEqualEdges o r e p c .count ≤ suc (c .count))
 unfolding addEqualEdges putNew put
-equal-count (some k) (some j) e p c = (refl, omega arith)
+equal-count (some k) (some j) e p c =
+    unite-cases (λ (d : Columns). (length (d .of) ≡ length (c .of)) × (d .count ≤ suc (c .count))) k j c (λ q. (refl, omega arith)) (λ d f l n u. (l, omega arith))
 equal-count none (some k) e p c = (put-length c e k, omega arith)
 equal-count (some k) none e p c = (put-length c p k, omega arith)
 equal-count none none e p c = (put-length (putNew e c) p (c .count) ∙ new-length c e, le-refl (suc (c .count)))

@@ -10,9 +10,10 @@ use mathlib.Core.Option.{Option, none, some}
 use lib.ListN.{length, getElem?, length-replicate}
 use lib.Dec.{T, eqb, eqb→eq, eqb-refl}
 use borrow.Author.Tests.{ne-eqb}
+use Rattle.laws.proofs.Tests.{cond-yes}
 use Rattle.pywr.specs.Network.{link, Edge, Network, kindOf, keepIf, source, target, edgesWith, incoming, outgoing}
 use Rattle.pywr.specs.ColEdgeMap.{columns, Columns, columnAt, single, sharesWith}
-use Rattle.pywr.proofs.ColumnLaws.{Inside, Closed, Kept, places-kept, start, Paths, paths-closed, paths-start, Even, even-closed, even-start}
+use Rattle.pywr.proofs.ColumnLaws.{Inside, Closed, Kept, places-kept, start, Paths, paths-closed, paths-start, Equivalence, Related, related-closed, related-start, Even, same-amount}
 
 -- the edge that edge e shares its column with
 pub shareAt : Network → Option Edge → Option ℕ
@@ -24,7 +25,7 @@ prevOf net e = shareAt net (getElem? (net .edges) e)
 
 -- ---- lists of edge numbers
 
-below-length : (es : List Edge) (j : ℕ) (x : Edge) → getElem? es j ≡ some x → j < length es
+pub below-length : (es : List Edge) (j : ℕ) (x : Edge) → getElem? es j ≡ some x → j < length es
 below-length [] j x h = let z : _≡_ {A = ℕ} 0 1 = cc in absurd (omega arith)
 below-length (e ∷ es) zero x h = suc-le-suc zero-le
 below-length (e ∷ es) (suc j) x h = suc-le-suc (below-length es j x h)
@@ -182,10 +183,14 @@ pub columns-paths : (net : Network) → NoSelf net → Paths (prevOf net) (colum
 columns-paths net noself =
     columns-kept net noself (Paths (prevOf net)) (paths-closed (prevOf net) (prev-once net)) (paths-start (prevOf net) (length (net .edges))) .holds
 
+-- what holds between an edge and the edge that it shares with holds between any two edges of a column
+pub columns-related : (net : Network) → NoSelf net → (R : ℕ → ℕ → Type 0) → Equivalence R → ((e p : ℕ) → prevOf net e ≡ some p → R e p) → Related R (columns net)
+columns-related net noself R r passes =
+    columns-kept net noself (Related R) (related-closed (prevOf net) R r passes) (related-start (prevOf net) R r passes (length (net .edges))) .holds
+
 -- edges of a column carry one amount, where each edge carries what the edge that it shares with carries
 pub columns-even : (net : Network) → NoSelf net → (amount : ℕ → ℕ) → ((e p : ℕ) → prevOf net e ≡ some p → amount e ≡ amount p) → Even amount (columns net)
-columns-even net noself amount passes =
-    columns-kept net noself (Even amount) (even-closed (prevOf net) amount passes) (even-start (prevOf net) amount passes (length (net .edges))) .holds
+columns-even net noself amount passes = columns-related net noself _ (same-amount amount) passes
 
 -- ---- edge numbers rise
 
@@ -210,6 +215,15 @@ rising end n i a b rest (e ∷ es) h = go (λ q. rising end n (suc i) a b rest e
 single-back : (into out : List ℕ) (p : ℕ) → Single into out p → single into out ≡ some p
 unfolding single
 single-back into out p s = rw (s .into-is, s .out-is)
+
+-- an edge out of a link with one edge in and one out shares with the edge in
+pub shares-back : (net : Network) (n e p : ℕ) (x : Edge) → getElem? (net .edges) e ≡ some x → x .from ≡ n → T (eqb (kindOf (net .nodes) n) link) → Single (incoming net n) (outgoing net n) p → prevOf net e ≡ some p
+unfolding prevOf shareAt sharesWith
+shares-back net n e p x found from isLink s =
+    ap (shareAt net) found
+    ∙ ap (λ (k : ℕ). cond (eqb (kindOf (net .nodes) k) link) (single (incoming net k) (outgoing net k)) none) from
+    ∙ cond-yes (eqb (kindOf (net .nodes) n) link) _ _ isLink
+    ∙ single-back (incoming net n) (outgoing net n) p s
 
 found-ends : (end : Edge → ℕ) (n p : ℕ) (es : List Edge) (x : Edge) → List·Memᴰ p (edgesWith end n 0 es) → getElem? es p ≡ some x → end x ≡ n
 found-ends end n p es x m h =

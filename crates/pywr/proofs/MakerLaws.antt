@@ -64,7 +64,7 @@ pub made-length : (kind index : ℕ) (rows : List Row) → length (madeBy kind i
 unfolding madeBy
 made-length kind index rows = length-map rows (λ (row : Row). record { kind = kind; index = index; sharedBy = 1 })
 
-in-turn-length : {A : Type 0} (kind : ℕ) (rowsFrom : ℕ → List A → List Row) → InTurn rowsFrom → (n : ℕ) (xs : List A)
+pub in-turn-length : {A : Type 0} (kind : ℕ) (rowsFrom : ℕ → List A → List Row) → InTurn rowsFrom → (n : ℕ) (xs : List A)
     → length (madeInTurn kind (λ (m : ℕ) (x : A). rowsFrom m (x ∷ [])) n xs) ≡ length (rowsFrom n xs)
 unfolding madeInTurn
 in-turn-length kind rowsFrom turn n [] = sym (ap length (turn .none n))

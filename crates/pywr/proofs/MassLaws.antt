@@ -1,32 +1,33 @@
--- Mass rows: kept or dropped, they are met exactly if the links balance. Assumes nothing.
+-- Mass rows: which are dropped, and that kept or dropped they are met exactly if the links balance. Assumes nothing.
 use mathlib.Core.Path.{_≡_, refl, sym, ap, _∙_, subst}
 use mathlib.Core.Logic.{_⊎_, inl, inr, _↔_}
 use Prim.Native.Nat.{ℕ, zero, suc, _+_, _*_, _^_, _<_, zero-le, suc-le-suc}
 use native.Mathlib.Nat.{add-zero, add-suc, suc-add, zero-add, eq-of-mul-eq-mul-right, zero-mul, mul-pos}
 use native.Mathlib.Omega.{arith}
 use mathlib.Core.Bool.{Bool, true, false, cond, not, _&&_}
-use mathlib.Core.List.{List, [], _∷_, _++_, List·Memᴰ, List·Memᴰ·head, List·Memᴰ·tail, List·Memᴰ·not-nil, List·Memᴰ·cases-cons}
+use mathlib.Core.List.{List, [], _∷_, _++_, List·Memᴰ, List·Memᴰ·head, List·Memᴰ·tail, List·Memᴰ·not-nil, List·Memᴰ·cases-cons, List·Memᴰ·eq-of-singleton}
 use mathlib.Core.Option.{Option, some, Option·getD}
 use lib.ListN.{length, getElem?}
 use lib.IntN.{ℤ, pos, negsuc, negℤ, _+ℤ_, _-ℤ_, +ℤ-invr, natAbs, -ℤ-+ℤ-cancel}
 use lib.Signed.{leZ}
 use lib.Dec.{T, eqb, leb, eqb→eq, eqb-refl, leb→le}
-use lib.Ieee.{Float, neg, le, lt, eq, ofBits}
+use lib.Ieee.{Float, binary64, add, neg, le, lt, eq, ofBits}
 use lib.Ieee.Fits.{and-i, and-l, and-r}
 use Rattle.pywr.specs.declared.Sentinel.{Sentinel}
 use Rattle.pywr.specs.declared.Sentinel.the-variants.{Infinity, Largest}
 use Rattle.pywr.specs.Numbers.{zero64, one64, high, low}
-use Rattle.pywr.specs.Network.{link, Node, Edge, Network, keepIf, source, target, incoming, outgoing}
+use Rattle.pywr.specs.Network.{link, Node, Edge, Network, kindOf, keepIf, source, target, edgesWith, incoming, outgoing}
 use Rattle.pywr.specs.ColEdgeMap.{columns, columnAt, MappedEdge, withColumns, mappedEdges}
-use Rattle.pywr.specs.Rows.{Element, addElement, addOn, ColumnMap, columnMap, columnsWith, columnsInto, columnsOutOf, massRow}
+use Rattle.pywr.specs.Rows.{Element, element, addElement, addOn, ColumnMap, columnMap, columnsWith, columnsInto, columnsOutOf, massRow}
 use Rattle.pywr.specs.Programme.{Row}
 use Rattle.pywr.specs.FixedRows.{massRowsFrom}
 use Rattle.pywr.specs.Plans.{exact, meets, Plan, unitsInOne, signed, isFinite, timesOne, lowerMet, upperMet, allFrom}
 use Rattle.pywr.specs.Allows.{inflow, outflow}
 use Rattle.pywr.specs.Admits.{onColumn, rowSum, rowMet}
-use Rattle.pywr.proofs.ElementLaws.{add-none, add-cases}
+use Rattle.pywr.proofs.ElementLaws.{add-none, add-at, add-cases}
 use Rattle.pywr.proofs.ExactLaws.{units-pos}
-use Rattle.pywr.proofs.LinkLaws.{NoSelf, ends-sound, one-column-single}
+use Rattle.pywr.proofs.LinkLaws.{NoSelf, Single, ends-sound, one-column-single}
+use Rattle.pywr.proofs.TurnLaws.{across-joined}
 use Rattle.pywr.proofs.AmountLaws.{Carries, mass-sum}
 use Rattle.pywr.proofs.EvenLaws.{amounts, flow-amounts, mapped-edge-of}
 
@@ -96,65 +97,118 @@ pipe-for (y ∷ ys) (c ∷ cs) (suc e) x l h =
     let r = pipe-for ys cs e x (let z : suc (length ys) ≡ suc (length cs) = l in omega arith) h in
     record { pipe = r .pipe; found = r .found; from-is = r .from-is; to-is = r .to-is }
 
--- ---- a dropped row's link balances
+-- ---- a link's row is dropped exactly if the link has one edge in and one out
 
-module _ (net : Network) (noself : NoSelf net) (plan : Plan) (long : length (net .edges) ≡ length (columns net .of)) (carries : Carries net plan) (n : ℕ) where
+-- as many columns as edges
+columns-count : (pe : MappedEdge → ℕ) (ee : Edge → ℕ) → ((x : Edge) (k : ℕ) → pe (record { from = x .from; to = x .to; column = k }) ≡ ee x) → (n i : ℕ) (es : List Edge) (cs : List (Option ℕ))
+    → length es ≡ length cs → length (columnsWith pe n (withColumns es cs)) ≡ length (edgesWith ee n i es)
+unfolding withColumns columnsWith edgesWith keepIf
+columns-count pe ee same n i [] cs l = refl
+columns-count pe ee same n i (x ∷ xs) [] l = let z : suc (length xs) ≡ 0 = l in absurd (omega arith)
+columns-count pe ee same n i (x ∷ xs) (c ∷ cs) l =
+    ap (λ (m : ℕ). length (keepIf (eqb m n) (Option·getD c 0) (columnsWith pe n (withColumns xs cs)))) (same x (Option·getD c 0))
+    ∙ go (eqb (ee x) n) (columns-count pe ee same n (suc i) xs cs (let z : suc (length xs) ≡ suc (length cs) = l in omega arith))
+  where
+    go : (b : Bool) → length (columnsWith pe n (withColumns xs cs)) ≡ length (edgesWith ee n (suc i) xs)
+        → length (keepIf b (Option·getD c 0) (columnsWith pe n (withColumns xs cs))) ≡ length (keepIf b i (edgesWith ee n (suc i) xs))
+    go true e = ap suc e
+    go false e = e
+
+-- the only member of a list of one
+alone-in : (k : ℕ) (ks : List ℕ) → length ks ≡ 1 → List·Memᴰ k ks → ks ≡ k ∷ []
+alone-in k [] l m = absurd (List·Memᴰ·not-nil m)
+alone-in k (x ∷ []) l m = ap (λ (y : ℕ). y ∷ []) (sym (List·Memᴰ·eq-of-singleton m))
+alone-in k (x ∷ y ∷ ks) l m = let z : suc (suc (length ks)) ≡ 1 = l in absurd (omega arith)
+
+one-element : (k : ℕ) (into out : List ℕ) → into ≡ k ∷ [] → out ≡ k ∷ [] → length (addOn out (neg one64) (addOn into one64 [])) ≡ 1
+unfolding addOn
+one-element k into out p q = rw (p, q, add-none k one64, add-at k (neg one64) (element k (add binary64 zero64 one64)) [] refl)
+
+module _ (net : Network) (noself : NoSelf net) (long : length (net .edges) ≡ length (columns net .of)) (n : ℕ) where
   abbrev f : ColumnMap
   f = columnMap net
 
-  record InMass (e : ℕ) : Type 0 where
+  -- edge e's column is one of the columns cs, and of the row
+  record InMass (cs : List ℕ) (e : ℕ) : Type 0 where
     pipe : MappedEdge
     found : getElem? (mappedEdges net) e ≡ some pipe
+    member : List·Memᴰ (pipe .column) cs
     has : HasColumn (pipe .column) (massRow f n)
 
-  in-mass : (e : ℕ) → List·Memᴰ e (incoming net n) → InMass e
+  in-mass : (e : ℕ) → List·Memᴰ e (incoming net n) → InMass (columnsInto n (mappedEdges net)) e
   unfolding incoming massRow columnMap mappedEdges columnsInto
   in-mass e m =
       let r = ends-sound target n 0 e (net .edges) m in
       let x : getElem? (net .edges) e ≡ some (r .edge) = ap (getElem? (net .edges)) (r .where-at ∙ zero-add (r .at)) ∙ r .found in
       let p = pipe-for (net .edges) (columns net .of) e (r .edge) long x in
+      let c = column-member (λ q. q .to) n (mappedEdges net) e (p .pipe) (p .found) (p .to-is ∙ r .ends) in
       record {
         pipe = p .pipe;
         found = p .found;
-        has =
-            still-on (p .pipe .column) (columnsOutOf n (mappedEdges net)) (neg one64) _
-            (added-on (p .pipe .column) (columnsInto n (mappedEdges net)) one64 [] (column-member (λ q. q .to) n (mappedEdges net) e (p .pipe) (p .found) (p .to-is ∙ r .ends)));
+        member = c;
+        has = still-on (p .pipe .column) (columnsOutOf n (mappedEdges net)) (neg one64) _ (added-on (p .pipe .column) (columnsInto n (mappedEdges net)) one64 [] c);
       }
 
-  out-mass : (e : ℕ) → List·Memᴰ e (outgoing net n) → InMass e
+  out-mass : (e : ℕ) → List·Memᴰ e (outgoing net n) → InMass (columnsOutOf n (mappedEdges net)) e
   unfolding outgoing massRow columnMap mappedEdges columnsOutOf
   out-mass e m =
       let r = ends-sound source n 0 e (net .edges) m in
       let x : getElem? (net .edges) e ≡ some (r .edge) = ap (getElem? (net .edges)) (r .where-at ∙ zero-add (r .at)) ∙ r .found in
       let p = pipe-for (net .edges) (columns net .of) e (r .edge) long x in
-      record {
-        pipe = p .pipe;
-        found = p .found;
-        has = added-on (p .pipe .column) (columnsOutOf n (mappedEdges net)) (neg one64) _ (column-member (λ q. q .from) n (mappedEdges net) e (p .pipe) (p .found) (p .from-is ∙ r .ends));
-      }
+      let c = column-member (λ q. q .from) n (mappedEdges net) e (p .pipe) (p .found) (p .from-is ∙ r .ends) in
+      record { pipe = p .pipe; found = p .found; member = c; has = added-on (p .pipe .column) (columnsOutOf n (mappedEdges net)) (neg one64) _ c }
 
-  -- one edge in and one out, on the row's only column
-  single-balanced : (p q : ℕ) → incoming net n ≡ p ∷ [] → outgoing net n ≡ q ∷ [] → length (massRow f n) ≡ 1 → inflow net plan n ≡ outflow net plan n
-  unfolding inflow outflow amounts incoming outgoing
-  single-balanced p q hp hq one =
-      let ip = in-mass p (subst (λ (l : List ℕ). List·Memᴰ p l) (sym hp) (List·Memᴰ·head refl)) in
-      let iq = out-mass q (subst (λ (l : List ℕ). List·Memᴰ q l) (sym hq) (List·Memᴰ·head refl)) in
-      let same : plan .amount p ≡ plan .amount q =
-      sym (carries p (ip .pipe) (ip .found)) ∙ ap (onColumn f plan) (alone (massRow f n) (ip .pipe .column) (iq .pipe .column) one (ip .has) (iq .has)) ∙ carries q (iq .pipe) (iq .found) in
-      flow-amounts target plan n 0 (net .edges)
-      ∙ ap (amounts plan) hp
-      ∙ ap (λ (m : ℕ). m + 0) same
-      ∙ sym (flow-amounts source plan n 0 (net .edges) ∙ ap (amounts plan) hq)
-
-  pub dropped-balanced : (a b : ℕ) (mi mo : List ℕ) → incoming net n ≡ a ∷ mi → outgoing net n ≡ b ∷ mo → length (massRow f n) ≡ 1 → inflow net plan n ≡ outflow net plan n
-  dropped-balanced a b mi mo hi ho one =
+  -- a link has an edge in and an edge out (refusal 8)
+  pub dropped-single : (a b : ℕ) (mi mo : List ℕ) → incoming net n ≡ a ∷ mi → outgoing net n ≡ b ∷ mo → length (massRow f n) ≡ 1 → (p : ℕ) × Single (incoming net n) (outgoing net n) p
+  dropped-single a b mi mo hi ho one =
       let ia = in-mass a (subst (λ (l : List ℕ). List·Memᴰ a l) (sym hi) (List·Memᴰ·head refl)) in
       let k : ℕ = ia .pipe .column in
       let ins : (e : ℕ) → List·Memᴰ e (incoming net n) → columnAt (columns net) e ≡ some k =
       (λ e m. let i = in-mass e m in mapped-edge-of net noself e (i .pipe) (i .found) .column ∙ ap {B = Option ℕ} some (alone (massRow f n) (i .pipe .column) k one (i .has) (ia .has))) in
       let outs : (e : ℕ) → List·Memᴰ e (outgoing net n) → columnAt (columns net) e ≡ some k =
       (λ e m. let i = out-mass e m in mapped-edge-of net noself e (i .pipe) (i .found) .column ∙ ap {B = Option ℕ} some (alone (massRow f n) (i .pipe .column) k one (i .has) (ia .has))) in
-      let s = one-column-single net noself n k ins outs a b mi mo hi ho in
+      one-column-single net noself n k ins outs a b mi mo hi ho
+
+  -- and the other way: the two edges lie in one column, whatever the order of the file
+  pub single-dropped : T (eqb (kindOf (net .nodes) n) link) → (p : ℕ) → Single (incoming net n) (outgoing net n) p → length (massRow f n) ≡ 1
+  unfolding massRow columnMap columnsInto columnsOutOf incoming outgoing mappedEdges
+  single-dropped isLink p s =
+      let e : ℕ = s .exit in
+      let mp : List·Memᴰ p (incoming net n) = subst (λ (l : List ℕ). List·Memᴰ p l) (sym (s .into-is)) (List·Memᴰ·head refl) in
+      let me : List·Memᴰ e (outgoing net n) = subst (λ (l : List ℕ). List·Memᴰ e l) (sym (s .out-is)) (List·Memᴰ·head refl) in
+      let ip = in-mass p mp in
+      let ie = out-mass e me in
+      let t = across-joined net noself n p s isLink in
+      let cp = mapped-edge-of net noself p (ip .pipe) (ip .found) .column in
+      let ce = mapped-edge-of net noself e (ie .pipe) (ie .found) .column in
+      let first = t .first in
+      let second = t .second in
+      let same : ie .pipe .column ≡ ip .pipe .column = cc in
+      one-element (ip .pipe .column) _ _
+      (alone-in (ip .pipe .column) _ (columns-count (λ q. q .to) target (λ x k. refl) n 0 (net .edges) (columns net .of) long ∙ ap length (s .into-is)) (ip .member))
+      (alone-in (ip .pipe .column) _ (columns-count (λ q. q .from) source (λ x k. refl) n 0 (net .edges) (columns net .of) long ∙ ap length (s .out-is)) (subst (λ (k : ℕ). List·Memᴰ k (columnsOutOf n (mappedEdges net))) same (ie .member)))
+
+-- ---- a dropped row's link balances
+
+module _ (net : Network) (noself : NoSelf net) (plan : Plan) (long : length (net .edges) ≡ length (columns net .of)) (carries : Carries net plan) (n : ℕ) where
+  -- one edge in and one out, on the row's only column
+  single-balanced : (p q : ℕ) → incoming net n ≡ p ∷ [] → outgoing net n ≡ q ∷ [] → length (massRow (columnMap net) n) ≡ 1 → inflow net plan n ≡ outflow net plan n
+  unfolding inflow outflow amounts incoming outgoing
+  single-balanced p q hp hq one =
+      let ip = in-mass net noself long n p (subst (λ (l : List ℕ). List·Memᴰ p l) (sym hp) (List·Memᴰ·head refl)) in
+      let iq = out-mass net noself long n q (subst (λ (l : List ℕ). List·Memᴰ q l) (sym hq) (List·Memᴰ·head refl)) in
+      let same : plan .amount p ≡ plan .amount q =
+      sym (carries p (ip .pipe) (ip .found))
+      ∙ ap (onColumn (columnMap net) plan) (alone (massRow (columnMap net) n) (ip .pipe .column) (iq .pipe .column) one (ip .has) (iq .has))
+      ∙ carries q (iq .pipe) (iq .found) in
+      flow-amounts target plan n 0 (net .edges)
+      ∙ ap (amounts plan) hp
+      ∙ ap (λ (m : ℕ). m + 0) same
+      ∙ sym (flow-amounts source plan n 0 (net .edges) ∙ ap (amounts plan) hq)
+
+  pub dropped-balanced : (a b : ℕ) (mi mo : List ℕ) → incoming net n ≡ a ∷ mi → outgoing net n ≡ b ∷ mo → length (massRow (columnMap net) n) ≡ 1 → inflow net plan n ≡ outflow net plan n
+  dropped-balanced a b mi mo hi ho one =
+      let s = dropped-single net noself long n a b mi mo hi ho one in
       single-balanced (s .0) (s .1 .exit) (s .1 .into-is) (s .1 .out-is) one
 
 -- ---- bounds 0 and 0

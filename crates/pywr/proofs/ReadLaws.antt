@@ -1,7 +1,7 @@
--- A network that was read is sound: no edge into an input, out of an output or to itself, links with edges in and out, members under the node count, counts within the maxima, and
--- doubles that are bounds. Assumes nothing.
+-- A network that was read is sound: no edge into an input, out of an output, to itself or twice, links with edges in and out, members under the node count,
+-- counts within the maxima, and doubles that are bounds. Assumes nothing.
 use mathlib.Core.Path.{_≡_, refl, sym, ap, _∙_, subst}
-use mathlib.Core.Logic.{_≢_}
+use mathlib.Core.Logic.{_⊎_, inl, inr, _≢_}
 use Prim.Native.Nat.{ℕ, zero, suc, _+_, _<_, _≤_, zero-le}
 use native.Mathlib.Nat.{add-suc, suc-add, add-zero, zero-add}
 use native.Mathlib.Omega.{arith}
@@ -11,13 +11,13 @@ use mathlib.Core.Option.{Option, none, some}
 use lib.ListN.{length, getElem?, length-append, List·getD-append}
 use lib.Dec.{T, T-not, leb, ltb, eqb, leb→le, ltb→lt}
 use lib.Ieee.{inf, lt, eq}
-use lib.Ieee.Fits.{and-r, eq→eqb}
+use lib.Ieee.Fits.{and-i, and-r, eq→eqb}
 use Rattle.laws.proofs.Tests.{or-l, or-r, cond-yes}
 use Rattle.pywr.specs.Result.{value, Result, _>>=_, need, firstRefused, refusedIf}
 use Rattle.pywr.specs.Bytes.{checked}
 use Rattle.pywr.specs.Numbers.{isFlow, isSmall, ofPattern}
 use Rattle.pywr.specs.Network.{input, output, link, Node, Edge, Aggregate, Part, VirtualStorage, Network, noNode, kindOf, isExclusive, incoming, outgoing}
-use Rattle.pywr.specs.NetworkFile.{between, Read, ND, constantFits, readNode, ED, wrongWay, readEdge, readMembers, readSets, AG}
+use Rattle.pywr.specs.NetworkFile.{between, Read, ND, constantFits, readNode, ED, joins, wrongWay, readEdge, readMembers, readSets, AG}
 use Rattle.pywr.specs.NetworkFile.{readAggregate, readParts, VS, readVirtualStorage, Mark, hasRoom, withNode, withEdge, withAggregate, withVirtualStorage, readBody, Reading}
 use Rattle.pywr.specs.NetworkFile.{readRecord, readRecords, emptyNetwork, isEmpty, unconnectedLink, badConstant, checkNetwork, parseNetwork}
 use Rattle.pywr.proofs.BoundLaws.{IsBound}
@@ -73,7 +73,44 @@ pub record EdgeOk (nodes : List Node) (x : Edge) : Type 0 where
   pub outOfNoOutput : kindOf nodes (x .from) ≢ output
   pub apart : x .from ≢ x .to
 
-read-edge : (net : Network) (file : List ℕ) (at : ℕ) (r : Read Edge) → readEdge net file at ≡ value r → EdgeOk (net .nodes) (r .item)
+-- no edge stands twice
+abbrev pub Unrepeated : List Edge → Type 0
+Unrepeated es = (i j : ℕ) (x : Edge) → getElem? es i ≡ some x → getElem? es j ≡ some x → i ≡ j
+
+joins-found : (es : List Edge) (i : ℕ) (x : Edge) → getElem? es i ≡ some x → T (joins es (x .from) (x .to))
+unfolding joins
+joins-found [] i x h = not-found x h
+joins-found (y ∷ ys) zero x h =
+    let q = same-some y x h in
+    or-l (eqb (y .from) (x .from) && eqb (y .to) (x .to)) (joins ys (x .from) (x .to))
+    (and-i (eqb (y .from) (x .from)) (eqb (y .to) (x .to)) (eq→eqb (ap (λ (z : Edge). z .from) q)) (eq→eqb (ap (λ (z : Edge). z .to) q)))
+joins-found (y ∷ ys) (suc i) x h = or-r (eqb (y .from) (x .from) && eqb (y .to) (x .to)) (joins ys (x .from) (x .to)) (joins-found ys i x h)
+
+-- an element of a list with one more behind it is the one, or an element of the list
+snoc-found : {A : Type 0} (xs : List A) (y x : A) (i : ℕ) → getElem? (xs ++ (y ∷ [])) i ≡ some x → ((i ≡ length xs) × (y ≡ x)) ⊎ (getElem? xs i ≡ some x)
+snoc-found [] y x zero h = inl (refl, same-some y x h)
+snoc-found [] y x (suc i) h = not-found x h
+snoc-found (z ∷ zs) y x zero h = inr h
+snoc-found (z ∷ zs) y x (suc i) h = more (snoc-found zs y x i h)
+  where
+    more : ((i ≡ length zs) × (y ≡ x)) ⊎ (getElem? zs i ≡ some x) → ((suc i ≡ suc (length zs)) × (y ≡ x)) ⊎ (getElem? zs i ≡ some x)
+    more (inl q) = inl (ap suc (q .0), q .1)
+    more (inr q) = inr q
+
+unrepeated-snoc : (es : List Edge) (y : Edge) → T (not (joins es (y .from) (y .to))) → Unrepeated es → Unrepeated (es ++ (y ∷ []))
+unrepeated-snoc es y fresh u i j x h k = go (snoc-found es y x i h) (snoc-found es y x j k)
+  where
+    never : (l : ℕ) → y ≡ x → getElem? es l ≡ some x → i ≡ j
+    never l q f = absurd (T-not (joins es (y .from) (y .to)) fresh (joins-found es l y (f ∙ ap {B = Option Edge} some (sym q))))
+
+    go : ((i ≡ length es) × (y ≡ x)) ⊎ (getElem? es i ≡ some x) → ((j ≡ length es) × (y ≡ x)) ⊎ (getElem? es j ≡ some x) → i ≡ j
+    go (inl p) (inl q) = p .0 ∙ sym (q .0)
+    go (inl p) (inr f) = never j (p .1) f
+    go (inr f) (inl q) = never i (q .1) f
+    go (inr f) (inr g) = u i j x f g
+
+read-edge : (net : Network) (file : List ℕ) (at : ℕ) (r : Read Edge) → readEdge net file at ≡ value r
+    → EdgeOk (net .nodes) (r .item) × T (not (joins (net .edges) (r .item .from) (r .item .to)))
 unfolding readEdge wrongWay
 read-edge net file at r e =
     bind-then _ _ r e (λ from from-is e. bind-then _ _ r e (λ to to-is e.
@@ -82,20 +119,23 @@ read-edge net file at r e =
     let into : Bool = eqb (kindOf (net .nodes) to) input in
     let right : T (not (wrongWay (net .nodes) from to)) = need-test _ _ _ _ rightWay rightWay-is in
     let differ : T (not (eqb from to)) = need-test _ _ _ rightWay apart apart-is in
+    let fresh : T (not (joins (net .edges) from to)) = need-test _ _ _ apart unrepeated unrepeated-is in
     let edge : Edge = record { from = from; to = to } in
     let same : edge ≡ r .item =
     need-value _ _ _ edge rightWay rightWay-is
     ∙ need-value _ _ _ rightWay apart apart-is
     ∙ need-value _ _ _ apart unrepeated unrepeated-is
     ∙ ap (λ (q : Read Edge). q .item) (same-value _ r e) in
-    subst (EdgeOk (net .nodes)) same
-    (record {
-      from-under = ltb→lt from (length (net .nodes)) (checked-value 4 at under _ from from-is);
-      to-under = ltb→lt to (length (net .nodes)) (checked-value 4 at under _ to to-is);
-      intoNoInput = λ q. T-not (wrongWay (net .nodes) from to) right (or-l into _ (eq→eqb q));
-      outOfNoOutput = λ q. T-not (wrongWay (net .nodes) from to) right (or-r into (eqb (kindOf (net .nodes) from) output) (eq→eqb q));
-      apart = λ q. T-not (eqb from to) differ (eq→eqb q);
-    }))))))
+    subst (λ (x : Edge). EdgeOk (net .nodes) x × T (not (joins (net .edges) (x .from) (x .to)))) same (
+      record {
+        from-under = ltb→lt from (length (net .nodes)) (checked-value 4 at under _ from from-is);
+        to-under = ltb→lt to (length (net .nodes)) (checked-value 4 at under _ to to-is);
+        intoNoInput = λ q. T-not (wrongWay (net .nodes) from to) right (or-l into _ (eq→eqb q));
+        outOfNoOutput = λ q. T-not (wrongWay (net .nodes) from to) right (or-r into (eqb (kindOf (net .nodes) from) output) (eq→eqb q));
+        apart = λ q. T-not (eqb from to) differ (eq→eqb q);
+      },
+      fresh,
+    ))))))
 
 -- ---- aggregates
 
@@ -181,6 +221,7 @@ read-virtual-storage net file at r e =
 pub record Good (net : Network) : Type 0 where
   pub nodes : AllMem NodeOk (net .nodes)
   pub edges : AllMem (EdgeOk (net .nodes)) (net .edges)
+  pub unrepeated : Unrepeated (net .edges)
   pub aggregates : AllMem (AggregateOk (length (net .nodes))) (net .aggregates)
   pub virtualStorages : AllMem VirtualStorageOk (net .virtualStorages)
   pub nodeCount : length (net .nodes) ≤ 256
@@ -221,6 +262,7 @@ body ND net file at r room e g =
     (record {
       nodes = all-snoc NodeOk (net .nodes) x (g .nodes) (read-node file at (a .0) (a .1));
       edges = λ y k. more-ends (net .nodes) x y (g .edges y k);
+      unrepeated = g .unrepeated;
       aggregates = λ y k. more-nodes (length (net .nodes)) (length (net .nodes ++ (x ∷ []))) (omega arith) y (g .aggregates y k);
       virtualStorages = g .virtualStorages;
       nodeCount = omega arith;
@@ -236,7 +278,8 @@ body ED net file at r room e g =
     subst (λ (q : Read Network). Good (q .item)) (same-value _ r (a .2))
     (record {
       nodes = g .nodes;
-      edges = all-snoc (EdgeOk (net .nodes)) (net .edges) x (g .edges) (read-edge net file at (a .0) (a .1));
+      edges = all-snoc (EdgeOk (net .nodes)) (net .edges) x (g .edges) (read-edge net file at (a .0) (a .1) .0);
+      unrepeated = unrepeated-snoc (net .edges) x (read-edge net file at (a .0) (a .1) .1) (g .unrepeated);
       aggregates = g .aggregates;
       virtualStorages = g .virtualStorages;
       nodeCount = g .nodeCount;
@@ -253,6 +296,7 @@ body AG net file at r room e g =
     (record {
       nodes = g .nodes;
       edges = g .edges;
+      unrepeated = g .unrepeated;
       aggregates = all-snoc (AggregateOk (length (net .nodes))) (net .aggregates) x (g .aggregates) (read-aggregate net file at (a .0) (a .1));
       virtualStorages = g .virtualStorages;
       nodeCount = g .nodeCount;
@@ -269,6 +313,7 @@ body VS net file at r room e g =
     (record {
       nodes = g .nodes;
       edges = g .edges;
+      unrepeated = g .unrepeated;
       aggregates = g .aggregates;
       virtualStorages = all-snoc VirtualStorageOk (net .virtualStorages) x (g .virtualStorages) (read-virtual-storage net file at (a .0) (a .1));
       nodeCount = g .nodeCount;
@@ -300,6 +345,7 @@ good-empty =
     record {
       nodes = all-none NodeOk;
       edges = all-none (EdgeOk []);
+      unrepeated = λ i j x h k. not-found x h;
       aggregates = all-none (AggregateOk 0);
       virtualStorages = all-none VirtualStorageOk;
       nodeCount = zero-le;

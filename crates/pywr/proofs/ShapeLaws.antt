@@ -39,7 +39,7 @@ pub data Rising (n : ℕ) : ℕ → List Element → Type 0 where
   none : {least : ℕ} → Rising n least []
   more : {least : ℕ} {e : Element} {es : List Element} → least ≤ e .column → e .column < n → Rising n (e .column + 1) es → Rising n least (e ∷ es)
 
-rising-add : (n c : ℕ) (x : Float) (least : ℕ) (row : List Element) → least ≤ c → c < n → Rising n least row → Rising n least (addElement c x row)
+pub rising-add : (n c : ℕ) (x : Float) (least : ℕ) (row : List Element) → least ≤ c → c < n → Rising n least row → Rising n least (addElement c x row)
 rising-add n c x least [] h l Rising.none = rw (add-none c x) (Rising.more h l Rising.none)
 rising-add n c x least (e ∷ es) h l (Rising.more a b r) =
     add-cases c x e es (Rising n least)
@@ -52,7 +52,7 @@ unfolding addOn
 rising-on n [] x row h r = r
 rising-on n (c ∷ cs) x row h r = rising-on n cs x (addElement c x row) (λ k m. h k (List·Memᴰ·tail m)) (rising-add n c x 0 row zero-le (h c (List·Memᴰ·head refl)) r)
 
-rising-more : (n m least : ℕ) (row : List Element) → n ≤ m → Rising n least row → Rising m least row
+pub rising-more : (n m least : ℕ) (row : List Element) → n ≤ m → Rising n least row → Rising m least row
 rising-more n m least [] h Rising.none = Rising.none
 rising-more n m least (e ∷ es) h (Rising.more a b r) = Rising.more a (lt-of-lt-of-le b h) (rising-more n m (e .column + 1) es h r)
 

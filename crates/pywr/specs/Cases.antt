@@ -1,4 +1,4 @@
--- Document 01's cases marked •, together as one table about these definitions, most of them on the bytes of a file.
+-- Document 01's cases marked •, the first as document 02, L2 has it, together as one table about these definitions, most of them on the bytes of a file.
 -- Assumes nothing.
 use mathlib.Core.Path.{_≡_, refl}
 use Prim.Native.Nat.{ℕ}
@@ -33,6 +33,10 @@ unfoldable pub columnsOf : Result Network → List (Option ℕ)
 columnsOf (value net) = columns net .of
 columnsOf (refused number place) = []
 
+unfoldable pub columnCountOf : Result Network → ℕ
+columnCountOf (value net) = columns net .count
+columnCountOf (refused number place) = 0
+
 unfoldable pub fixedOf : Result Built → List (List Element)
 fixedOf (value b) = map (λ (r : Row). r .elements) (b .programme .fixed)
 fixedOf (refused number place) = []
@@ -53,6 +57,11 @@ chainNodes = varying input ++ varying link ++ varying link ++ varying link ++ va
 
 unfoldable pub mixedChain : List ℕ
 mixedChain = chainNodes ++ edge 1 2 ++ edge 3 4 ++ edge 2 3 ++ edge 0 1
+
+-- the chain keyed with two other pipes between, input 5 to output 6 and input 7 to output 8
+unfoldable pub chainAndPipes : List ℕ
+chainAndPipes =
+    chainNodes ++ varying input ++ varying output ++ varying input ++ varying output ++ edge 1 2 ++ edge 5 6 ++ edge 3 4 ++ edge 7 8 ++ edge 2 3 ++ edge 0 1
 
 unfoldable pub orderedChain : List ℕ
 orderedChain = chainNodes ++ edge 0 1 ++ edge 1 2 ++ edge 2 3 ++ edge 3 4
@@ -136,9 +145,12 @@ minusMillionth = fin true 4722366482869645 (negsuc 71)
 -- ---- the table
 
 pub record Cases : Type 0 where
-  -- "columns 0, 1, 1, 0; link 2 keeps a mass row"
-  pub mixedColumns : columnsOf (parseNetwork mixedChain) ≡ some 0 ∷ some 1 ∷ some 1 ∷ some 0 ∷ []
-  pub mixedMass : fixedOf (build Infinity mixedChain) ≡ (element 0 (whole 1) ∷ element 1 (minusWhole 1) ∷ []) ∷ []
+  -- "Document 01's first chain becomes one column with no mass row." (document 02, L2)
+  pub mixedColumns : columnsOf (parseNetwork mixedChain) ≡ some 0 ∷ some 0 ∷ some 0 ∷ some 0 ∷ []
+  pub mixedMass : fixedOf (build Infinity mixedChain) ≡ []
+  -- "the columns now unite under the lower number and later numbers close up" (document 02, L2)
+  pub pipeColumns : columnsOf (parseNetwork chainAndPipes) ≡ some 0 ∷ some 1 ∷ some 0 ∷ some 2 ∷ some 0 ∷ some 0 ∷ []
+  pub pipeCount : columnCountOf (parseNetwork chainAndPipes) ≡ 3
   -- "one column, no mass row"
   pub orderedColumns : columnsOf (parseNetwork orderedChain) ≡ some 0 ∷ some 0 ∷ some 0 ∷ some 0 ∷ []
   pub orderedMass : fixedOf (build Infinity orderedChain) ≡ []
@@ -175,12 +187,14 @@ pub record Cases : Type 0 where
   pub wrappedOver : isActive (season 3 10 3 5) 3 7 ≡ false
 
 pub cases : Cases
-unfolding computing columnsOf fixedOf varyingOf placesOf chainNodes mixedChain orderedChain ring edgelessInputs pumps inputToOutput inputToOutputStep
-    blank work built boundsAfter acceptedAfter interval season
+unfolding computing columnsOf columnCountOf fixedOf varyingOf placesOf chainNodes mixedChain chainAndPipes orderedChain ring edgelessInputs pumps inputToOutput
+    inputToOutputStep blank work built boundsAfter acceptedAfter interval season
 cases =
     record {
       mixedColumns = refl;
       mixedMass = refl;
+      pipeColumns = refl;
+      pipeCount = refl;
       orderedColumns = refl;
       orderedMass = refl;
       ringColumns = refl;

@@ -1,11 +1,11 @@
--- The columns of the edges: col_edge_map.rs over the edges in index order.
+-- The columns of the edges: col_edge_map.rs over the edges in index order, and columns that meet unite (document 02, L2).
 -- Assumes nothing.
-use Prim.Native.Nat.{ℕ, suc}
-use mathlib.Core.List.{List, [], _∷_}
+use Prim.Native.Nat.{ℕ, suc, _-_}
+use mathlib.Core.List.{List, [], _∷_, map}
 use mathlib.Core.Bool.{cond, _&&_}
-use mathlib.Core.Option.{Option, none, some, Option·getD}
+use mathlib.Core.Option.{Option, none, some, Option·getD, Option·map}
 use lib.ListN.{length, getD, getElem?, set, replicate}
-use lib.Dec.{eqb}
+use lib.Dec.{eqb, ltb}
 use Rattle.pywr.specs.Network.{link, Edge, Network, kindOf, incoming, outgoing}
 
 -- the column of each edge that has one, and how many columns there are
@@ -29,10 +29,22 @@ unfoldable pub addSimpleEdge : Option ℕ → ℕ → Columns → Columns
 addSimpleEdge (some column) edge given = given
 addSimpleEdge none edge given = putNew edge given
 
--- add_equal_edges: an edge and the incoming edge whose column it shares. "If both already have columns, nothing merges."
+-- "the columns now unite under the lower number and later numbers close up" (document 02, L2). Columns low and high unite, low < high:
+-- the number that a column has afterwards
+unfoldable pub united : ℕ → ℕ → ℕ → ℕ
+united low high column = cond (eqb column high) low (cond (ltb high column) (column - 1) column)
+
+unfoldable pub uniteUnder : ℕ → ℕ → Columns → Columns
+uniteUnder low high given = record { of = map (Option·map (united low high)) (given .of); count = given .count - 1 }
+
+-- where a ring closes, a column meets itself
+unfoldable pub unite : ℕ → ℕ → Columns → Columns
+unite column other given = cond (ltb column other) (uniteUnder column other given) (cond (ltb other column) (uniteUnder other column given) given)
+
+-- add_equal_edges: an edge and the incoming edge whose column it shares. "When both edges already have columns, the columns now unite".
 -- The columns of the two come first
 unfoldable pub addEqualEdges : Option ℕ → Option ℕ → ℕ → ℕ → Columns → Columns
-addEqualEdges (some column) (some other) edge before given = given
+addEqualEdges (some column) (some other) edge before given = unite column other given
 addEqualEdges none (some column) edge before given = put edge column given
 addEqualEdges (some column) none edge before given = put before column given
 addEqualEdges none none edge before given = put before (given .count) (putNew edge given)

@@ -9,7 +9,7 @@ use Rattle.pywr.specs.Network.{noNode, kindOf, keepIf, listed, anyListed
 use Rattle.pywr.specs.NetworkFile.{constantFits, readNode, joins, wrongWay, readEdge, readMembers, readSets, readAggregate, readParts, readVirtualStorage, markAt}
 use Rattle.pywr.specs.NetworkFile.{inOrder, hasRoom, withNode, withEdge, withAggregate, withVirtualStorage, readBody, between, mostConstant, activeFits, leastDate}
 use Rattle.pywr.specs.NetworkFile.{mostDate, readRecord, readRecords, isEmpty, unconnectedLink, badConstant, checkNetwork, parseNetwork}
-use Rattle.pywr.specs.ColEdgeMap.{columns, columnAt, put, putNew, addSimpleEdge, addEqualEdges, single, sharesWith, placeEdge, placeEdges, withColumns, mappedEdges, columnOf}
+use Rattle.pywr.specs.ColEdgeMap.{columns, columnAt, put, putNew, addSimpleEdge, united, uniteUnder, unite, addEqualEdges, single, sharesWith, placeEdge, placeEdges, withColumns, mappedEdges, columnOf}
 use Rattle.pywr.specs.ExclusiveSets.{sameSet, hasSet, addSets, setsFrom, exclusiveSets, setNumber, timesIn, setsWithNode}
 use Rattle.pywr.specs.Rows.{addElement, addOn, columnMap, columnsWith, columnsInto, columnsOutOf, addNode, nodeRow, massRow}
 use Rattle.pywr.specs.Rows.{addNodes, addSetsOf, aggregateRow, addParts, virtualStorageRow, upperRow, lowerRow, addActive, exclusivityRow}
@@ -61,7 +61,7 @@ reading = 0
 
 -- columns, rows and programmes
 unfoldable pub building : ℕ
-unfolding columnAt put putNew addSimpleEdge addEqualEdges single sharesWith placeEdge placeEdges columns withColumns mappedEdges columnOf sameSet
+unfolding columnAt put putNew addSimpleEdge united uniteUnder unite addEqualEdges single sharesWith placeEdge placeEdges columns withColumns mappedEdges columnOf sameSet
     hasSet addSets setsFrom exclusiveSets setNumber timesIn setsWithNode addElement addOn columnMap columnsWith columnsInto columnsOutOf addNode
     nodeRow massRow addNodes addSetsOf aggregateRow addParts virtualStorageRow upperRow lowerRow addActive exclusivityRow sameRow position
     addVariableRow addVariableRows exclusiveRequests requestsBySets requestsFrom freshRow massRowsFrom upperCoefficient lowerCoefficient exclusiveRows

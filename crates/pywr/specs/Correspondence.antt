@@ -72,7 +72,7 @@ unfoldable pub networkAllows : Result Network → Sentinel → List Report → P
 networkAllows (refused number place) s reports plan = false
 networkAllows (value net) s reports plan = allowsUnder s net (lastAccepted none reports) plan
 
--- the columns are those of col_edge_map.rs on the network file
+-- the columns are those of `ColEdgeMap` on the network file
 unfoldable pub programmeAdmits : Result Network → Store → Plan → Bool
 programmeAdmits (refused number place) store plan = false
 programmeAdmits (value net) store plan = admits (columnMap net) (programmeIn store) plan

@@ -18,18 +18,20 @@ def sets(count):  # a pair, and behind it `count` nodes that are each an exclusi
     return node(INPUT) + node(OUTPUT) + node(OUTPUT, (0.0, 1.0)) * count + edge(0, 1) + b"".join(aggregate(g, (0, 16)) for g in groups)
 
 
-def rows(others):  # 31 sets that list a node 16 times, 32 rows each; 2 exclusivity rows, 2 varying rows; a row for each other node
+def rows(others, beside=(b"", b"")):
+    # 31 sets that list a node 16 times, 32 rows each; 2 exclusivity rows, 2 varying rows; a row for each other node. `beside`: further nodes and edges
     groups = [[[n] * 16 for n in g] for g in (range(2, 18), range(18, 33))]
-    nodes = node(INPUT) + node(OUTPUT) + node(OUTPUT, (1.0, 2.0)) * 31 + node(OUTPUT, (0.0, 1.0)) * others
-    return nodes + edge(0, 1) + b"".join(aggregate(g, (0, 16)) for g in groups)
+    nodes = node(INPUT) + node(OUTPUT) + node(OUTPUT, (1.0, 2.0)) * 31 + node(OUTPUT, (0.0, 1.0)) * others + beside[0]
+    return nodes + edge(0, 1) + beside[1] + b"".join(aggregate(g, (0, 16)) for g in groups)
 
 
-def elements(last):  # an input with an edge to each of 13 outputs, listed once to 16 times by 16 exclusive sets: 3,850 elements
+def elements(last, beside=(b"", b"")):  # an input with an edge to each of 13 outputs, listed once to 16 times by 16 exclusive sets: 3,850 elements
     outputs = list(range(1, 14))
-    nodes = node(INPUT, (1.0, 2.0)) + node(OUTPUT) * 13
+    nodes = node(INPUT, (1.0, 2.0)) + node(OUTPUT) * 13 + beside[0]
     again = [[o] for o in outputs] + [[o, o] for o in outputs[:5]]  # 18 plain aggregates of the outputs, 13 elements each; and one of `last` outputs
     plain = [aggregate([outputs + more]) for more in again] + [aggregate([outputs[:last]])]
-    return nodes + b"".join(edge(0, o) for o in outputs) + aggregate([[0] * k for k in range(1, 17)], (0, 16)) + b"".join(plain)
+    pipes = b"".join(edge(0, o) for o in outputs) + beside[1]
+    return nodes + pipes + aggregate([[0] * k for k in range(1, 17)], (0, 16)) + b"".join(plain)
 
 
 def many(outputs):  # README's small example of 11

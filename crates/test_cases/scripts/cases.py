@@ -14,6 +14,7 @@ from exclusive_cases import exclusives
 from factor_cases import factors
 from maker_cases import makers
 from step_cases import steps
+from union_cases import unions
 
 MARK = "# reference"
 
@@ -44,6 +45,7 @@ steps()
 makers()
 factors()
 exclusives()
+unions()
 stdin, stdout = FOLDER / "stdin", FOLDER / "stdout"
 lines = stdout.read_text().splitlines(keepends=True)
 kept = next((k for k, line in enumerate(lines) if line.startswith(MARK)), len(lines))

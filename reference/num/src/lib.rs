@@ -1,7 +1,7 @@
 //! Stand-in for the crate `num`: what builder.rs and col_edge_map.rs ask of an integer type.
-use std::ops::Add;
+use std::ops::{Add, Sub};
 
-pub trait PrimInt: Copy + Ord + Add<Output = Self> {
+pub trait PrimInt: Copy + Ord + Add<Output = Self> + Sub<Output = Self> {
     fn zero() -> Self;
     fn one() -> Self;
     fn from(n: usize) -> Option<Self>;

@@ -1,4 +1,4 @@
-//! The alterations of builder.rs, each by lines of it that must stand there exactly once.
+//! The alterations of builder.rs and col_edge_map.rs, each by lines of it that must stand there exactly once.
 pub struct Alteration {
     /// What the altered text does, for the message where a line is not found.
     pub name: &'static str,
@@ -6,7 +6,32 @@ pub struct Alteration {
     pub lines: &'static [(&'static str, &'static str)],
 }
 
-pub const BUILDER: [Alteration; 3] = [
+/// Document 02's L2. Where a ring closes, a column meets itself.
+pub const COL_EDGE_MAP: [Alteration; 1] = [Alteration {
+    name: "columns that meet unite under the lower number",
+    lines: &[(
+        "// Both are already present; this should not happen?",
+        "let cols = [self.col_for_edge(&idx1), self.col_for_edge(&idx2)];
+         let (low, high) = (cols[0].min(cols[1]), cols[0].max(cols[1]));
+         if low < high {
+             let edges = self.col_to_edges.remove(high.to_usize().unwrap());
+             self.col_to_edges[low.to_usize().unwrap()].extend(edges);
+             for col in self.edge_to_col.values_mut().filter(|col| **col >= high) {
+                 *col = if *col == high { low } else { *col - I::one() };
+             }
+         }",
+    )],
+}];
+
+pub const BUILDER: [Alteration; 4] = [
+    // Document 02's L2.
+    Alteration {
+        name: "the altered column map",
+        lines: &[(
+            "use crate::solvers::col_edge_map::{ColumnEdgeMap, ColumnEdgeMapBuilder};",
+            "use crate::solvers::col_edge_map_altered::{ColumnEdgeMap, ColumnEdgeMapBuilder};",
+        )],
+    },
     // A HashSet is walked in no fixed order.
     Alteration {
         name: "distinct exclusive sets in order of first appearance",

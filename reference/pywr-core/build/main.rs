@@ -16,11 +16,14 @@ fn main() {
 
     write("edge.rs", read("edge.rs").whole());
     write("solvers.rs", read("solvers/mod.rs").whole());
-    write("col_edge_map.rs", read("solvers/col_edge_map.rs").whole());
     write("network.rs", read("network.rs").parts(&parts::NETWORK));
     write("node.rs", read("node.rs").parts(&parts::NODE));
     write("aggregated_node.rs", read("aggregated_node.rs").parts(&parts::AGGREGATED_NODE));
     write("virtual_storage.rs", read("virtual_storage.rs").parts(&parts::VIRTUAL_STORAGE));
+
+    let col_edge_map = read("solvers/col_edge_map.rs");
+    write("col_edge_map.rs", col_edge_map.whole());
+    write("col_edge_map_altered.rs", col_edge_map.altered(&alterations::COL_EDGE_MAP));
 
     let builder = read("solvers/builder.rs");
     write("builder_unaltered.rs", builder.whole());

@@ -1,7 +1,7 @@
 //! compare [PORT] [--from INDEX] [--out DIR] SEED COUNT: cases INDEX up to INDEX + COUNT of SEED, the port beside the reference.
 //! compare [PORT] --case FILE: one case that was written out. PORT is `--library` (with the feature `library`), `--lister PROGRAM` or
 //! `--namer PROGRAM`; without it the reference runs alone.
-use pywr_reference::comparison::{self, Tally};
+use pywr_reference::comparison::{self, ByUnions, Tally};
 use pywr_reference::generate::{self, Case};
 use pywr_reference::port::Port;
 use pywr_reference::{case_file, port_lister::Lister, port_namer::Namer};
@@ -56,7 +56,7 @@ fn main() {
     };
     println!("networks {}, compared {}; {}", tally.builds.total(), tally.builds_compared, tally.builds.text());
     println!("steps {}, compared {}; {}", tally.steps.total(), tally.steps_compared, tally.steps.text());
-    println!("altered and unaltered Rust alike: networks {}, accepted steps {}", tally.in_both.builds, tally.in_both.steps);
+    tell_unions(&tally);
     let compared = port.as_deref().is_none_or(|port| all_compared(port, &tally));
     let tried = port.as_deref().is_none_or(|port| tell_tried(port, tally.builds.total()));
     println!("the Rust's own 15, retired: {}", tally.retired());
@@ -75,6 +75,15 @@ fn port(arguments: &Arguments) -> Option<Box<dyn Port>> {
         (_, Some(program)) => Some(Box::new(Namer::new(program.into()))),
         _ => None,
     }
+}
+
+/// The networks by whether columns unite, and what the unaltered Rust ran of those without.
+fn tell_unions(tally: &Tally) {
+    let ByUnions { with, without, under_by_unions } = tally.by_unions;
+    println!("columns as in the model: networks {}", with + without);
+    println!("  with a union {with} ({under_by_unions} accepted that are over a ceiling without it)");
+    println!("  without a union {without}, the unaltered Rust's columns alike");
+    println!("altered and unaltered Rust alike: networks {}, accepted steps {}", tally.in_both.builds, tally.in_both.steps);
 }
 
 /// What the port has tried of its own; whether a long run has tried all of it.

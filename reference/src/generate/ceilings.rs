@@ -1,10 +1,11 @@
 //! Networks at each ceiling, up to two under or over it.
 use super::encode::network_records;
-use super::{damage, small};
+use super::{chains, damage, small};
 use crate::ceilings::{ELEMENTS, ROWS, SETS};
 use crate::network_file::MOST;
 use crate::random::Random;
-use crate::{NetworkFile, Reference, Sentinel};
+use crate::solver::{Altered, Solver};
+use crate::{NetworkFile, Programme};
 use pywr_core::network::{AggregateParts, NodeParts, VirtualStorageParts};
 use pywr_core::node::NodeType;
 
@@ -28,8 +29,11 @@ fn near(r: &mut Random, ceiling: usize) -> usize {
 }
 
 fn nodes(r: &mut Random) -> NetworkFile {
-    let mut network = small::network(r);
     let count = near(r, MOST[0]);
+    if r.chance(30) {
+        return chains::single(r, count);
+    }
+    let mut network = small::network(r);
     while network.nodes.len() < count {
         let kind = *r.pick(&[NodeType::Input, NodeType::Output, NodeType::Storage]);
         let node = small::node(r, kind);
@@ -113,6 +117,7 @@ fn sets(r: &mut Random) -> NetworkFile {
 fn rows(r: &mut Random) -> NetworkFile {
     let mut network = NetworkFile { nodes: small::nodes(r, 20), ..NetworkFile::default() };
     small::add_edges(r, &mut network, 20);
+    add_keyed_chain(r, &mut network);
     for node in network.nodes.iter_mut().filter(|node| node.kind != NodeType::Storage) {
         node.constant = Some(if r.chance(20) { (0.0, 3.0) } else { (1.0, 2.0) });
     }
@@ -135,6 +140,7 @@ fn elements(r: &mut Random) -> NetworkFile {
     network.nodes.extend(vec![NodeParts { kind: NodeType::Output, constant: None }; outputs]);
     network.edges.extend((1..=outputs).map(|o| (0, o)));
     r.shuffle(&mut network.edges);
+    add_keyed_chain(r, &mut network);
     let sets = (1..=16).map(|k| vec![0; k]).collect();
     network.aggregates.push(AggregateParts { sets, exclusive: Some((0, 16)) });
     let target = near(r, ELEMENTS);
@@ -154,12 +160,24 @@ fn elements(r: &mut Random) -> NetworkFile {
     network
 }
 
+/// In half of the cases a chain, with all edges in random order. Where its columns unite, the programme may be under a ceiling that it would be over.
+fn add_keyed_chain(r: &mut Random, network: &mut NetworkFile) {
+    if r.chance(50) {
+        chains::add_chain(r, network);
+        r.shuffle(&mut network.edges);
+    }
+}
+
+fn programme_of(network: &NetworkFile) -> Programme {
+    Altered::create(&network.network(), f64::INFINITY).expect("a network that passes 7 to 10").programme()
+}
+
 fn rows_of(network: &NetworkFile) -> usize {
-    Reference::build_read(network.clone(), Sentinel::Infinity).programme().rows.len()
+    programme_of(network).rows.len()
 }
 
 fn elements_of(network: &NetworkFile) -> usize {
-    Reference::build_read(network.clone(), Sentinel::Infinity).programme().elements()
+    programme_of(network).elements()
 }
 
 /// A file with as many records as may be, nearly as long as any accepted one; sometimes damaged, or with more behind it.

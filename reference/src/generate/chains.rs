@@ -1,4 +1,4 @@
-//! Chains and rings of links, keyed in random edge order.
+//! Chains and rings of links, keyed in random edge order and others.
 use super::small;
 use crate::NetworkFile;
 use crate::random::Random;
@@ -24,10 +24,32 @@ pub fn network(r: &mut Random) -> NetworkFile {
     network
 }
 
-/// A source, links one behind the other, a sink; or a ring of links.
-fn add_chain(r: &mut Random, network: &mut NetworkFile) {
+/// One chain of so many nodes, keyed in random order or every other edge first.
+pub fn single(r: &mut Random, nodes: usize) -> NetworkFile {
+    let mut network = NetworkFile::default();
+    add_links(r, &mut network, nodes - 2, false);
+    if r.chance(50) {
+        r.shuffle(&mut network.edges);
+    } else {
+        key_every_other_first(&mut network.edges);
+    }
+    network
+}
+
+/// In a chain in flow order nearly every edge of the second half then unites two columns.
+fn key_every_other_first(edges: &mut Vec<(usize, usize)>) {
+    let (first, second): (Vec<_>, Vec<_>) = edges.drain(..).enumerate().partition(|(k, _)| k % 2 == 0);
+    edges.extend(first.into_iter().chain(second).map(|(_, edge)| edge));
+}
+
+pub fn add_chain(r: &mut Random, network: &mut NetworkFile) {
     let links = if r.chance(10) { r.between(20, 60) } else { r.between(1, 8) };
     let ring = r.chance(25);
+    add_links(r, network, links, ring);
+}
+
+/// A source, links one behind the other, a sink; or a ring of links, one more.
+fn add_links(r: &mut Random, network: &mut NetworkFile, links: usize, ring: bool) {
     let mut order: Vec<usize> = Vec::new();
     let mut add = |r: &mut Random, kind: NodeType| {
         order.push(network.nodes.len());

@@ -248,7 +248,7 @@ impl<'a> Planner<'a> {
     }
 
     /// A plan, and others around it: a unit more on one edge, a set switched; onto bounds of up to three nodes, aggregates and virtual storages each, and
-    /// of varying exclusive nodes, and beside them.
+    /// of varying exclusive nodes, and beside them; links that do not balance.
     pub fn around(&self, r: &mut Random, plan: &Plan) -> Vec<Plan> {
         let edge = r.below(plan.amounts.len());
         let mut plans = vec![plan.clone(), pushed(plan, &[edge], &Whole::from(1)).unwrap()];
@@ -264,7 +264,16 @@ impl<'a> Planner<'a> {
             }
         }
         plans.extend(self.around_exclusive(r, plan));
+        plans.extend(self.around_links(r, plan));
         plans
+    }
+
+    /// A unit more on a walk up to each of its links, at most six: that link does not balance, nor does the first one of a ring.
+    fn around_links(&self, r: &mut Random, plan: &Plan) -> Vec<Plan> {
+        let walk = self.walks.any(r);
+        let mut lengths: Vec<usize> = (1..walk.len()).collect();
+        r.shuffle(&mut lengths);
+        lengths.iter().take(6).map(|&length| pushed(plan, &walk[..length], &Whole::from(1)).unwrap()).collect()
     }
 
     /// Onto both bounds of up to two varying exclusive nodes and beside them, with a set of theirs as it is, and switched.

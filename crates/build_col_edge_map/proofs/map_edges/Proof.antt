@@ -1,11 +1,11 @@
 -- `build_col_edge_map::map_edges` meets its contract. The loop's invariant: the table holds the columns after the first e edges.
 -- The measure is how many edges are left. Assumes nothing.
-use Prim.Native.Nat.{_+_, _*_, _-_, _<_, _≤_}
-use mathlib.Core.Path.{_≡_, sym, _∙_}
+use Prim.Native.Nat.{_-_}
+use mathlib.Core.Path.{sym, _∙_}
 use native.Mathlib.Nat.{le-trans}
 use native.Mathlib.Omega.{arith}
 use Rattle.build_incident_edges.proofs.Listed.{listed-most}
-use Rattle.build_col_edge_map.proofs.Turn.{Placed, none-placed, shared-read, shared-under, simple-placed, equal-placed, all-placed}
+use Rattle.build_col_edge_map.proofs.Turn.{Placed, none-placed, number-most, shared-read, shared-under, simple-placed, equal-placed, all-placed}
 use borrow.Author.Needs.{needs}
 use Rattle.build_col_edge_map.proofs.map_edges.Statement.{statement}
 use Rattle.build_col_edge_map.proofs.map_edges.Tie as tie
@@ -69,7 +69,7 @@ loop-again c =
     let under = start .pre .3 (at-loop .loop .e) (in-loop .loop-test .taken) in
     simple-placed _ _ _ _ _ _ _ _ (at-loop .loop .inv) (in-loop .loop-test .taken) under (c .add-simple-edge .ensures .0) (sym k ∙ then1 .if1 .taken)
     (rw (after-narrow16 .narrow16 .ensures) at
-    (c .add-simple-edge .ensures .1 (at-loop .loop .inv .now-columns) (at-loop .loop .inv .mapped) (omega (arith, at-loop .loop .inv .long, after-narrow16 .narrow16 .ensures))))
+    (c .add-simple-edge .ensures .1 (at-loop .loop .inv .now-columns) (at-loop .loop .inv .mapped) (omega (arith, at-loop .loop .inv .kept .long, after-narrow16 .narrow16 .ensures))))
 
 add-equal-edges-requires : tie.Need-add-equal-edges-requires Inv-loop μ-loop
 add-equal-edges-requires c κs =
@@ -77,7 +77,8 @@ add-equal-edges-requires c κs =
     let after-shares-with = else1 .before in
     let after-from-node-index = after-shares-with .before in
     let after-narrow16 = after-from-node-index .before in
-    let at-loop = after-narrow16 .before .before in
+    let in-loop = after-narrow16 .before in
+    let at-loop = in-loop .before in
     let start = at-loop .before .before .before in
     let few = at-loop .loop .inv .few-columns in
     let most = start .pre .1 in
@@ -85,7 +86,7 @@ add-equal-edges-requires c κs =
     let k = shared-read _ _ _ (start .pre .4) (start .pre .5) (at-loop .loop .e) _ _
     (rw (after-narrow16 .narrow16 .ensures) at (after-from-node-index .from-node-index .ensures)) (after-shares-with .shares-with .ensures) in
     let under = shared-under _ _ _ (start .pre .4) (at-loop .loop .e) _ k (else1 .if1 .left) in
-    (omega arith, omega arith, omega arith)
+    (omega arith, under, most, omega arith, rw q (number-most _ _ _ (at-loop .loop .inv) _ (in-loop .loop-test .taken)))
 
 loop-again-2 : tie.Need-loop-again-2 Inv-loop μ-loop
 loop-again-2 c =
@@ -98,12 +99,10 @@ loop-again-2 c =
     let start = at-loop .before .before .before in
     let k = shared-read _ _ _ (start .pre .4) (start .pre .5) (at-loop .loop .e) _ _
     (rw (after-narrow16 .narrow16 .ensures) at (after-from-node-index .from-node-index .ensures)) (after-shares-with .shares-with .ensures) in
-    let there = shared-under _ _ _ (start .pre .4) (at-loop .loop .e) _ k (else1 .if1 .left) in
     let under = start .pre .3 (at-loop .loop .e) (in-loop .loop-test .taken) in
     equal-placed _ _ _ _ _ _ _ _ (at-loop .loop .inv) (in-loop .loop-test .taken) under (c .add-equal-edges .ensures .0) _ k (else1 .if1 .left)
     (rw (after-narrow16 .narrow16 .ensures) at
-    (c .add-equal-edges .ensures .1 (at-loop .loop .inv .now-columns) (at-loop .loop .inv .mapped)
-    (omega (arith, at-loop .loop .inv .long, after-narrow16 .narrow16 .ensures)) (omega (arith, at-loop .loop .inv .long))))
+    (c .add-equal-edges .ensures .1 (at-loop .loop .inv .now-columns) (at-loop .loop .inv .mapped) (at-loop .loop .inv .kept .long)))
 
 returns : tie.Need-returns Inv-loop μ-loop
 returns c =

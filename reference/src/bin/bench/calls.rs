@@ -1,10 +1,10 @@
-//! The calls that are timed: the port, the Rust with reading, builder.rs alone, each for a build and for a step.
+//! The calls that are timed: the port, the Rust with reading, builder.rs alone, each for a build and for a step; the unaltered Rust for a build.
 use crate::networks::Case;
 use pywr::{BUILD_NUMBERS, BUILD_WORDS, STEP_WORK, Store};
 use pywr_core::network::Network;
 use pywr_core::state::State;
 use pywr_core::timestep::Timestep;
-use pywr_reference::solver::{Altered, Solver};
+use pywr_reference::solver::{Altered, Solver, Unaltered};
 use pywr_reference::timed::{network_reader, step_reader::StepReader};
 use pywr_reference::{Reference, Sentinel, step_file};
 use std::hint::black_box;
@@ -34,15 +34,15 @@ impl Port {
 }
 
 #[inline(never)]
-pub fn rust_build(network: &[u8]) -> (Network, Altered) {
+pub fn rust_build<S: Solver>(network: &[u8]) -> (Network, S) {
     let network = network_reader::read(network).unwrap();
     let solver = rust_create(&network);
     (network, solver)
 }
 
 #[inline(never)]
-pub fn rust_create(network: &Network) -> Altered {
-    Altered::create(network, f64::INFINITY).unwrap()
+pub fn rust_create<S: Solver>(network: &Network) -> S {
+    S::create(network, f64::INFINITY).unwrap()
 }
 
 #[inline(never)]
@@ -69,7 +69,9 @@ pub struct Calls<'a> {
 /// The builds and the steps among the calls: port, Rust with reading, builder.rs alone.
 pub const BUILDS: [usize; 3] = [0, 1, 2];
 pub const STEPS: [usize; 3] = [3, 4, 5];
-pub const COUNT: usize = 6;
+/// The port's build, and those of the unaltered Rust, which unites no columns.
+pub const BUILDS_BY_UNALTERED: [usize; 3] = [0, 6, 7];
+pub const COUNT: usize = 8;
 
 impl<'a> Calls<'a> {
     /// Both sides' answers are compared here; the readers that are timed are held to the ordinary ones.
@@ -100,11 +102,13 @@ impl<'a> Calls<'a> {
         let case = self.case;
         match k {
             0 => self.port.build(black_box(&case.network)),
-            1 => drop(black_box(rust_build(black_box(&case.network)))),
-            2 => drop(black_box(rust_create(black_box(&self.network)))),
+            1 => drop(black_box(rust_build::<Altered>(black_box(&case.network)))),
+            2 => drop(black_box(rust_create::<Altered>(black_box(&self.network)))),
             3 => self.port.step(black_box(&case.step)),
             4 => rust_step(&self.network, &mut self.solver, &mut self.reader, black_box(&case.step)),
-            _ => rust_update(&self.network, &mut self.solver, black_box(&self.read)),
+            5 => rust_update(&self.network, &mut self.solver, black_box(&self.read)),
+            6 => drop(black_box(rust_build::<Unaltered>(black_box(&case.network)))),
+            _ => drop(black_box(rust_create::<Unaltered>(black_box(&self.network)))),
         }
     }
 }

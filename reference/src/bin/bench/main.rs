@@ -1,5 +1,5 @@
-//! bench [ROUNDS]: the time of each build and each step, the port's, the Rust's with reading and that of builder.rs alone: medians of interleaved
-//! rounds; and the memory that each needs.
+//! bench [ROUNDS]: the time of each build and each step, the port's, the Rust's with reading and that of builder.rs alone, of a build also the
+//! unaltered Rust's: medians of interleaved rounds; and the memory that each needs.
 //! bench --generated SEED COUNT: the ratios over the generator's networks.
 //! bench --stack SEED COUNT: the deepest stack of the port's builds and steps over them, refused ones too.
 mod calls;
@@ -8,7 +8,7 @@ mod memory;
 mod networks;
 mod times;
 
-use calls::{BUILDS, COUNT, Calls, STEPS};
+use calls::{BUILDS, BUILDS_BY_UNALTERED, COUNT, Calls, STEPS};
 use networks::{Case, Group, VARIANTS};
 use times::{Times, batch, median};
 
@@ -33,15 +33,19 @@ fn run(case: &Case, rounds: usize) -> [Measured; 2] {
             times[k].take(sizes[k], || calls.call(k));
         }
     }
-    [("build", BUILDS), ("step", STEPS)].map(|(name, of)| {
-        let medians = of.map(|k| times[k].median() / 1e3);
-        let measured = [ratios(medians), ratios(of.map(|k| times[k].least()))];
-        let [[with, to_alone], least] = measured;
-        let [port, rust, alone] = medians;
-        print!("  {name:5} {:19}port {port:7.2} us; Rust with reading {rust:8.2} us, {with:.2}; ", case.variant);
-        println!("builder.rs alone {alone:8.2} us, {to_alone:.2}; by the least {:.2}, {:.2}", least[0], least[1]);
-        measured
-    })
+    tell("build by the unaltered Rust", case, BUILDS_BY_UNALTERED.map(|k| &times[k]));
+    [("build", BUILDS), ("step", STEPS)].map(|(name, of)| tell(name, case, of.map(|k| &times[k])))
+}
+
+/// Of the port, the Rust with reading and builder.rs alone.
+fn tell(name: &str, case: &Case, times: [&Times; 3]) -> Measured {
+    let medians = times.map(|times| times.median() / 1e3);
+    let measured = [ratios(medians), ratios(times.map(Times::least))];
+    let [[with, to_alone], least] = measured;
+    let [port, rust, alone] = medians;
+    print!("  {name:27} {:19}port {port:7.2} us; Rust with reading {rust:8.2} us, {with:.2}; ", case.variant);
+    println!("builder.rs alone {alone:8.2} us, {to_alone:.2}; by the least {:.2}, {:.2}", least[0], least[1]);
+    measured
 }
 
 /// The medians over a group's networks, of the cases of one variant.

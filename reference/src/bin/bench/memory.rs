@@ -2,6 +2,7 @@
 use crate::calls::{Port, rust_build, rust_create, rust_step};
 use crate::networks::Case;
 use pywr_reference::generate;
+use pywr_reference::solver::Altered;
 use pywr_reference::timed::{network_reader, step_reader::StepReader};
 use std::alloc::{GlobalAlloc, Layout, System};
 use std::arch::asm;
@@ -108,13 +109,16 @@ pub fn tell(case: &Case) {
     println!("  bytes  port  store {store}; build: work {}, stack {build}; step: work {}, stack {step}", work[0], work[1]);
 
     let network = network_reader::read(&case.network).unwrap();
-    let held = heap(|| rust_create(&network));
-    let with_network = heap(|| (rust_build(&case.network), StepReader::new(&case.file)));
-    let build = heap(|| rust_build(&case.network));
+    let held = heap(|| rust_create::<Altered>(&network));
+    let with_network = heap(|| (rust_build::<Altered>(&case.network), StepReader::new(&case.file)));
+    let build = heap(|| rust_build::<Altered>(&case.network));
     let (mut solver, mut reader) = (rust_create(&network), StepReader::new(&case.file));
     let step = heap(|| rust_step(&network, &mut solver, &mut reader, &case.step));
     print!("         Rust  solver {}, with the network and the state {}; ", held.held, with_network.held);
-    let stacks = [stack(|| drop(rust_build(&case.network))), stack(|| rust_step(&network, &mut solver, &mut reader, &case.step))];
+    let stacks = [
+        stack(|| drop(rust_build::<Altered>(&case.network))),
+        stack(|| rust_step(&network, &mut solver, &mut reader, &case.step)),
+    ];
     print!("build: heap {} (builder.rs alone {}), stack {}; ", build.peak, held.peak, stacks[0]);
     println!("step: heap {}, stack {}", step.peak, stacks[1]);
 }

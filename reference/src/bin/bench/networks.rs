@@ -1,4 +1,4 @@
-//! What is timed: supply systems made of equal units with a day's step, and generated networks of two sizes.
+//! What is timed: supply systems made of equal units with a day's step, a long chain keyed in two orders, and generated networks of two sizes.
 use pywr_core::network::{AggregateParts, NodeParts, VirtualStorageParts};
 use pywr_core::node::NodeType::{self, Input, Link, Output, Storage};
 use pywr_core::state::{AggregateNumbers, NodeNumbers, VirtualStorageNumbers};
@@ -34,6 +34,8 @@ pub fn groups() -> Vec<Group> {
         system("small", system_of(1)),
         system("medium", system_of(5)),
         system("ceiling", at_the_ceiling()),
+        system("chain, in flow order", long_chain(true)),
+        system("chain, every other edge first", long_chain(false)),
         generated("generated, 50 nodes", sized::MEDIUM),
         generated("generated, ceilings", sized::CEILING),
     ]
@@ -59,8 +61,8 @@ impl Case {
         let built = Reference::build(&self.network, Sentinel::Infinity).unwrap();
         let [nodes, edges, aggregates] = [nodes.len(), edges.len(), aggregates.len()];
         let storages = virtual_storages.len();
-        let counts = built.programme().counts();
-        format!("{nodes} nodes, {edges} edges, {aggregates} aggregates, {storages} virtual storages; {counts}")
+        let (counts, unions) = (built.programme().counts(), built.unions().count);
+        format!("{nodes} nodes, {edges} edges, {aggregates} aggregates, {storages} virtual storages; {counts}; unions {unions}")
     }
 }
 
@@ -121,6 +123,23 @@ fn at_the_ceiling() -> NetworkFile {
         file.virtual_storages.push(licence(&nodes, None));
     }
     file
+}
+
+/// 17 storages with an edge from each to each other, and 239 links in a chain from the first to the second: 256 nodes, 512 edges. In flow order no
+/// columns unite. With every other edge of the chain before the storages' edges and the rest behind them 119 pairs do, and each moves nearly every
+/// number.
+fn long_chain(in_flow_order: bool) -> NetworkFile {
+    const STORAGES: usize = 17;
+    let mut nodes = vec![NodeParts { kind: Storage, constant: None }; STORAGES];
+    nodes.resize(256, NodeParts { kind: Link, constant: None });
+    let order: Vec<usize> = [0].into_iter().chain(STORAGES..256).chain([1]).collect();
+    let chain = |first: bool| {
+        let comes_first = move |k: usize| in_flow_order || k.is_multiple_of(2);
+        order.windows(2).enumerate().filter(move |(k, _)| comes_first(*k) == first).map(|(_, pair)| (pair[0], pair[1]))
+    };
+    let pairs = (0..STORAGES).flat_map(|from| (0..STORAGES).map(move |to| (from, to)));
+    let edges = chain(true).chain(pairs.filter(|(from, to)| from != to)).chain(chain(false)).collect();
+    NetworkFile { nodes, edges, ..NetworkFile::default() }
 }
 
 fn day(file: &NetworkFile) -> Step {

@@ -1,0 +1,14 @@
+pub mod Joints
+pub mod Classes
+pub mod Places
+pub mod Order
+pub mod Reordering
+pub mod Lookup
+pub mod Renumbering
+pub mod RowsAlike
+pub mod JoinedAlike
+pub mod FixedAlike
+pub mod NewNumbers
+pub mod SameColumns
+pub mod Programme
+pub mod OrderExample

@@ -1,0 +1,3 @@
+pub mod ColumnClasses
+pub mod FileOrder
+pub mod ProgrammeOrder

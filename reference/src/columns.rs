@@ -1,0 +1,66 @@
+//! The columns of the edges by documents 01 and 02, from the network file alone. Edges that meet at a plain joint, a link with one edge in and one
+//! out, have one column; columns are numbered in the order of their lowest edges.
+use crate::NetworkFile;
+use pywr_core::node::NodeType;
+use std::iter::successors;
+
+#[derive(Debug, Clone, PartialEq, Eq)]
+pub struct Columns {
+    pub of_edges: Vec<usize>,
+    /// How many there are.
+    pub count: usize,
+    /// The links with a mass row.
+    pub mass_rows: Vec<usize>,
+}
+
+impl Columns {
+    pub fn of(file: &NetworkFile) -> Self {
+        let chains = Chains { file, joints: (0..file.nodes.len()).map(|node| plain_joint(file, node)).collect() };
+        let lowest: Vec<usize> = (0..file.edges.len()).map(|edge| chains.lowest(edge)).collect();
+        let columns: Vec<usize> = (0..lowest.len()).filter(|&edge| lowest[edge] == edge).collect();
+        let of_edges = lowest.iter().map(|edge| columns.iter().position(|begun_by| begun_by == edge).unwrap());
+        let has_mass_row = |&node: &usize| file.nodes[node].kind == NodeType::Link && chains.joints[node].is_none();
+        Self {
+            of_edges: of_edges.collect(),
+            count: columns.len(),
+            mass_rows: (0..file.nodes.len()).filter(has_mass_row).collect(),
+        }
+    }
+}
+
+/// The one edge into a link and the one out of it.
+type Joint = [usize; 2];
+
+fn plain_joint(file: &NetworkFile, node: usize) -> Option<Joint> {
+    let edges = |end: fn(&(usize, usize)) -> usize| {
+        (0..file.edges.len()).filter(|&edge| end(&file.edges[edge]) == node).collect::<Vec<usize>>()
+    };
+    match (file.nodes[node].kind, &edges(|edge| edge.1)[..], &edges(|edge| edge.0)[..]) {
+        (NodeType::Link, &[inwards], &[outwards]) => Some([inwards, outwards]),
+        _ => None,
+    }
+}
+
+struct Chains<'a> {
+    file: &'a NetworkFile,
+    /// Of each node that is a plain joint.
+    joints: Vec<Option<Joint>>,
+}
+
+impl Chains<'_> {
+    fn below(&self, edge: usize) -> Option<usize> {
+        self.joints[self.file.edges[edge].1].map(|[_, outwards]| outwards)
+    }
+
+    fn above(&self, edge: usize) -> Option<usize> {
+        self.joints[self.file.edges[edge].0].map(|[inwards, _]| inwards)
+    }
+
+    /// The lowest edge of a chain: down and up from one of its edges as far as plain joints go, or once round a ring.
+    fn lowest(&self, edge: usize) -> usize {
+        let walk = |next: fn(&Self, usize) -> Option<usize>| {
+            successors(next(self, edge), move |&at| next(self, at)).take_while(move |&at| at != edge)
+        };
+        walk(Self::below).chain(walk(Self::above)).fold(edge, usize::min)
+    }
+}
