@@ -48,7 +48,7 @@ use Rattle.pywr.proofs.FixedLaws.{bounds, room, node-amount, varying-ex
 
 -- ---- lists
 
-kind-found : (xs : List Node) (n : ℕ) → T (eqb (kindOf xs n) link) → (x : Node) × (getElem? xs n ≡ some x) × T (eqb (x .kind) link)
+pub kind-found : (xs : List Node) (n : ℕ) → T (eqb (kindOf xs n) link) → (x : Node) × (getElem? xs n ≡ some x) × T (eqb (x .kind) link)
 unfolding kindOf noNode
 kind-found [] n t = absurd t
 kind-found (y ∷ ys) zero t = (y, refl, t)

@@ -5,10 +5,10 @@ use native.Mathlib.Omega.{arith}
 use mathlib.Core.Bool.{Bool, true, false, cond}
 use mathlib.Core.List.{List, [], _∷_}
 use mathlib.Core.Option.{Option, none, some, Option·getD}
-use lib.ListN.{length, getD, getElem?}
+use lib.ListN.{length, getD}
 use lib.Dec.{T, eqb, eqb→eq, eqb-refl}
 use Rattle.laws.proofs.Tests.{of-true}
-use Rattle.pywr.specs.Network.{link, Node, Network, kindOf, incoming, outgoing}
+use Rattle.pywr.specs.Network.{link, Network, kindOf}
 use Rattle.pywr.specs.ColEdgeMap.{columns, columnAt, columnOf}
 use Rattle.pywr.specs.Rows.{columnMap, massRow}
 use Rattle.pywr.proofs.ColumnLaws.{Related}
@@ -16,8 +16,9 @@ use Rattle.pywr.proofs.LinkLaws.{NoSelf, columns-related}
 use Rattle.pywr.proofs.TurnLaws.{columns-placed, columns-joined, columns-begun, columns-ranked}
 use Rattle.pywr.proofs.MassLaws.{dropped-single, single-dropped}
 use Rattle.pywr.proofs.FitLaws.{columns-long}
-use Rattle.pywr.proofs.ListLaws.{below-found, not-found, same-some}
+use Rattle.pywr.proofs.ListLaws.{not-found, same-some}
 use Rattle.pywr.proofs.ReadLaws.{Sound, read-sound}
+use Rattle.pywr.proofs.StepMeets.{kind-found}
 use Rattle.theorem_file_order.specs.ColumnClasses.{PlainJoint, Joined, itself, downstream, upstream, ColumnClasses, ColumnsAreClasses}
 use Rattle.theorem_file_order.proofs.Joints.{single, leaves, joint-shares, shares-joint, joined-equivalence}
 
@@ -104,19 +105,13 @@ module _ (net : Network) (noself : NoSelf net) where
       let m = r .1 in
       omega arith
 
-pub kind-found : (xs : List Node) (i : ℕ) (x : Node) → getElem? xs i ≡ some x → kindOf xs i ≡ x .kind
-unfolding kindOf
-kind-found [] i x h = not-found x h
-kind-found (y ∷ ys) zero x h = ap (λ (z : Node). z .kind) (same-some y x h)
-kind-found (y ∷ ys) (suc i) x h = kind-found ys i x h
-
 -- ---- the mass row of a link
 
-module _ (net : Network) (sound : Sound net) (n : ℕ) (under : n < length (net .nodes)) (isLink : T (eqb (kindOf (net .nodes) n) link)) where
+module _ (net : Network) (sound : Sound net) (n : ℕ) (isLink : T (eqb (kindOf (net .nodes) n) link)) where
   pub dropped-joint : length (massRow (columnMap net) n) ≡ 1 → (into : ℕ) × (out : ℕ) × PlainJoint net n into out
   dropped-joint one =
-      let x = below-found (net .nodes) n under in
-      let j = sound .links n (x .0) (x .1) (subst (λ (k : ℕ). T (eqb k link)) (kind-found (net .nodes) n (x .0) (x .1)) isLink) in
+      let x = kind-found (net .nodes) n isLink in
+      let j = sound .links n (x .0) (x .1) (x .2) in
       let s = dropped-single net (sound .noself) (columns-long net) n (j .a) (j .b) (j .mi) (j .mo) (j .ins) (j .outs) one in
       (s .0, s .1 .exit, record { isLink = isLink; oneIn = s .1 .into-is; oneOut = s .1 .out-is })
 
@@ -133,7 +128,7 @@ column-classes net sound =
       lies = lowest-lies net noself;
       least = lowest-least net noself;
       rising = lowest-rising net noself;
-      dropped = λ n h t. (dropped-joint net sound n h t, λ j. joint-dropped net sound n h t (j .0) (j .1) (j .2));
+      dropped = λ n t. (dropped-joint net sound n t, λ j. joint-dropped net sound n t (j .0) (j .1) (j .2));
     }
 
 pub columns-are-classes : ColumnsAreClasses

@@ -36,7 +36,7 @@ pub record ColumnClasses (net : Network) : Type 0 where
   pub least : (edge : ℕ) → edge < length (net .edges) → lowest (columnOf net edge) ≤ edge
   pub rising : (column later : ℕ) → column < later → later < columns net .count → lowest column < lowest later
   -- document 01's "dropped exactly if it has one distinct column": a link's mass row is dropped exactly at a plain joint
-  pub dropped : (node : ℕ) → node < length (net .nodes) → T (eqb (kindOf (net .nodes) node) link)
+  pub dropped : (node : ℕ) → T (eqb (kindOf (net .nodes) node) link)
       → (length (massRow (columnMap net) node) ≡ 1) ↔ ((into : ℕ) × (out : ℕ) × PlainJoint net node into out)
 
 -- of every network that is read from a file
