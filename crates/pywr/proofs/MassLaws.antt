@@ -5,9 +5,9 @@ use Prim.Native.Nat.{ℕ, zero, suc, _+_, _*_, _^_, _<_, zero-le, suc-le-suc}
 use native.Mathlib.Nat.{add-zero, add-suc, suc-add, zero-add, eq-of-mul-eq-mul-right, zero-mul, mul-pos}
 use native.Mathlib.Omega.{arith}
 use mathlib.Core.Bool.{Bool, true, false, cond, not, _&&_}
-use mathlib.Core.List.{List, [], _∷_, _++_, List·Memᴰ, List·Memᴰ·head, List·Memᴰ·tail, List·Memᴰ·not-nil, List·Memᴰ·cases-cons, List·Memᴰ·eq-of-singleton}
-use mathlib.Core.Option.{Option, some, Option·getD}
-use lib.ListN.{length, getElem?}
+use mathlib.Core.List.{List, [], _∷_, _++_, List·Memᴰ, List·Memᴰ·head, List·Memᴰ·tail, List·Memᴰ·not-nil, List·Memᴰ·cases-cons, map}
+use mathlib.Core.Option.{Option, none, some, Option·getD}
+use lib.ListN.{length, getD, getElem?}
 use lib.IntN.{ℤ, pos, negsuc, negℤ, _+ℤ_, _-ℤ_, +ℤ-invr, natAbs, -ℤ-+ℤ-cancel}
 use lib.Signed.{leZ}
 use lib.Dec.{T, eqb, leb, eqb→eq, eqb-refl, leb→le}
@@ -17,7 +17,7 @@ use Rattle.pywr.specs.declared.Sentinel.{Sentinel}
 use Rattle.pywr.specs.declared.Sentinel.the-variants.{Infinity, Largest}
 use Rattle.pywr.specs.Numbers.{zero64, one64, high, low}
 use Rattle.pywr.specs.Network.{link, Node, Edge, Network, kindOf, keepIf, source, target, edgesWith, incoming, outgoing}
-use Rattle.pywr.specs.ColEdgeMap.{columns, columnAt, MappedEdge, withColumns, mappedEdges}
+use Rattle.pywr.specs.ColEdgeMap.{columns, columnAt, MappedEdge, withColumns, mappedEdges, columnOf}
 use Rattle.pywr.specs.Rows.{Element, element, addElement, addOn, ColumnMap, columnMap, columnsWith, columnsInto, columnsOutOf, massRow}
 use Rattle.pywr.specs.Programme.{Row}
 use Rattle.pywr.specs.FixedRows.{massRowsFrom}
@@ -99,26 +99,23 @@ pipe-for (y ∷ ys) (c ∷ cs) (suc e) x l h =
 
 -- ---- a link's row is dropped exactly if the link has one edge in and one out
 
--- as many columns as edges
-columns-count : (pe : MappedEdge → ℕ) (ee : Edge → ℕ) → ((x : Edge) (k : ℕ) → pe (record { from = x .from; to = x .to; column = k }) ≡ ee x) → (n i : ℕ) (es : List Edge) (cs : List (Option ℕ))
-    → length es ≡ length cs → length (columnsWith pe n (withColumns es cs)) ≡ length (edgesWith ee n i es)
-unfolding withColumns columnsWith edgesWith keepIf
-columns-count pe ee same n i [] cs l = refl
-columns-count pe ee same n i (x ∷ xs) [] l = let z : suc (length xs) ≡ 0 = l in absurd (omega arith)
-columns-count pe ee same n i (x ∷ xs) (c ∷ cs) l =
-    ap (λ (m : ℕ). length (keepIf (eqb m n) (Option·getD c 0) (columnsWith pe n (withColumns xs cs)))) (same x (Option·getD c 0))
-    ∙ go (eqb (ee x) n) (columns-count pe ee same n (suc i) xs cs (let z : suc (length xs) ≡ suc (length cs) = l in omega arith))
-  where
-    go : (b : Bool) → length (columnsWith pe n (withColumns xs cs)) ≡ length (edgesWith ee n (suc i) xs)
-        → length (keepIf b (Option·getD c 0) (columnsWith pe n (withColumns xs cs))) ≡ length (keepIf b i (edgesWith ee n (suc i) xs))
-    go true e = ap suc e
-    go false e = e
+map-keep : (f : ℕ → ℕ) (b : Bool) (x : ℕ) (xs : List ℕ) → map f (keepIf b x xs) ≡ keepIf b (f x) (map f xs)
+unfolding keepIf
+map-keep f true x xs = refl
+map-keep f false x xs = refl
 
--- the only member of a list of one
-alone-in : (k : ℕ) (ks : List ℕ) → length ks ≡ 1 → List·Memᴰ k ks → ks ≡ k ∷ []
-alone-in k [] l m = absurd (List·Memᴰ·not-nil m)
-alone-in k (x ∷ []) l m = ap (λ (y : ℕ). y ∷ []) (sym (List·Memᴰ·eq-of-singleton m))
-alone-in k (x ∷ y ∷ ks) l m = let z : suc (suc (length ks)) ≡ 1 = l in absurd (omega arith)
+-- the columns of the edges with one end at a node are those of its list of edges
+module _ (end : MappedEdge → ℕ) (side : Edge → ℕ) (same : (x : Edge) (k : ℕ) → end (record { from = x .from; to = x .to; column = k }) ≡ side x) (n : ℕ) (f : ℕ → ℕ) where
+  pub columns-with : (es : List Edge) (cs : List (Option ℕ)) (i : ℕ) → length es ≡ length cs → ((j : ℕ) → f (i + j) ≡ Option·getD (getD cs j none) 0)
+      → columnsWith end n (withColumns es cs) ≡ map f (edgesWith side n i es)
+  unfolding columnsWith withColumns edgesWith
+  columns-with [] cs i l h = refl
+  columns-with (x ∷ es) [] i l h = absurd (omega (arith, l))
+  columns-with (x ∷ es) (c ∷ cs) i l h =
+      let here : f i ≡ Option·getD c 0 = ap f (sym (add-zero i)) ∙ h 0 in
+      let rest : columnsWith end n (withColumns es cs) ≡ map f (edgesWith side n (suc i) es) =
+      columns-with es cs (suc i) (omega (arith, l)) (λ j. ap f (suc-add i j ∙ sym (add-suc i j)) ∙ h (suc j)) in
+      rw (same x (Option·getD c 0), rest, ← here) (sym (map-keep f (eqb (side x) n) i (edgesWith side n (suc i) es)))
 
 one-element : (k : ℕ) (into out : List ℕ) → into ≡ k ∷ [] → out ≡ k ∷ [] → length (addOn out (neg one64) (addOn into one64 [])) ≡ 1
 unfolding addOn
@@ -128,14 +125,12 @@ module _ (net : Network) (noself : NoSelf net) (long : length (net .edges) ≡ l
   abbrev f : ColumnMap
   f = columnMap net
 
-  -- edge e's column is one of the columns cs, and of the row
-  record InMass (cs : List ℕ) (e : ℕ) : Type 0 where
+  record InMass (e : ℕ) : Type 0 where
     pipe : MappedEdge
     found : getElem? (mappedEdges net) e ≡ some pipe
-    member : List·Memᴰ (pipe .column) cs
     has : HasColumn (pipe .column) (massRow f n)
 
-  in-mass : (e : ℕ) → List·Memᴰ e (incoming net n) → InMass (columnsInto n (mappedEdges net)) e
+  in-mass : (e : ℕ) → List·Memᴰ e (incoming net n) → InMass e
   unfolding incoming massRow columnMap mappedEdges columnsInto
   in-mass e m =
       let r = ends-sound target n 0 e (net .edges) m in
@@ -145,18 +140,17 @@ module _ (net : Network) (noself : NoSelf net) (long : length (net .edges) ≡ l
       record {
         pipe = p .pipe;
         found = p .found;
-        member = c;
         has = still-on (p .pipe .column) (columnsOutOf n (mappedEdges net)) (neg one64) _ (added-on (p .pipe .column) (columnsInto n (mappedEdges net)) one64 [] c);
       }
 
-  out-mass : (e : ℕ) → List·Memᴰ e (outgoing net n) → InMass (columnsOutOf n (mappedEdges net)) e
+  out-mass : (e : ℕ) → List·Memᴰ e (outgoing net n) → InMass e
   unfolding outgoing massRow columnMap mappedEdges columnsOutOf
   out-mass e m =
       let r = ends-sound source n 0 e (net .edges) m in
       let x : getElem? (net .edges) e ≡ some (r .edge) = ap (getElem? (net .edges)) (r .where-at ∙ zero-add (r .at)) ∙ r .found in
       let p = pipe-for (net .edges) (columns net .of) e (r .edge) long x in
       let c = column-member (λ q. q .from) n (mappedEdges net) e (p .pipe) (p .found) (p .from-is ∙ r .ends) in
-      record { pipe = p .pipe; found = p .found; member = c; has = added-on (p .pipe .column) (columnsOutOf n (mappedEdges net)) (neg one64) _ c }
+      record { pipe = p .pipe; found = p .found; has = added-on (p .pipe .column) (columnsOutOf n (mappedEdges net)) (neg one64) _ c }
 
   -- a link has an edge in and an edge out (refusal 8)
   pub dropped-single : (a b : ℕ) (mi mo : List ℕ) → incoming net n ≡ a ∷ mi → outgoing net n ≡ b ∷ mo → length (massRow f n) ≡ 1 → (p : ℕ) × Single (incoming net n) (outgoing net n) p
@@ -171,22 +165,15 @@ module _ (net : Network) (noself : NoSelf net) (long : length (net .edges) ≡ l
 
   -- and the other way: the two edges lie in one column, whatever the order of the file
   pub single-dropped : T (eqb (kindOf (net .nodes) n) link) → (p : ℕ) → Single (incoming net n) (outgoing net n) p → length (massRow f n) ≡ 1
-  unfolding massRow columnMap columnsInto columnsOutOf incoming outgoing mappedEdges
+  unfolding massRow columnMap columnsInto columnsOutOf incoming outgoing mappedEdges columnOf columnAt
   single-dropped isLink p s =
-      let e : ℕ = s .exit in
-      let mp : List·Memᴰ p (incoming net n) = subst (λ (l : List ℕ). List·Memᴰ p l) (sym (s .into-is)) (List·Memᴰ·head refl) in
-      let me : List·Memᴰ e (outgoing net n) = subst (λ (l : List ℕ). List·Memᴰ e l) (sym (s .out-is)) (List·Memᴰ·head refl) in
-      let ip = in-mass p mp in
-      let ie = out-mass e me in
       let t = across-joined net noself n p s isLink in
-      let cp = mapped-edge-of net noself p (ip .pipe) (ip .found) .column in
-      let ce = mapped-edge-of net noself e (ie .pipe) (ie .found) .column in
-      let first = t .first in
-      let second = t .second in
-      let same : ie .pipe .column ≡ ip .pipe .column = cc in
-      one-element (ip .pipe .column) _ _
-      (alone-in (ip .pipe .column) _ (columns-count (λ q. q .to) target (λ x k. refl) n 0 (net .edges) (columns net .of) long ∙ ap length (s .into-is)) (ip .member))
-      (alone-in (ip .pipe .column) _ (columns-count (λ q. q .from) source (λ x k. refl) n 0 (net .edges) (columns net .of) long ∙ ap length (s .out-is)) (subst (λ (k : ℕ). List·Memᴰ k (columnsOutOf n (mappedEdges net))) same (ie .member)))
+      let same : columnOf net (s .exit) ≡ columnOf net p = ap (λ (o : Option ℕ). Option·getD o 0) (t .first ∙ sym (t .second)) in
+      one-element (columnOf net p) _ _
+      (columns-with (λ q. q .to) target (λ x k. refl) n (columnOf net) (net .edges) (columns net .of) 0 long (λ j. ap (columnOf net) (zero-add j))
+      ∙ ap (map (columnOf net)) (s .into-is))
+      (columns-with (λ q. q .from) source (λ x k. refl) n (columnOf net) (net .edges) (columns net .of) 0 long (λ j. ap (columnOf net) (zero-add j))
+      ∙ ap (map (columnOf net)) (s .out-is) ∙ ap (λ (k : ℕ). k ∷ []) same)
 
 -- ---- a dropped row's link balances
 

@@ -13,7 +13,7 @@ use Rattle.pywr.specs.ColEdgeMap.{columns, columnAt, columnOf}
 use Rattle.pywr.specs.Rows.{columnMap, massRow}
 use Rattle.pywr.proofs.ColumnLaws.{Related}
 use Rattle.pywr.proofs.LinkLaws.{NoSelf, columns-related}
-use Rattle.pywr.proofs.TurnLaws.{columns-placed, columns-joined, columns-begun, columns-ranked}
+use Rattle.pywr.proofs.TurnLaws.{column-is, columns-joined, columns-begun, columns-ranked}
 use Rattle.pywr.proofs.MassLaws.{dropped-single, single-dropped}
 use Rattle.pywr.proofs.FitLaws.{columns-long}
 use Rattle.pywr.proofs.ListLaws.{not-found, same-some}
@@ -44,12 +44,6 @@ is-first k (some j ∷ cs) e h = go (eqb j k) refl e h (λ d q. is-first k cs d 
     go false q (suc d) h ih = let r = ih d h in (r .0, suc-le-suc (r .1))
 
 module _ (net : Network) (noself : NoSelf net) where
-  -- ---- every edge has its column
-
-  pub column-is : (e : ℕ) → e < length (net .edges) → columnAt (columns net) e ≡ some (columnOf net e)
-  unfolding columnOf
-  column-is e h = let w = columns-placed net noself e h in w .1 ∙ ap {B = Option ℕ} some (ap (λ (o : Option ℕ). Option·getD o 0) (sym (w .1)))
-
   pub column-of : (e k : ℕ) → columnAt (columns net) e ≡ some k → columnOf net e ≡ k
   unfolding columnOf
   column-of e k q = ap (λ (o : Option ℕ). Option·getD o 0) q
@@ -70,10 +64,10 @@ module _ (net : Network) (noself : NoSelf net) where
   related = columns-related net noself (Joined net) (joined-equivalence net) (λ e p h. let j = shares-joint net p e h in upstream (j .0) (j .1) itself)
 
   pub column-joined : (e f : ℕ) → e < length (net .edges) → f < length (net .edges) → columnOf net e ≡ columnOf net f → Joined net e f
-  column-joined e f he hf q = related .same e f (columnOf net f) (column-is e he ∙ ap {B = Option ℕ} some q) (column-is f hf)
+  column-joined e f he hf q = related .same e f (columnOf net f) (column-is net noself e he ∙ ap {B = Option ℕ} some q) (column-is net noself f hf)
 
   pub column-below : (e : ℕ) → e < length (net .edges) → columnOf net e < columns net .count
-  column-below e h = related .below e (columnOf net e) (column-is e h)
+  column-below e h = related .below e (columnOf net e) (column-is net noself e h)
 
   -- ---- the lowest edges
 
@@ -93,12 +87,12 @@ module _ (net : Network) (noself : NoSelf net) where
       (omega arith, column-of (lowest k) k (r .0))
 
   pub lowest-least : (e : ℕ) → e < length (net .edges) → lowest (columnOf net e) ≤ e
-  lowest-least e h = first-of (columnOf net e) e (column-is e h) .1
+  lowest-least e h = first-of (columnOf net e) e (column-is net noself e h) .1
 
   pub lowest-rising : (k l : ℕ) → k < l → l < columns net .count → lowest k < lowest l
   lowest-rising k l h i =
       let w = lowest-lies l i in
-      let at : columnAt (columns net) (lowest l) ≡ some l = column-is (lowest l) (w .0) ∙ ap {B = Option ℕ} some (w .1) in
+      let at : columnAt (columns net) (lowest l) ≡ some l = column-is net noself (lowest l) (w .0) ∙ ap {B = Option ℕ} some (w .1) in
       let u = columns-ranked net noself (lowest l) k l at h in
       let r = first-of k (u .edge) (u .is) in
       let b = u .below in
