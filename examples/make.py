@@ -210,6 +210,13 @@ def check(name, records, data):
     print("%s: %d bytes; %s" % (name, len(data), counts))
 
 
+def print_records(records):  # in hexadecimal, each with its offset and what it is
+    at = 0
+    for what, record in records:
+        print("# %d: %s\n%s" % (at, what, record.hex(" ")))
+        at += len(record)
+
+
 here = pathlib.Path(__file__).resolve().parent
 NETWORKS = {"worked": WORKED, "supply": SUPPLY, "returns": RETURNS, "intake": INTAKE, "pumps": PUMPS}
 NETWORKS |= {"chain_downstream": keyed(0, 1, 2, 3), "chain_by_age": keyed(1, 3, 2, 0)}
@@ -218,10 +225,7 @@ if __name__ == "__main__":
         name += ".network"
         if "--dump" in sys.argv:
             print("# " + name)
-            at = 0
-            for what, record in records:
-                print("# %d: %s\n%s" % (at, what, record.hex(" ")))
-                at += len(record)
+            print_records(records)
         elif "--check" in sys.argv:
             check(name, records, (here / name).read_bytes())
         else:

@@ -7,7 +7,7 @@
 import sys
 from fractions import Fraction
 
-from make import OUTPUT, RETURNS, here, read
+from make import OUTPUT, RETURNS, here, print_records, read
 from steps import MASS, NODE, VIRTUAL_STORAGE, by, column_costs, date, node_step, programme_text, read_step, storage_step, virtual_interval
 
 NODES, EDGES, _, STORAGES = read(b"".join(record for _, record in RETURNS))
@@ -74,10 +74,7 @@ def print_plans(data):
 
 if __name__ == "__main__":
     if "--dump" in sys.argv:
-        at = 0
-        for what, record in STEP:
-            print("# %d: %s\n%s" % (at, what, record.hex(" ")))
-            at += len(record)
+        print_records(STEP)
     elif "--check" in sys.argv:
         data = (here / "returns.step").read_bytes()
         assert data == step_file(), "returns.step is not what this script writes"

@@ -102,12 +102,31 @@ def read_step(nodes, aggregates, storages, data, exclusive=()):
     return ((month, day), days, *records)
 
 
-def column_costs(kinds, edges, costs):  # edges: (from, to, column); added in edge order from 0.0
+def edge_cost(kinds, costs, start, end):
+    out = costs[start] / 2 if kinds[start] == LINK else -costs[start] if kinds[start] == STORAGE else costs[start]
+    into = costs[end] / 2 if kinds[end] == LINK else costs[end]
+    return out + into
+
+
+def downstream(kinds, ends):  # the numbers of the edges (from, to) in flow order: the paths from their first edges, then closed rings from their lowest
+    after = {}  # of an edge that enters a link with one edge in and one out, the edge that leaves it
+    for n, kind in enumerate(kinds):
+        into, out = ([e for e, edge in enumerate(ends) if edge[k] == n] for k in (1, 0))
+        if kind == LINK and len(into) == len(out) == 1:
+            after[into[0]] = out[0]
+    order = []
+    for edge in [e for e in range(len(ends)) if e not in after.values()] + list(range(len(ends))):
+        while edge is not None and edge not in order:
+            order.append(edge)
+            edge = after.get(edge)
+    return order
+
+
+def column_costs(kinds, edges, costs):  # edges: (from, to, column); added downstream from 0.0
     sums = [0.0] * (1 + max(column for _, _, column in edges))
-    for start, end, column in edges:
-        out = costs[start] / 2 if kinds[start] == LINK else -costs[start] if kinds[start] == STORAGE else costs[start]
-        into = costs[end] / 2 if kinds[end] == LINK else costs[end]
-        sums[column] += out + into
+    for e in downstream(kinds, [edge[:2] for edge in edges]):
+        start, end, column = edges[e]
+        sums[column] += edge_cost(kinds, costs, start, end)
     return sums
 
 

@@ -7,7 +7,7 @@ import itertools
 import math
 import sys
 
-from make import INTAKE, Refused, here, read
+from make import INTAKE, Refused, here, print_records, read
 from steps import AGGREGATE, EXCLUSIVITY, MASS, NODE, VIRTUAL_STORAGE
 from steps import aggregate_step, by, column_costs, date, is_active, node_step, programme_text, read_step, storage_interval, storage_step
 from steps import tightened, virtual_interval
@@ -122,10 +122,7 @@ def check(month, data, make_records=records, find_answer=answer):
 def dump(make_records=records):
     for month in range(1, 13):
         print("# %02d.step" % month)
-        at = 0
-        for what, record in make_records(month):
-            print("# %d: %s\n%s" % (at, what, record.hex(" ")))
-            at += len(record)
+        print_records(make_records(month))
 
 
 def write(folder, make_records=records):

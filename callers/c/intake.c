@@ -1,5 +1,5 @@
-/* intake NETWORK: builds examples/intake.network, prints who made each row, runs steps on it and prints what they leave. It exits with 1 where the
- * network is refused or its file cannot be read, with 2 where it is called otherwise. */
+/* intake NETWORK: builds examples/intake.network, prints who made each row and in which order costs add, runs steps on it and prints what they leave. It
+ * exits with 1 where the network is refused or its file cannot be read, with 2 where it is called otherwise. */
 #include "pywr.h"
 
 #include <errno.h>
@@ -106,6 +106,15 @@ static void print_makers(size_t rows)
     }
 }
 
+/* In which order a step adds the edges' costs into the columns. */
+static void print_flow_order(void)
+{
+    printf("costs add by edges:");
+    for (int e = 0; e < shape[PYWR_EDGE_COUNT]; e++)
+        printf(" %u", (unsigned)shape[PYWR_FLOW_ORDER_AT + e]);
+    printf("\n");
+}
+
 static void print_costs(void)
 {
     printf("  costs:");
@@ -173,6 +182,7 @@ int main(int count, char **arguments)
     print_rows(0, rows);
     printf("made by:\n");
     print_makers(rows);
+    print_flow_order();
 
     static File winter, wrong, cut, summer;
     put_day(&winter, 1, 15, 40, 80, 20);

@@ -12,7 +12,8 @@
  *   elements                             PYWR_ELEMENTS        row r's from row_starts[r] up to row_starts[r + 1]
  *   columns                              PYWR_ELEMENTS        the column of each element, rising in a row
  *   row_starts                           PYWR_ROW_STARTS      the rows' starts and, last, the element count
- *   shape                                PYWR_SHAPE           counts (PYWR_.._COUNT below), what a step needs, who made each row
+ *   shape                                PYWR_SHAPE           counts (PYWR_.._COUNT below), what a step needs, who made each row,
+ *                                                             the edges in flow order
  *
  * A run may be longer. What lies beyond the counts is left as it was. A refused call leaves the store as it was, byte for byte.
  *
@@ -36,11 +37,11 @@ extern "C" {
 #define PYWR_ROWS 1024
 #define PYWR_ELEMENTS 4096
 #define PYWR_ROW_STARTS 1025
-#define PYWR_SHAPE 22795
+#define PYWR_SHAPE 23307
 
 /* The least lengths of the work runs: words and numbers of a build, work of a step. They need not be cleared before a call; they are
  * zero throughout after it, but as they were after 16. */
-#define PYWR_BUILD_WORDS 27916
+#define PYWR_BUILD_WORDS 28428
 #define PYWR_BUILD_NUMBERS 6784
 #define PYWR_STEP_WORK 704
 
@@ -61,6 +62,9 @@ extern "C" {
 /* Where the makers of the rows stand in shape, PYWR_MAKER_WIDTH words a row: kind, index, how many makers share the row. */
 #define PYWR_MAKERS_AT 19723
 #define PYWR_MAKER_WIDTH 3
+
+/* Where the edges' numbers stand in shape, a word for each edge, in the order in which a step adds their costs: each column's in flow order. */
+#define PYWR_FLOW_ORDER_AT 22795
 
 /* The kind of a row's first maker, and what its index counts. An exclusive node's rows are of kind PYWR_MAKER_NODE. */
 enum pywr_maker_kind {

@@ -1,4 +1,6 @@
 //! Runs the port beside the reference on one case.
+use crate::columns::{self, Path};
+use crate::flow_costs::CostCounts;
 use crate::generate::Case;
 use crate::port::{Answer, Port};
 use crate::reference::{InBoth, Unions};
@@ -50,6 +52,20 @@ impl ByUnions {
     }
 }
 
+/// How many networks that reached the columns have a closed ring, and a column whose flow order is not its edge order.
+#[derive(Debug, Clone, Copy, Default)]
+pub struct ByPaths {
+    pub closed: u64,
+    pub keyed_otherwise: u64,
+}
+
+impl ByPaths {
+    fn count(&mut self, paths: &[Path]) {
+        self.closed += paths.iter().any(|path| path.closed) as u64;
+        self.keyed_otherwise += !paths.iter().all(Path::is_in_edge_order) as u64;
+    }
+}
+
 /// What was reached, and how much of it was compared with the port.
 #[derive(Debug, Default)]
 pub struct Tally {
@@ -58,6 +74,8 @@ pub struct Tally {
     pub builds_compared: u64,
     pub steps_compared: u64,
     pub by_unions: ByUnions,
+    pub by_paths: ByPaths,
+    pub costs: CostCounts,
     pub in_both: InBoth,
 }
 
@@ -66,6 +84,7 @@ impl Tally {
     fn build(&mut self, case: &Case, sentinel: Sentinel) -> Result<Reference, Refusal> {
         let built = Reference::build_of_any_size(&case.network, sentinel);
         let unions = built.as_ref().map(Reference::unions).ok();
+        built.iter().for_each(|built| self.by_paths.count(built.paths()));
         let build = built.and_then(Reference::within_ceilings);
         if let Some(unions) = unions {
             self.by_unions.count(unions, build.is_ok());
@@ -83,10 +102,19 @@ impl Tally {
         }
     }
 
-    /// Counts what the altered and the unaltered Rust both ran of a case.
-    fn count_in_both(&mut self, reference: &Reference) {
-        self.in_both.builds += reference.in_both().builds;
-        self.in_both.steps += reference.in_both().steps;
+    /// Counts what the altered and the unaltered Rust both ran of a case, and the costs that were looked at.
+    fn count_run(&mut self, reference: &Reference) {
+        let InBoth { builds, steps, costs, costs_unlike } = reference.in_both();
+        let both = &mut self.in_both;
+        for (count, more) in [
+            (&mut both.builds, builds),
+            (&mut both.steps, steps),
+            (&mut both.costs, costs),
+            (&mut both.costs_unlike, costs_unlike),
+        ] {
+            *count += more;
+        }
+        self.costs += reference.cost_counts();
     }
 
     /// How often the Rust reached the retired number.
@@ -110,8 +138,11 @@ pub fn compare(case: &Case, port: &mut Option<Box<dyn Port>>, tally: &mut Tally)
             if port.columns_of_edges().is_some_and(|columns| columns != reference.columns_of_edges()) {
                 return Err("build: the columns of edges differ".into());
             }
+            if port.flow_order().is_some_and(|order| order != columns::flow_order(reference.paths())) {
+                return Err("build: the edges in flow order differ".into());
+            }
             compare_steps(case, &mut reference, port, tally)?;
-            tally.count_in_both(&reference);
+            tally.count_run(&reference);
             Ok(())
         }
         Err(_) => Ok(()),
@@ -137,7 +168,7 @@ fn run_alone(case: &Case, sentinel: Sentinel, tally: &mut Tally) -> Result<(), S
         for (k, step) in case.steps.iter().enumerate() {
             tally.count_step(reference.step(step)).map_err(|e| format!("step {k}: {e}"))?;
         }
-        tally.count_in_both(&reference);
+        tally.count_run(&reference);
     }
     Ok(())
 }

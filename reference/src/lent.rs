@@ -1,6 +1,6 @@
 //! The buffers lent to the library: filled with a pattern before a call, and looked at after it.
 use crate::random::Random;
-use crate::store_shape::Counts;
+use crate::store_shape::{Counts, TABLES};
 use pywr::Store;
 
 /// A store whose runs are up to two longer than they must be, all bits at random.
@@ -89,7 +89,7 @@ pub fn kept_from(old: &Store, new: &Store, from: &Kept) -> Result<(), String> {
     if old.row_starts[from.row_starts..] != new.row_starts[from.row_starts..] {
         return Err("row_starts is written where it must not be".into());
     }
-    let tables = from.tables.map_or([(0, 0); 7], |counts| counts.tables());
+    let tables = from.tables.map_or([(0, 0); TABLES], |counts| counts.tables());
     let mut shape = new.shape.clone();
     for (start, length) in tables {
         shape[start..start + length].copy_from_slice(&old.shape[start..start + length]);

@@ -8,6 +8,9 @@ pub mod comparison;
 pub mod correspondence;
 pub mod exact;
 pub mod fields;
+pub mod flow_costs;
+#[cfg(feature = "library")]
+pub mod flow_order_faults;
 pub mod generate;
 #[cfg(feature = "library")]
 pub mod lent;

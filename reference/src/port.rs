@@ -24,6 +24,10 @@ pub trait Port {
     fn columns_of_edges(&self) -> Option<Vec<usize>> {
         None
     }
+    /// The edges in flow order after a build, if the port tells.
+    fn flow_order(&self) -> Option<Vec<usize>> {
+        None
+    }
     /// What it has tried besides the cases that it was given.
     fn report(&self) -> Option<String> {
         None

@@ -1,15 +1,18 @@
 //! The port through its static library: builds with both sentinels, steps, rows read by their own call. Every call is looked at for what it
 //! writes and does not write, and each case has faults of a calling program of its own: 16 to 18.
+use crate::flow_costs::Costs;
 use crate::lent::{self, Kept};
 use crate::port::{Answer, Port};
 use crate::programme::{Column, Programme, Row};
 use crate::random::Random;
-use crate::store_shape::{COUNTS, Counts, EDGES, MAKERS, NODES, VIRTUAL_STORAGES, misshapen};
-use crate::{Maker, NetworkFile, Refusal, Sentinel, maker_faults};
+use crate::store_shape::{COUNTS, Counts, EDGES, FLOW_ORDER, MAKERS, NODES, VIRTUAL_STORAGES, misshapen};
+use crate::{Maker, NetworkFile, Refusal, Sentinel, flow_order_faults, maker_faults, step_file};
 use pywr::{BUILD_NUMBERS, BUILD_WORDS, STEP_WORK, Store};
 
 pub struct Library {
     store: Store,
+    /// The network that the store was built of.
+    file: NetworkFile,
     random: Random,
     /// Whether the rows are still to be read one by one: a step leaves their columns.
     fresh: bool,
@@ -18,8 +21,9 @@ pub struct Library {
     pub misshapen: u64,
     pub no_row: u64,
     pub damaged_well: u64,
-    /// How often each fault in a maker was tried.
+    /// How often each fault in a maker was tried, and in the table of the edges in flow order.
     pub maker_faults: maker_faults::Tried,
+    pub flow_order_faults: flow_order_faults::Tried,
 }
 
 type Checked = Result<(), String>;
@@ -34,9 +38,18 @@ fn refusal(r: pywr::Refusal) -> Refusal {
 
 impl Library {
     pub fn new() -> Self {
-        let maker_faults = maker_faults::Tried::default();
-        let store = Store::new();
-        Self { store, random: Random::new(0), fresh: false, short: 0, misshapen: 0, no_row: 0, damaged_well: 0, maker_faults }
+        Self {
+            store: Store::new(),
+            file: NetworkFile::default(),
+            random: Random::new(0),
+            fresh: false,
+            short: 0,
+            misshapen: 0,
+            no_row: 0,
+            damaged_well: 0,
+            maker_faults: maker_faults::Tried::default(),
+            flow_order_faults: flow_order_faults::Tried::default(),
+        }
     }
 
     pub fn store(&self) -> &Store {
@@ -90,9 +103,11 @@ impl Library {
     /// A word of the store's shape, row starts or columns is changed: 17 exactly where documents 01 and 02 say so.
     fn damaged(&mut self, step: &[u8]) -> Checked {
         let mut store = self.store.clone();
-        // Every third fault is in a maker.
-        match self.random.below(3) {
+        // Every fourth fault is in a maker, every fourth in the edges in flow order.
+        let of_table = self.random.below(4);
+        match of_table {
             0 => maker_faults::write(&mut self.random, &mut store, &mut self.maker_faults),
+            1 => flow_order_faults::write(&mut self.random, &mut store, &mut self.flow_order_faults),
             _ => damage(&mut self.random, &mut store),
         }
         let due = misshapen(&store);
@@ -107,6 +122,9 @@ impl Library {
         require(store.shape == old.shape, "a step on a damaged store writes its shape")?;
         if !due {
             self.damaged_well += 1;
+            if of_table == 1 && answer.is_ok() {
+                self.check_costs_by_table(&store, step)?;
+            }
             require(
                 answer.is_ok_and(|()| true) || answer != Err(pywr::Refusal { number: 17, place: 0 }),
                 "17 on a well shaped store",
@@ -117,6 +135,17 @@ impl Library {
         Self::require_refusal(part.2, 17, 0)?;
         require(part.0 == 0 && part.1 == 0, "17 with a part")?;
         Self::require_refusal(answer, 17, 0)
+    }
+
+    /// A step adds the edges' costs in the order that stands in the store, whatever it is.
+    fn check_costs_by_table(&self, stepped: &Store, step: &[u8]) -> Checked {
+        let (_, state) = step_file::read(&self.file, step).map_err(|r| format!("accepted, the reference answers {r}"))?;
+        let (costs, counts) = (Costs { file: &self.file, state: &state }, Counts::of(stepped));
+        let mut due = vec![0.0; counts.columns()];
+        for &edge in &stepped.shape[FLOW_ORDER..][..counts.edges] {
+            due[stepped.shape[EDGES + 3 * edge as usize + 2] as usize] += costs.of_edge(edge as usize);
+        }
+        require(stepped.col_obj_coef[..due.len()] == due, "a step does not add costs in the order that stands in the store")
     }
 
     fn no_row(&mut self) -> Checked {
@@ -130,8 +159,8 @@ impl Library {
         Ok(())
     }
 
-    /// What an accepted build left: the counts and tables of `shape`, and beyond the counts what was there before.
-    fn check_built(&self, old: &Store, network: &[u8], sentinel: Sentinel) -> Checked {
+    /// What an accepted build left: the counts and tables of `shape`, and beyond the counts what was there before. The network's records.
+    fn check_built(&self, old: &Store, network: &[u8], sentinel: Sentinel) -> Result<NetworkFile, String> {
         let counts = Counts::of(&self.store);
         let file = NetworkFile::read(network).map_err(|r| format!("the port accepts what the reference refuses: {r}"))?;
         require(counts.sentinel == (sentinel == Sentinel::LargestFinite) as usize, "the sentinel kept is another")?;
@@ -161,7 +190,8 @@ impl Library {
             row_starts: counts.rows() + 1,
             tables: Some(counts),
         };
-        lent::kept_from(old, &self.store, &kept)
+        lent::kept_from(old, &self.store, &kept)?;
+        Ok(file)
     }
 
     /// What an accepted step left: costs, and the varying rows' bounds and elements, are all that it may write.
@@ -256,7 +286,7 @@ impl Port for Library {
         let answer = self.store.build(network, picked, &mut words, &mut numbers);
         require(lent::zero_words(&words) && lent::zero_doubles(&numbers), "the work area is not zero after a build")?;
         match answer {
-            Ok(()) => self.check_built(&old, network, sentinel)?,
+            Ok(()) => self.file = self.check_built(&old, network, sentinel)?,
             Err(_) => lent::changed(&old, &self.store).map_err(|e| format!("refused, but {e}"))?,
         }
         self.fresh = true;
@@ -309,15 +339,21 @@ impl Port for Library {
         Some(self.store.shape[EDGES..EDGES + 3 * counts.edges].chunks(3).map(|e| e[2] as usize).collect())
     }
 
+    fn flow_order(&self) -> Option<Vec<usize>> {
+        let counts = Counts::of(&self.store);
+        Some(self.store.shape[FLOW_ORDER..FLOW_ORDER + counts.edges].iter().map(|&edge| edge as usize).collect())
+    }
+
     fn report(&self) -> Option<String> {
         let Self { short, misshapen, no_row, damaged_well, .. } = self;
-        let makers = self.maker_faults.text();
+        let (makers, flow_order) = (self.maker_faults.text(), self.flow_order_faults.text());
         Some(format!(
-            "faults of the caller: 16: {short}, 17: {misshapen}, 18: {no_row}; damaged stores still well shaped {damaged_well}\n{makers}"
+            "faults of the caller: 16: {short}, 17: {misshapen}, 18: {no_row}; damaged stores still well shaped {damaged_well}\n{makers}\n{flow_order}"
         ))
     }
 
     fn untried(&self) -> Option<String> {
-        self.maker_faults.untried()
+        let untried = [self.maker_faults.untried(), self.flow_order_faults.untried()];
+        untried.into_iter().flatten().reduce(|one, other| format!("{one}; {other}"))
     }
 }

@@ -54,6 +54,12 @@ impl Programme {
         self.difference_by(other, |a, b| a.to_bits() == b.to_bits()).is_none()
     }
 
+    /// With the costs of another one.
+    pub fn with_costs_of(mut self, other: &Self) -> Self {
+        self.columns.iter_mut().zip(&other.columns).for_each(|(column, other)| column.cost = other.cost);
+        self
+    }
+
     /// The first place where the two differ, makers too, doubles by numeric equality: zeros of either sign are equal.
     pub fn difference(&self, other: &Self) -> Option<String> {
         self.difference_by(other, |a, b| a == b).or_else(|| self.difference_of_makers(other))

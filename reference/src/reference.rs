@@ -1,12 +1,15 @@
 //! The reference's answers: the Rust's programme for a network file, and what each step file makes of it.
 use crate::ceilings;
-use crate::columns::Columns;
+use crate::columns::{self, Columns, Path};
+use crate::flow_costs::{CostCounts, Costs};
 use crate::makers::MASS;
-use crate::programme::Programme;
+use crate::programme::{Column, Programme};
 use crate::solver::{Altered, Solver, Unaltered};
 use crate::{NetworkFile, RETIRED, Refusal, Sentinel, makers, step_checks, step_file};
 use pywr_core::network::Network;
 use pywr_core::solvers::SolverSolveError;
+use pywr_core::state::State;
+use pywr_core::timestep::Timestep;
 
 pub struct Reference {
     file: NetworkFile,
@@ -16,10 +19,13 @@ pub struct Reference {
     trial: Option<Altered>,
     /// Takes accepted steps only.
     kept: Altered,
-    /// The source as it is, where no union arises, at most one distinct set exists and no exclusive node varies.
+    /// The source as it is, where no union arises.
     unaltered: Option<Unaltered>,
     in_both: InBoth,
     unions: Unions,
+    /// The columns of the model, in flow order.
+    paths: Vec<Path>,
+    cost_counts: CostCounts,
     programme: Programme,
 }
 
@@ -32,11 +38,15 @@ pub struct Unions {
     pub over_without: bool,
 }
 
-/// How many builds and accepted steps the altered and the unaltered Rust both ran, and agreed on.
+/// How many builds and accepted steps the altered and the unaltered Rust both ran, and agreed on: the steps but for costs.
 #[derive(Debug, Clone, Copy, Default, PartialEq, Eq)]
 pub struct InBoth {
     pub builds: u64,
     pub steps: u64,
+    /// Accepted steps whose costs were compared, those of `steps` and others.
+    pub costs: u64,
+    /// Of these, steps in which a cost has other bits.
+    pub costs_unlike: u64,
 }
 
 impl Reference {
@@ -53,8 +63,9 @@ impl Reference {
         let mut programme = kept.programme();
         let found = makers::of(&file, &kept.columns_of_edges(&network), &programme);
         programme.makers = found.unwrap_or_else(|e| panic!("the makers of the Rust's rows: {e}"));
-        let (trial, unaltered, in_both, unions) = (None, None, InBoth::default(), Unions::default());
-        let mut built = Self { file, network, sentinel, trial, kept, unaltered, in_both, unions, programme };
+        let (in_both, unions, cost_counts) = (InBoth::default(), Unions::default(), CostCounts::default());
+        let (paths, trial, unaltered) = (columns::paths(&file), None, None);
+        let mut built = Self { file, network, sentinel, trial, kept, unaltered, in_both, unions, paths, cost_counts, programme };
         built.require_columns();
         built.build_unaltered();
         Ok(built)
@@ -84,11 +95,10 @@ impl Reference {
         }
         assert_eq!(unaltered.columns_of_edges(&self.network), self.columns_of_edges(), "columns where no union arises");
         if self.file.distinct_sets() <= 1 {
-            self.require_agreement(&unaltered);
+            assert!(fresh.same_bits(&self.programme), "{UNLIKE}");
             self.in_both.builds += 1;
-            // The altered steps differ where an exclusive node varies.
-            self.unaltered = self.file.varying_exclusive_nodes().is_empty().then_some(unaltered);
         }
+        self.unaltered = Some(unaltered);
     }
 
     /// Refusals 12 and 13 by the file, 14 by the Rust, 21 by the numbers. A refused step leaves the programme as it was.
@@ -102,13 +112,25 @@ impl Reference {
         let makers = std::mem::take(&mut self.programme.makers);
         self.programme = Programme { makers, ..self.kept.programme() };
         assert!(trial.programme().same_bits(&self.programme), "a step after a refused one differs");
-        if let Some(mut unaltered) = self.unaltered.take() {
-            unaltered.step(&self.network, &timestep, &state).expect("the trial accepted this step");
-            self.require_agreement(&unaltered);
-            self.in_both.steps += 1;
-            self.unaltered = Some(unaltered);
-        }
+        let costs = Costs { file: &self.file, state: &state };
+        self.cost_counts += costs.check(&self.paths, &self.programme).unwrap_or_else(|e| panic!("the costs: {e}"));
+        self.step_unaltered(&timestep, &state);
         Ok(())
+    }
+
+    /// An accepted step in the source as it is: its costs, and with at most one distinct set and no varying exclusive node all else too.
+    fn step_unaltered(&mut self, timestep: &Timestep, state: &State) {
+        let Some(unaltered) = &mut self.unaltered else { return };
+        unaltered.step(&self.network, timestep, state).expect("the trial accepted this step");
+        let (programme, costs) = (unaltered.programme(), Costs { file: &self.file, state });
+        costs.check_unaltered(&self.paths, &programme).unwrap_or_else(|e| panic!("the costs: {e}"));
+        self.in_both.costs += 1;
+        let alike = |(one, other): (&Column, &Column)| one.cost.to_bits() == other.cost.to_bits();
+        self.in_both.costs_unlike += !self.programme.columns.iter().zip(&programme.columns).all(alike) as u64;
+        if self.file.distinct_sets() <= 1 && self.file.varying_exclusive_nodes().is_empty() {
+            assert!(programme.with_costs_of(&self.programme).same_bits(&self.programme), "{UNLIKE}");
+            self.in_both.steps += 1;
+        }
     }
 
     /// With the makers of its rows, which no step changes.
@@ -128,10 +150,17 @@ impl Reference {
         self.in_both
     }
 
-    fn require_agreement(&self, unaltered: &Unaltered) {
-        assert!(unaltered.programme().same_bits(&self.programme), "the altered and the unaltered Rust differ");
+    /// By the model.
+    pub fn paths(&self) -> &[Path] {
+        &self.paths
+    }
+
+    pub fn cost_counts(&self) -> CostCounts {
+        self.cost_counts
     }
 }
+
+const UNLIKE: &str = "the altered and the unaltered Rust differ";
 
 /// The Rust's refusal of a step, `RETIRED` with the others. Names are numbers.
 pub fn refusal(error: SolverSolveError) -> Refusal {

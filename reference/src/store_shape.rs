@@ -1,4 +1,4 @@
-//! Refusal 17 of document 01, with the makers of document 02's L5, asked of a store laid out as docs/FORMATS.md says.
+//! Refusal 17 of document 01, with the makers of document 02's L5 and the flow order of L10, asked of a store laid out as docs/FORMATS.md says.
 use crate::makers;
 use pywr::Store;
 
@@ -9,6 +9,10 @@ pub const NODE_ROWS: usize = 2059;
 pub const AGGREGATES: usize = 19467;
 pub const VIRTUAL_STORAGES: usize = 19531;
 pub const MAKERS: usize = 19723;
+pub const FLOW_ORDER: usize = 22795;
+
+/// How many tables `shape` has, the counts among them.
+pub const TABLES: usize = 8;
 
 /// What stands at the start of `shape`.
 #[derive(Debug, Clone, Copy)]
@@ -42,7 +46,7 @@ impl Counts {
     }
 
     /// The tables of `shape`: where each starts, and how many words it has.
-    pub fn tables(&self) -> [(usize, usize); 7] {
+    pub fn tables(&self) -> [(usize, usize); TABLES] {
         [
             (0, COUNTS),
             (NODES, 2 * self.nodes),
@@ -51,6 +55,7 @@ impl Counts {
             (AGGREGATES, self.aggregates),
             (VIRTUAL_STORAGES, 6 * self.virtual_storages),
             (MAKERS, 3 * self.rows()),
+            (FLOW_ORDER, self.edges),
         ]
     }
 
@@ -110,4 +115,5 @@ fn references_wrong(store: &Store, counts: &Counts) -> bool {
         || entries(AGGREGATES, 1, counts.aggregates).any(|e| !under(e[0], counts.varying))
         || entries(VIRTUAL_STORAGES, 6, counts.virtual_storages).any(|e| !under(e[0], counts.varying) || e[1] > 1)
         || entries(MAKERS, 3, counts.rows()).any(maker_wrong)
+        || entries(FLOW_ORDER, 1, counts.edges).any(|e| !under(e[0], counts.edges))
 }

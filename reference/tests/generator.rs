@@ -1,9 +1,10 @@
 //! The generator: the same cases from the same seed, files that are read back, every refusal and both sides of each ceiling reached; columns that unite;
-//! varying exclusive nodes, their bounds at the sentinels, and 21 beside 14.
+//! rings, loops and costs that tell in which order they were added; varying exclusive nodes, their bounds at the sentinels, and 21 beside 14.
 use pywr_core::node::NodeType;
 use pywr_core::state::State;
-use pywr_reference::columns::Columns;
-use pywr_reference::comparison::{ByUnions, Tally, compare};
+use pywr_reference::columns::{Columns, Path};
+use pywr_reference::comparison::{ByPaths, ByUnions, Tally, compare};
+use pywr_reference::flow_costs::{CostCounts, Costs};
 use pywr_reference::generate::Case;
 use pywr_reference::generate::encode::network_records;
 use pywr_reference::makers::have_equal_rows;
@@ -56,6 +57,12 @@ fn refusals_and_ceilings_are_reached() {
     assert!(tally.in_both.builds > 1300 && tally.in_both.steps > 4000, "{:?}", tally.in_both);
     let ByUnions { with, without, under_by_unions } = tally.by_unions;
     assert!(with > 500 && without > 3200 && under_by_unions > 8, "{:?}", tally.by_unions);
+    assert!(tally.in_both.costs > 9000 && tally.in_both.costs_unlike > 200, "{:?}", tally.in_both);
+    let ByPaths { closed, keyed_otherwise } = tally.by_paths;
+    assert!(closed > 200 && keyed_otherwise > 1500, "{:?}", tally.by_paths);
+    let CostCounts { steps, whole, small, steps_unlike, columns_unlike } = tally.costs;
+    assert!(steps[1] > 5000 && whole[1] > 1000 && small[1] > 1500, "{:?}", tally.costs);
+    assert!(steps_unlike > 800 && columns_unlike > 1200, "{:?}", tally.costs);
 }
 
 /// Accepted networks of 1,500 cases. README has the counts that the tests find in them.
@@ -89,7 +96,66 @@ fn unions_are_reached() {
         ];
         counts.iter_mut().zip(found).for_each(|(count, found)| *count += found as usize);
     }
-    assert_eq!(counts, [125, 87, 65, 16, 92, 59]);
+    assert_eq!(counts, [121, 82, 62, 16, 90, 57]);
+}
+
+/// Networks with a column of three edges or more that is not keyed in flow order; with such a closed ring; with such a loop, which comes back to a storage;
+/// with such a one to a link with other edges.
+#[test]
+fn columns_keyed_in_another_order_are_reached() {
+    let mut counts = [0; 4];
+    for (file, _, reference) in accepted() {
+        let long = reference.paths().iter().filter(|path| path.edges.len() > 2 && !path.is_in_edge_order());
+        let ends = |path: &Path| [file.edges[path.edges[0]].0, file.edges[*path.edges.last().unwrap()].1];
+        let comes_back_to = |path: &Path, kind: NodeType| {
+            let [first, last] = ends(path);
+            !path.closed && first == last && file.nodes[first].kind == kind
+        };
+        let has = |is: &dyn Fn(&Path) -> bool| long.clone().any(is);
+        let found = [
+            has(&|_| true),
+            has(&|path| path.closed),
+            has(&|path| comes_back_to(path, NodeType::Storage)),
+            has(&|path| comes_back_to(path, NodeType::Link)),
+        ];
+        counts.iter_mut().zip(found).for_each(|(count, found)| *count += found as usize);
+    }
+    assert_eq!(counts, [189, 31, 30, 25]);
+}
+
+/// A column's edges in three other orders: by number, upstream, and a closed ring from its second edge on.
+fn other_orders(path: &Path) -> [Vec<usize>; 3] {
+    let mut orders = [(); 3].map(|()| path.edges.clone());
+    orders[0].sort();
+    orders[1].reverse();
+    orders[2].rotate_left(path.closed as usize);
+    orders
+}
+
+/// Steps in which a column's cost has another bit in each of these orders: of all accepted ones, of those with no cost over 1,000, and of those with every
+/// cost whole, in which none has.
+#[test]
+fn costs_that_tell_the_order_are_reached() {
+    let mut counts = [[0; 3]; 3];
+    for (file, case, mut reference) in accepted() {
+        for step in &case.steps {
+            if reference.step(step).is_err() {
+                continue;
+            }
+            let (_, state) = step_file::read(&file, step).unwrap();
+            let costs = Costs { file: &file, state: &state };
+            let mut found = [false; 3];
+            for path in reference.paths() {
+                let cost = costs.in_flow_order(path).to_bits();
+                found.iter_mut().zip(other_orders(path)).for_each(|(found, order)| *found |= costs.sum(&order).to_bits() != cost);
+            }
+            let premises = [true, costs.none_over(), costs.all_whole()];
+            for (counts, _) in counts.iter_mut().zip(premises).filter(|(_, holds)| *holds) {
+                counts.iter_mut().zip(found).for_each(|(count, found)| *count += found as usize);
+            }
+        }
+    }
+    assert_eq!(counts, [[257, 412, 29], [115, 186, 10], [0; 3]]);
 }
 
 /// Networks with a varying exclusive node; a storage among them; one twice in a set; one in two sets; two of a set with equal rows.
@@ -116,7 +182,7 @@ fn varying_exclusive_nodes_are_reached() {
         ];
         counts.iter_mut().zip(found).for_each(|(count, found)| *count += found as usize);
     }
-    assert_eq!(counts, [565, 324, 284, 324, 192]);
+    assert_eq!(counts, [571, 331, 288, 325, 190]);
 }
 
 /// Of bounds of varying exclusive nodes: under 0, and at each sentinel and next to it, of either sign.
@@ -181,5 +247,5 @@ fn both_refusals_of_a_nodes_bounds_meet() {
             }
         }
     }
-    assert_eq!(counts, [137, 19, 26, 18]);
+    assert_eq!(counts, [142, 20, 26, 21]);
 }

@@ -34,7 +34,7 @@ fn written_bytes_are_seen() {
         |s| s.elements[4095] = -s.elements[4095],
         |s| s.columns[4095] ^= 1,
         |s| s.row_starts[1024] ^= 1,
-        |s| s.shape[22794] ^= 1,
+        |s| s.shape[23306] ^= 1,
     ];
     assert_eq!(changed(&old, &old.clone()), Ok(()));
     for fault in faults {
@@ -57,8 +57,8 @@ fn misshapen_stores() {
     let store = built.store();
     assert!(!misshapen(store));
     // The sentinel kept; a count; a start that falls; the last start; a column that does not rise; a kind; an edge's column; a row; and of the makers
-    // of the first and the last row the kind, the index and how many share the row.
-    let faults: [fn(&mut Store); 14] = [
+    // of the first and the last row the kind, the index and how many share the row; the first and the last edge in flow order.
+    let faults: [fn(&mut Store); 16] = [
         |s| s.shape[0] = 2,
         |s| s.shape[9] = 65,
         |s| s.row_starts[2] = 0,
@@ -73,6 +73,8 @@ fn misshapen_stores() {
         |s| s.shape[19780] = 5,
         |s| s.shape[19781] = 2,
         |s| s.shape[19782] = 0,
+        |s| s.shape[22795] = 13,
+        |s| s.shape[22807] = 65535,
     ];
     for (k, fault) in faults.iter().enumerate() {
         let mut damaged = store.clone();
@@ -102,4 +104,23 @@ fn makers_at_their_limits() {
         }
         assert!(!answer(20, [5, count, 0]));
     }
+}
+
+/// An entry of the edges in flow order may be any edge, also twice; none behind the last is read.
+#[test]
+fn flow_order_at_its_limits() {
+    let network = std::fs::read(concat!(env!("CARGO_MANIFEST_DIR"), "/../examples/intake.network")).unwrap();
+    let mut built = Library::new();
+    assert_eq!(built.build(&network, Sentinel::Infinity), Ok(Ok(())));
+    assert_eq!(built.flow_order(), Some(vec![0, 2, 1, 3, 4, 5, 6, 7, 8, 9, 10, 11, 12]));
+    let answer = |at: usize, edge: u16| {
+        let mut store = built.store().clone();
+        store.shape[22795 + at] = edge;
+        assert_eq!(store.row(0).is_err(), misshapen(&store), "entry {at}, {edge}");
+        misshapen(&store)
+    };
+    for at in [0, 6, 12] {
+        assert!(!answer(at, 0) && !answer(at, 12) && answer(at, 13) && answer(at, 65535));
+    }
+    assert!(!answer(13, 13) && !answer(511, 65535));
 }

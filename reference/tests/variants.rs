@@ -1,12 +1,14 @@
 //! The altered and the unaltered Rust, and the Rust's own refusals, on generated networks and on inputs of docs/DIFFERENCES.md.
 mod records;
 
+use pywr_core::network::NodeParts;
 use pywr_core::node::NodeType;
 use pywr_core::solvers::SolverSetupError;
-use pywr_core::state::State;
-use pywr_reference::columns::Columns;
+use pywr_reference::columns::{Columns, Path, paths};
 use pywr_reference::generate::Case;
+use pywr_reference::generate::encode::network_records;
 use pywr_reference::makers::{self, MASS};
+use pywr_reference::network_file::KINDS;
 use pywr_reference::reference::refusal;
 use pywr_reference::solver::{Altered, Solver, Unaltered};
 use pywr_reference::{NetworkFile, Programme, Reference, Refusal, Sentinel, generate, step_file};
@@ -94,25 +96,11 @@ fn in_flow_order(file: &NetworkFile) -> Vec<usize> {
     order
 }
 
-/// Document 01's costs: "from's outgoing plus to's incoming [..] Costs add into the column in edge order from 0.0".
-fn costs(file: &NetworkFile, columns: &[usize], state: &State) -> Vec<f64> {
-    let mut costs = vec![0.0; columns.iter().max().unwrap() + 1];
-    let part = |node: usize, of_storage: f64| match file.nodes[node].kind {
-        NodeType::Link => state.nodes[node].cost / 2.0,
-        NodeType::Storage => of_storage * state.nodes[node].cost,
-        _ => state.nodes[node].cost,
-    };
-    for (&(from, to), &column) in file.edges.iter().zip(columns) {
-        costs[column] += part(from, -1.0) + part(to, 1.0);
-    }
-    costs
-}
-
 /// Where columns unite, the altered Rust makes what the unaltered one makes of the same edges in flow order, where none do: a programme equal bit for
-/// bit, but for a step's costs, which add in edge order and are held to the file's numbers.
+/// bit, costs too, also of closed rings, which stand there from their lowest edge on.
 #[test]
 fn unions_make_what_flow_order_makes() {
-    let (mut builds, mut steps) = (0, 0);
+    let [mut builds, mut steps, mut rings] = [0; 3];
     let is_meant = |file: &NetworkFile| file.check().is_ok() && has_union(file) && file.distinct_sets() <= 1;
     for (file, case) in cases().filter(|(file, _)| is_meant(file)) {
         let order = in_flow_order(&file);
@@ -124,6 +112,7 @@ fn unions_make_what_flow_order_makes() {
         assert_eq!(unaltered.columns_of_edges(&flowing_network), order.iter().map(|&e| columns[e]).collect::<Vec<_>>());
         assert!(altered.programme().same_bits(&unaltered.programme()));
         builds += 1;
+        let ring = paths(&file).iter().any(|path| path.closed && path.edges.len() > 2);
         if !file.varying_exclusive_nodes().is_empty() {
             continue;
         }
@@ -132,22 +121,23 @@ fn unions_make_what_flow_order_makes() {
             let [one, other] = answers.map(|answer| answer.map_err(refusal));
             assert_eq!(one, other);
             if one.is_ok() {
-                let (programme, mut flowing) = (altered.programme(), unaltered.programme());
-                for (column, cost) in flowing.columns.iter_mut().zip(costs(&file, &columns, &state)) {
-                    column.cost = cost;
-                }
-                assert!(programme.same_bits(&flowing));
+                assert!(altered.programme().same_bits(&unaltered.programme()));
                 steps += 1;
+                rings += ring as usize;
             }
         }
     }
-    assert!(builds > 100 && steps > 300, "{builds}, {steps}");
+    assert!(builds > 100 && steps > 300 && rings > 50, "{builds}, {steps}, {rings}");
 }
 
-/// The altered programme with what the alterations of a step change put back: in the rows of varying exclusive nodes the bounds, and the coefficient,
-/// which is the last of the step's in place of the smallest. The second number is how many coefficients were another.
-fn put_back(altered: &Programme, unaltered: &Programme, high: f64) -> (Programme, usize) {
+/// The altered programme with what the alterations of a step change put back: the costs of columns whose flow order is not their edge order; in the
+/// rows of varying exclusive nodes the bounds, and the coefficient, which is the last of the step's in place of the smallest. The second number is how many
+/// coefficients were another.
+fn put_back(altered: &Programme, unaltered: &Programme, paths: &[Path], high: f64) -> (Programme, usize) {
     let (mut programme, mut others) = (altered.clone(), 0);
+    for (k, _) in paths.iter().enumerate().filter(|(_, path)| !path.is_in_edge_order()) {
+        programme.columns[k].cost = unaltered.columns[k].cost;
+    }
     for (row, other) in programme.rows.iter_mut().zip(&unaltered.rows).filter(|(row, _)| row.varying) {
         let Some(at) = row.elements.iter().position(|e| altered.columns[e.0].integer) else { continue };
         assert_eq!((row.lower, row.upper, other.lower, other.upper), (0.0, high, -high, high));
@@ -158,11 +148,11 @@ fn put_back(altered: &Programme, unaltered: &Programme, high: f64) -> (Programme
     (programme, others)
 }
 
-/// Without a union and with at most one distinct set a step makes the same programme bit for bit, but for the rows of varying exclusive nodes; refusals
-/// are alike.
+/// Without a union and with at most one distinct set a step makes the same programme bit for bit, but for the rows of varying exclusive nodes and the costs of
+/// columns whose flow order is not their edge order; refusals are alike.
 #[test]
-fn steps_differ_in_rows_of_varying_exclusive_nodes_alone() {
-    let [mut same, mut with_varying_exclusive, mut coefficients] = [0; 3];
+fn steps_differ_in_costs_and_in_rows_of_varying_exclusive_nodes_alone() {
+    let [mut same, mut with_varying_exclusive, mut coefficients, mut costs] = [0; 4];
     let is_meant = |file: &NetworkFile| file.check().is_ok() && file.distinct_sets() <= 1 && !has_union(file);
     for (file, case) in cases().filter(|(file, _)| is_meant(file)) {
         let (network, high) = (file.network(), case.sentinel.high());
@@ -173,16 +163,20 @@ fn steps_differ_in_rows_of_varying_exclusive_nodes_alone() {
             let [one, other] = answers.map(|answer| answer.map_err(refusal));
             assert_eq!(one, other);
             if one.is_ok() {
-                let (programme, others) = put_back(&altered.programme(), &unaltered.programme(), high);
-                assert!(programme.same_bits(&unaltered.programme()));
-                let differs = !altered.programme().same_bits(&unaltered.programme());
+                let (here, there) = (altered.programme(), unaltered.programme());
+                let (programme, others) = put_back(&here, &there, &paths(&file), high);
+                assert!(programme.same_bits(&there));
+                let costs_put = here.clone().with_costs_of(&there);
+                let differs = !costs_put.same_bits(&there);
                 assert_eq!(differs, !file.varying_exclusive_nodes().is_empty());
                 (same, with_varying_exclusive) = (same + !differs as usize, with_varying_exclusive + differs as usize);
                 coefficients += others;
+                costs += !costs_put.same_bits(&here) as usize;
             }
         }
     }
-    assert!(same > 2000 && with_varying_exclusive > 500 && coefficients > 50, "{same}, {with_varying_exclusive}, {coefficients}");
+    assert!(same > 2000 && with_varying_exclusive > 500, "{same}, {with_varying_exclusive}");
+    assert!(coefficients > 50 && costs > 50, "{coefficients}, {costs}");
 }
 
 /// A row's lower, upper and elements by their bits, so with the signs of zeros.
@@ -254,6 +248,65 @@ fn columns_unite_in_one_variant() {
     let first = [nodes, ed(1, 2), ed(3, 4), ed(2, 3), ed(0, 1)].concat();
     assert_eq!(shape::<Unaltered>(&first), ("P 2 3 2 4".into(), vec![0, 1, 1, 0], vec![2]));
     assert_eq!(shape::<Altered>(&first), ("P 1 1 1 1".into(), vec![0, 0, 0, 0], vec![]));
+}
+
+/// The bits of the costs after a step with these costs of nodes.
+fn costs_after<S: Solver>(network: &[u8], costs: &[f64]) -> Vec<u64> {
+    let file = NetworkFile::read(network).unwrap();
+    let mut solver = S::create(&file.network(), f64::INFINITY).unwrap();
+    let step = costs.iter().fold(st(6, 1, 1.0), |step, &cost| [step, nb(cost, 0.0, 0.0, 0.0)].concat());
+    let (timestep, state) = step_file::read(&file, &step).unwrap();
+    solver.step(&file.network(), &timestep, &state).unwrap();
+    solver.programme().columns.iter().map(|column| column.cost.to_bits()).collect()
+}
+
+/// Row 27 of docs/DIFFERENCES.md: a storage that gives to itself over two links, with the edge out of it keyed last; edge costs downstream 2^-53, 1/2 and
+/// 2^-53, 1/2. Then the shortest chain from an input to an output that does so.
+#[test]
+fn costs_add_downstream_in_one_variant() {
+    let small = 1.0 / (1_u64 << 52) as f64;
+    let [one, more] = [1_f64.to_bits(), 1_f64.next_up().to_bits()];
+    let ring = [nd(STORAGE), nd(LINK), nd(LINK), ed(1, 2), ed(2, 0), ed(0, 1)].concat();
+    assert_eq!(costs_after::<Unaltered>(&ring, &[0.0, small, 1.0]), [one]);
+    assert_eq!(costs_after::<Altered>(&ring, &[0.0, small, 1.0]), [more]);
+    let chain = [nd(INPUT), nd(LINK), nd(LINK), nd(OUTPUT), ed(1, 2), ed(2, 3), ed(0, 1)].concat();
+    assert_eq!(costs_after::<Unaltered>(&chain, &[0.0, small, 1.0, 0.0]), [one]);
+    assert_eq!(costs_after::<Altered>(&chain, &[0.0, small, 1.0, 0.0]), [more]);
+}
+
+/// The networks of so many nodes and edges, in each order of the edges, that are read, pass 7 to 10 and have no union.
+fn all_networks(nodes: usize, edges: usize) -> Vec<NetworkFile> {
+    let ends = (0..nodes * nodes).map(|k| (k / nodes, k % nodes)).filter(|(from, to)| from != to);
+    let ends: Vec<(usize, usize)> = ends.collect();
+    let mut all = Vec::new();
+    for kinds in 0..KINDS.len().pow(nodes as u32) {
+        let kind = |node: usize| KINDS[kinds / KINDS.len().pow(node as u32) % KINDS.len()];
+        let nodes: Vec<_> = (0..nodes).map(|node| NodeParts { kind: kind(node), constant: None }).collect();
+        for order in 0..ends.len().pow(edges as u32) {
+            let edge = |at: usize| ends[order / ends.len().pow(at as u32) % ends.len()];
+            all.push(NetworkFile { nodes: nodes.clone(), edges: (0..edges).map(edge).collect(), ..NetworkFile::default() });
+        }
+    }
+    // Refusals 5 and 20, then the others.
+    let is_read = |file: &NetworkFile| NetworkFile::read(&network_records(file).concat()).is_ok();
+    all.retain(|file| is_read(file) && file.check().is_ok() && !has_union(file));
+    all
+}
+
+/// No network with fewer nodes or fewer edges than row 27's has such a step: with each of these costs at each node. With as many, some do.
+#[test]
+fn no_smaller_network_tells_the_orders_apart() {
+    let costs = [0.0, 1.0, 1.0 / (1_u64 << 52) as f64, -1.0];
+    let differs = |file: &NetworkFile, k: usize| {
+        let drawn: Vec<f64> = (0..file.nodes.len()).map(|n| costs[k / costs.len().pow(n as u32) % costs.len()]).collect();
+        let network = network_records(file).concat();
+        costs_after::<Altered>(&network, &drawn) != costs_after::<Unaltered>(&network, &drawn)
+    };
+    for (nodes, edges, due) in [(2, 1, false), (2, 2, false), (3, 1, false), (3, 2, false), (3, 3, true)] {
+        let networks = all_networks(nodes, edges);
+        let found = networks.iter().any(|file| (0..costs.len().pow(nodes as u32)).any(|k| differs(file, k)));
+        assert!(found == due && !networks.is_empty(), "{nodes} nodes, {edges} edges");
+    }
 }
 
 /// 7 and 9 are errors of the Rust, 8 and 10 panics; what passes them builds.

@@ -17,10 +17,10 @@ pub const COLUMNS: usize = 640;
 pub const ROWS: usize = 1024;
 pub const ELEMENTS: usize = 4096;
 pub const ROW_STARTS: usize = 1025;
-pub const SHAPE: usize = 22795;
+pub const SHAPE: usize = 23307;
 
 /// The least lengths of the work runs of a build and of a step.
-pub const BUILD_WORDS: usize = 27916;
+pub const BUILD_WORDS: usize = 28428;
 pub const BUILD_NUMBERS: usize = 6784;
 pub const STEP_WORK: usize = 704;
 

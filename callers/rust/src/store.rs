@@ -2,6 +2,10 @@
 use crate::maker::{MAKER_WIDTH, MAKERS_AT, Maker};
 use crate::{COLUMNS, ELEMENTS, ROW_STARTS, ROWS, Refusal, SHAPE, Sentinel, calls};
 
+/// Where the edges in flow order stand in `shape`, a word for each, and how many there may be.
+const FLOW_ORDER_AT: usize = 22795;
+const MOST_EDGES: usize = 512;
+
 /// Each run may be longer than its least length. One that is shorter is refused with 16.
 #[derive(Debug, Clone)]
 pub struct Store {
@@ -83,6 +87,13 @@ impl Store {
         }
         let words = part(&self.shape, MAKERS_AT + MAKER_WIDTH * row, MAKER_WIDTH);
         Maker::of_words(words.try_into().ok()?)
+    }
+
+    /// The edges' numbers in the order in which a step adds their costs: each column's from source to sink, a closed ring's from its lowest edge.
+    ///
+    /// Ask after an accepted build; no step changes it. It is what stands in `shape`, as with [`Store::maker`].
+    pub fn flow_order(&self) -> &[u16] {
+        part(&self.shape, FLOW_ORDER_AT, self.count(2).min(MOST_EDGES))
     }
 
     /// How many columns are for edges; those behind them are the sets' integer columns.

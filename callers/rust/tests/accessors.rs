@@ -27,6 +27,8 @@ fn short_stores() -> Vec<Store> {
 fn touch(store: &mut Store) -> [Result<(), Refusal>; 2] {
     let counts = [store.edge_column_count(), store.varying_row_count(), store.element_count()];
     assert!(counts[0] <= store.column_count() && counts[1] <= store.row_count());
+    let edges = store.shape.get(2).map_or(0, |&count| count.min(512) as usize);
+    assert_eq!(store.flow_order().len(), if store.shape.len() < 22795 + edges { 0 } else { edges });
     for row in [0, 1, 1023, 1024, 65535, usize::MAX] {
         assert!(store.maker(row).is_none() || row < store.row_count().min(1024) && store.shape.len() > 19725 + 3 * row);
         let (start, length, answer) = store.row_part(row);

@@ -83,11 +83,11 @@ module _ (kind : ℕ) (into out : List ℕ) where
       go true none s e = absurd (f e)
       go true (some p) s e = let m : Linked size next first (p ∷ []) = rw (single-is into out p s .into-is) at l in omega (arith, m .1)
 
-code-none : (o : Option ℕ) → code o ≡ 0 → o ≡ none
+pub code-none : (o : Option ℕ) → code o ≡ 0 → o ≡ none
 code-none none q = refl
 code-none (some n) q = absurd (omega arith)
 
-code-some : (o : Option ℕ) (k : ℕ) → k ≡ code o → k ≢ 0 → o ≡ some (k - 1)
+pub code-some : (o : Option ℕ) (k : ℕ) → k ≡ code o → k ≢ 0 → o ≡ some (k - 1)
 code-some none k q f = absurd (f q)
 code-some (some n) k q f = let e : n ≡ k - 1 = omega arith in ap {B = Option ℕ} some e
 

@@ -1,14 +1,15 @@
 -- The table of edges that is written is that of the network's edges with their columns. Assumes nothing.
-use mathlib.Core.Path.{_≡_, refl, sym, _∙_, ap}
-use Prim.Native.Nat.{ℕ, zero, suc, _+_, _*_, _-_, _<_, _≤_}
-use mathlib.Core.List.{List, [], _∷_}
-use mathlib.Core.Option.{Option, none, Option·getD}
+use mathlib.Core.Path.{_≡_, sym, _∙_, ap}
+use Prim.Native.Nat.{ℕ, suc, _+_, _*_, _-_, _<_, _≤_}
+use mathlib.Core.List.{List}
+use mathlib.Core.Option.{none, Option·getD}
 use native.Mathlib.Nat.{zero-add}
 use native.Mathlib.Omega.{arith}
 use lib.ListN.{length, getD}
 use lib.Seq.{ext-getD}
 use Rattle.pywr.specs.Network.{Edge, Network}
-use Rattle.pywr.specs.ColEdgeMap.{columns, columnAt, MappedEdge, withColumns, mappedEdges, columnOf}
+use Rattle.pywr.specs.ColEdgeMap.{columns, columnAt, MappedEdge, mappedEdges, columnOf}
+use Rattle.pywr.proofs.WeightLaws.{pipes-length, pipe-at}
 use Rattle.pywr.proofs.FitLaws.{columns-long}
 use Rattle.network_edge.specs.Edge.{edgeAt}
 use Rattle.network_laws.proofs.Index.{edge-count, edge-index}
@@ -18,22 +19,6 @@ use Rattle.build_node_row.specs.Tables.{networkOf, EdgeTables}
 use Rattle.build_node_row.proofs.NodeColumns.{sound}
 use Rattle.build_shape.specs.ShapeTables.{edgeEntry, edgesFrom, edgeEntries}
 use Rattle.build_shape.proofs.Table.{edge-get, edges-many}
-
--- an edge with its column, by its number
-module _ (d : MappedEdge) where
-  with-get : (es : List Edge) (cs : List (Option ℕ)) (i : ℕ) (x : Edge) → length es ≡ length cs → i < length es
-      → getD (withColumns es cs) i d ≡ record { from = getD es i x .from; to = getD es i x .to; column = Option·getD (getD cs i none) 0 }
-  unfolding withColumns
-  with-get [] cs i x l h = absurd (omega arith)
-  with-get (e ∷ es) [] i x l h = absurd (omega (arith, l))
-  with-get (e ∷ es) (c ∷ cs) zero x l h = refl
-  with-get (e ∷ es) (c ∷ cs) (suc i) x l h = with-get es cs i x (omega (arith, l)) (omega arith)
-
-with-long : (es : List Edge) (cs : List (Option ℕ)) → length es ≡ length cs → length (withColumns es cs) ≡ length es
-unfolding withColumns
-with-long [] cs l = refl
-with-long (e ∷ es) [] l = absurd (omega (arith, l))
-with-long (e ∷ es) (c ∷ cs) l = ap suc (with-long es cs (omega (arith, l)))
 
 module _ (file : List ℕ) (c : Counts) (firstIn nextIn firstOut nextOut table : List ℕ) (t : EdgeTables file c firstIn nextIn firstOut nextOut table) where
   abbrev net : Network
@@ -58,7 +43,7 @@ module _ (file : List ℕ) (c : Counts) (firstIn nextIn firstOut nextOut table :
   entries-are =
       let d : MappedEdge = edgeEntry file table (c .nodes) 0 in
       ext-getD d (edgeEntries file table (c .nodes) (c .edges)) (mappedEdges net)
-      (edges-many file table (c .nodes) (c .edges) 0 ∙ sym (with-long (net .edges) (columns net .of) (columns-long net) ∙ edges-are))
+      (edges-many file table (c .nodes) (c .edges) 0 ∙ sym (pipes-length (net .edges) (columns net .of) (columns-long net) ∙ edges-are))
       (λ i h.
       let under : i < c .edges = omega (arith, edges-many file table (c .nodes) (c .edges) 0) in
       let col : getD table i 0 - 1 ≡ Option·getD (getD (columns net .of) i none) 0 = omega (arith, at i under) in
@@ -66,4 +51,4 @@ module _ (file : List ℕ) (c : Counts) (firstIn nextIn firstOut nextOut table :
       edge-get file table (c .nodes) (c .edges) 0 i d under
       ∙ ap (edgeEntry file table (c .nodes)) (zero-add i)
       ∙ same i x col (edge-index file (c .nodes) (c .edges) (c .aggregates) (c .«virtual_storages») i x under)
-      ∙ sym (with-get d (net .edges) (columns net .of) i x (columns-long net) (omega (arith, edges-are))))
+      ∙ sym (pipe-at d x (net .edges) (columns net .of) i (columns-long net) (omega (arith, edges-are))))

@@ -7,18 +7,20 @@ use native.Mathlib.Omega.{arith}
 use lib.ListN.{length, take, length-append, length-map}
 use lib.Seq.{sets, length-take-le}
 use lib.Ieee.{Float}
-use Rattle.layout.specs.Layout.{aggregatesMadeAt, edgesMadeAt, makersAt, makersMadeAt, nodeRowsMadeAt, nodesMadeAt, shapeMadeAt, virtualStoragesMadeAt, wordsLength}
+use Rattle.layout.specs.Layout.{aggregatesMadeAt, makersAt, makersMadeAt, nodeRowsMadeAt, shapeMadeAt, virtualStoragesMadeAt, wordsLength}
 use Rattle.laws.specs.Part.{part}
 use Rattle.pywr.specs.declared.Sentinel.{Sentinel}
 use Rattle.pywr.specs.Result.{value, refused}
 use Rattle.pywr.specs.Network.{Network}
 use Rattle.pywr.specs.ColEdgeMap.{columns, mappedEdges}
+use Rattle.pywr.specs.FlowOrder.{flowOrder}
 use Rattle.pywr.specs.ExclusiveSets.{exclusiveSets}
 use Rattle.pywr.specs.Rows.{columnMap}
 use Rattle.pywr.specs.Programme.{Maker, Built}
 use Rattle.pywr.specs.Makers.{fixedMakers}
 use Rattle.pywr.specs.Build.{nodeShape, assemble, programmeOf, build}
 use Rattle.pywr.specs.Written.{nodeWords, edgeWords, makerWords, countWords, rowsOf}
+use Rattle.pywr.proofs.FlowLaws.{flow-length}
 use Rattle.network_laws.specs.NetworkAt.{nodeRecords, networkAt}
 use Rattle.network_laws.proofs.Index.{node-count, edge-count, aggregate-count, virtual-storage-count}
 use Rattle.network_record.specs.declared.Counts.{Counts}
@@ -37,7 +39,7 @@ use Rattle.build_shape.specs.ShapeTables.{edgeEntries, counts}
 use Rattle.build_shape.proofs.Table.{nodes-length, edges-length, edges-many}
 use Rattle.build_rows.specs.declared.Assembled.{Assembled}
 use Rattle.build_varying.specs.VaryingLaid.{VaryingLaid}
-use Rattle.build_rows.specs.Assembled.{Laid, Made, AfterAssemble}
+use Rattle.build_rows.specs.Assembled.{Laid, Made, AfterAssemble, shapeFinished}
 use Rattle.build_rows.proofs.Ceilings.{rows-over, sets-over, none-over, eleven, accepted}
 use Rattle.build_rows.proofs.EdgeTable.{entries-are}
 use Rattle.build_rows.proofs.LaidOut.{RowsLaid, laid-out}
@@ -72,6 +74,13 @@ module _ (s : Sentinel) (file : List ℕ) (c : Counts) (firstIn nextIn firstOut 
   shape-edges : flatMap edgeWords (mappedEdges net) ≡ flatMap edgeWords (b .shape .mappedEdges)
   unfolding programmeOf assemble columnMap
   shape-edges = refl
+
+  edge-count-is : length (net .edges) ≡ c .edges
+  edge-count-is = edge-count file (c .nodes) (c .edges) (c .aggregates) (c .«virtual_storages»)
+
+  shape-flow-order : flowOrder net ≡ b .shape .flowOrder
+  unfolding programmeOf assemble
+  shape-flow-order = refl
 
   -- 11: too many sets, or rows over the ceilings
   pub sets-refused : (words : List ℕ) (numbers : List Float) → 128 < length (exclusiveSets net) → AfterAssemble s file (Assembled.Refused 11 0) words numbers
@@ -147,9 +156,6 @@ module _ (s : Sentinel) (file : List ℕ) (c : Counts) (firstIn nextIn firstOut 
             aggregates = t .sections .few-aggregates;
             virtualStorages = t .sections .few-virtual-storages;
           }
-        where
-          edge-count-is : length (net .edges) ≡ c .edges
-          edge-count-is = edge-count file (c .nodes) (c .edges) (c .aggregates) (c .«virtual_storages»)
 
       -- the varying rows are among the rows
       pub varying-most : n .filled .rows ≤ g .rows
@@ -157,8 +163,7 @@ module _ (s : Sentinel) (file : List ℕ) (c : Counts) (firstIn nextIn firstOut 
       varying-most = omega (arith, v .held .rowCount, held .rowCount, length-append (b .programme .varying) (b .programme .fixed))
 
       pub all-made : (words₃ : List ℕ) → wordsLength ≤ length words₁ → wordsLength ≤ length words₂
-          → words₃ ≡ sets (sets (sets words₂ nodesMadeAt (flatMap nodeWords (map nodeShape (nodeRecords file (c .nodes))))) edgesMadeAt
-          (flatMap edgeWords (edgeEntries file table (c .nodes) (c .edges)))) shapeMadeAt (counts s sizes (n .filled .rows))
+          → words₃ ≡ shapeFinished s file table sizes (n .filled .rows) (flowOrder net) words₂
           → AfterAssemble s file (Assembled.Done sizes) words₃ numbers₂
       all-made words₃ room₁ room e =
           let cs : counts s sizes (n .filled .rows) ≡ countWords b = counts-are s net sizes are (n .filled .rows) (v .held .rowCount) in
@@ -173,8 +178,8 @@ module _ (s : Sentinel) (file : List ℕ) (c : Counts) (firstIn nextIn firstOut 
             makers = ap (λ (k : ℕ). part makersMadeAt (3 * k) words₂) (sym makers-many)
                 ∙ ap (λ (l : List Maker). part makersMadeAt (3 * length l) words₂) (sym (makers-are s net)) ∙ a .held g done .made ∙ ap (flatMap makerWords) (makers-are s net);
           } in
-          let laid = laid-out s b sizes words₂ numbers₂ _ _ _ few (columns-are s net sizes are) room (nodes-length file (c .nodes))
-          (edges-length file table (c .nodes) (c .edges)) (counts-long s sizes (n .filled .rows)) nodes-are edges-are cs rows-laid in
+          let laid = laid-out s b sizes words₂ numbers₂ _ _ _ _ few (columns-are s net sizes are) room (nodes-length file (c .nodes))
+          (edges-length file table (c .nodes) (c .edges)) (counts-long s sizes (n .filled .rows)) (flow-length net ∙ edge-count-is) nodes-are edges-are cs shape-flow-order rows-laid in
           let is : build s file ≡ value b = accepted s file net (t .parsed)
           (none-over net (b .programme) (omega (arith, sets-are, l .fit .few)) (held-within (rowsOf (b .programme)) words₂ numbers₂ g held)) in
           record {

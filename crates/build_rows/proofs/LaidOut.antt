@@ -1,12 +1,12 @@
 -- The tables written behind the rows lay the programme out. Assumes nothing.
 use mathlib.Core.Path.{_≡_, refl, _∙_, ap}
-use Prim.Native.Nat.{ℕ, _*_, _-_, _≤_}
+use Prim.Native.Nat.{ℕ, _+_, _*_, _-_, _≤_}
 use mathlib.Core.List.{List, map, flatMap}
 use native.Mathlib.Omega.{arith}
 use lib.ListN.{length, take}
 use lib.Seq.{sets, length-sets}
 use lib.Ieee.{Float}
-use Rattle.layout.specs.Layout.{aggregatesMadeAt, edgesAt, edgesMadeAt, makersMadeAt, nodeRowsMadeAt, nodesAt, nodesMadeAt, sentinelAt, shapeLength, shapeMadeAt, virtualStoragesMadeAt, wordsLength}
+use Rattle.layout.specs.Layout.{aggregatesMadeAt, edgesAt, edgesMadeAt, flowOrderMadeAt, makersMadeAt, nodeRowsMadeAt, nodesAt, nodesMadeAt, sentinelAt, shapeLength, shapeMadeAt, virtualStoragesMadeAt, wordsLength}
 use Rattle.laws.specs.Part.{part}
 use Rattle.laws.proofs.Sets.{part-same, part-before, part-after}
 use Rattle.laws.proofs.Tails.{tail, putTail, tail-length, tail-written}
@@ -58,57 +58,80 @@ pub record RowsLaid (b : Built) (z : Sizes) (words : List ℕ) (numbers : List F
   pub virtualStorages : part virtualStoragesMadeAt (6 * z .«virtual_storages») words ≡ flatMap virtualStorageWords (b .shape .virtualStorages)
   pub makers : part makersMadeAt (3 * z .rows) words ≡ flatMap makerWords (b .makers)
 
-module _ (words ns es cs : List ℕ) (n e : ℕ) (ln : length ns ≡ 2 * n) (le : length es ≡ 3 * e) (lc : length cs ≡ 11) (fn : n ≤ 256) (fe : e ≤ 512) (room : wordsLength ≤ length words) where
-  -- nodes, edges and counts written, in this order
-  abbrev pub after : List ℕ
-  after = sets (sets (sets words nodesMadeAt ns) edgesMadeAt es) shapeMadeAt cs
+module _ (words ns es cs os : List ℕ) (n e : ℕ) (ln : length ns ≡ 2 * n) (le : length es ≡ 3 * e) (lc : length cs ≡ 11) (lo : length os ≡ e)
+    (fn : n ≤ 256) (fe : e ≤ 512) (room : wordsLength ≤ length words) where
+  -- nodes, edges and counts written, in this order, and the flow order behind them
+  abbrev tables : List ℕ
+  tables = sets (sets (sets words nodesMadeAt ns) edgesMadeAt es) shapeMadeAt cs
 
-  -- behind the three tables and in front of them the words stay
-  pub behind : (a k : ℕ) → nodeRowsMadeAt ≤ a → part a k after ≡ part a k words
-  behind a k h =
-      part-after (sets (sets words nodesMadeAt ns) edgesMadeAt es) cs shapeMadeAt a k (omega (arith, lc))
+  abbrev pub after : List ℕ
+  after = sets tables flowOrderMadeAt os
+
+  -- the flow order changes nothing in front of it
+  in-front : (a k : ℕ) → a + k ≤ flowOrderMadeAt → part a k after ≡ part a k tables
+  in-front a k h = part-before tables os flowOrderMadeAt a k h
+
+  -- between the tables and the flow order, and in front of all, the words stay
+  pub between : (a k : ℕ) → nodeRowsMadeAt ≤ a → a + k ≤ flowOrderMadeAt → part a k after ≡ part a k words
+  between a k h i =
+      in-front a k i
+      ∙ part-after (sets (sets words nodesMadeAt ns) edgesMadeAt es) cs shapeMadeAt a k (omega (arith, lc))
       ∙ part-after (sets words nodesMadeAt ns) es edgesMadeAt a k (omega (arith, le))
       ∙ part-after words ns nodesMadeAt a k (omega (arith, ln))
 
   pub before : take shapeMadeAt after ≡ take shapeMadeAt words
   before =
-      part-before (sets (sets words nodesMadeAt ns) edgesMadeAt es) cs shapeMadeAt 0 shapeMadeAt (omega arith)
+      in-front 0 shapeMadeAt (omega arith)
+      ∙ part-before (sets (sets words nodesMadeAt ns) edgesMadeAt es) cs shapeMadeAt 0 shapeMadeAt (omega arith)
       ∙ part-before (sets words nodesMadeAt ns) es edgesMadeAt 0 shapeMadeAt (omega arith)
       ∙ part-before words ns nodesMadeAt 0 shapeMadeAt (omega arith)
 
   pub counts-there : part shapeMadeAt 11 after ≡ cs
-  counts-there = part-same (sets (sets words nodesMadeAt ns) edgesMadeAt es) cs shapeMadeAt 11 lc
+  counts-there =
+      in-front shapeMadeAt 11 (omega arith)
+      ∙ part-same (sets (sets words nodesMadeAt ns) edgesMadeAt es) cs shapeMadeAt 11 lc
       (omega (arith, length-sets (sets words nodesMadeAt ns) edgesMadeAt es, length-sets words nodesMadeAt ns))
 
   pub nodes-there : part nodesMadeAt (2 * n) after ≡ ns
   nodes-there =
-      part-after (sets (sets words nodesMadeAt ns) edgesMadeAt es) cs shapeMadeAt nodesMadeAt (2 * n) (omega (arith, lc))
+      in-front nodesMadeAt (2 * n) (omega arith)
+      ∙ part-after (sets (sets words nodesMadeAt ns) edgesMadeAt es) cs shapeMadeAt nodesMadeAt (2 * n) (omega (arith, lc))
       ∙ part-before (sets words nodesMadeAt ns) es edgesMadeAt nodesMadeAt (2 * n) (omega arith)
       ∙ part-same words ns nodesMadeAt (2 * n) ln (omega arith)
 
   pub edges-there : part edgesMadeAt (3 * e) after ≡ es
   edges-there =
-      part-after (sets (sets words nodesMadeAt ns) edgesMadeAt es) cs shapeMadeAt edgesMadeAt (3 * e) (omega (arith, lc))
+      in-front edgesMadeAt (3 * e) (omega arith)
+      ∙ part-after (sets (sets words nodesMadeAt ns) edgesMadeAt es) cs shapeMadeAt edgesMadeAt (3 * e) (omega (arith, lc))
       ∙ part-same (sets words nodesMadeAt ns) es edgesMadeAt (3 * e) le (omega (arith, length-sets words nodesMadeAt ns))
 
-pub laid-out : (s : Sentinel) (b : Built) (z : Sizes) (words : List ℕ) (numbers : List Float) (ns es cs : List ℕ)
+  pub flow-order-there : part flowOrderMadeAt e after ≡ os
+  flow-order-there =
+      part-same tables os flowOrderMadeAt e lo
+      (omega
+      (arith, length-sets (sets (sets words nodesMadeAt ns) edgesMadeAt es) shapeMadeAt cs, length-sets (sets words nodesMadeAt ns) edgesMadeAt es, length-sets words nodesMadeAt ns))
+
+pub laid-out : (s : Sentinel) (b : Built) (z : Sizes) (words : List ℕ) (numbers : List Float) (ns es cs os : List ℕ)
     → Few z → columnsOf s z ≡ b .programme .columns → wordsLength ≤ length words
-    → length ns ≡ 2 * z .nodes → length es ≡ 3 * z .edges → length cs ≡ 11
-    → ns ≡ flatMap nodeWords (b .shape .nodes) → es ≡ flatMap edgeWords (b .shape .mappedEdges) → cs ≡ countWords b
+    → length ns ≡ 2 * z .nodes → length es ≡ 3 * z .edges → length cs ≡ 11 → length os ≡ z .edges
+    → ns ≡ flatMap nodeWords (b .shape .nodes) → es ≡ flatMap edgeWords (b .shape .mappedEdges) → cs ≡ countWords b → os ≡ b .shape .flowOrder
     → RowsLaid b z words numbers
-    → Laid s b z (sets (sets (sets words nodesMadeAt ns) edgesMadeAt es) shapeMadeAt cs) numbers
-laid-out s b z words numbers ns es cs few cols room ln le lc en ee ec r =
-    let w : List ℕ = after words ns es cs (z .nodes) (z .edges) ln le lc (few .nodes) (few .edges) room in
+    → Laid s b z (sets (sets (sets (sets words nodesMadeAt ns) edgesMadeAt es) shapeMadeAt cs) flowOrderMadeAt os) numbers
+laid-out s b z words numbers ns es cs os few cols room ln le lc lo en ee ec eo r =
+    let w : List ℕ = after words ns es cs os (z .nodes) (z .edges) ln le lc lo (few .nodes) (few .edges) room in
+    let stays : (a k : ℕ) → nodeRowsMadeAt ≤ a → a + k ≤ flowOrderMadeAt → part a k w ≡ part a k words =
+    between words ns es cs os (z .nodes) (z .edges) ln le lc lo (few .nodes) (few .edges) room in
     record {
       few = few;
       columns = cols;
       rows = held-agrees (rowsOf (b .programme)) words w numbers numbers (record { rows = z .rows; elements = z .elements }) (r .rows)
-          (before words ns es cs (z .nodes) (z .edges) ln le lc (few .nodes) (few .edges) room) refl;
-      counts = counts-there words ns es cs (z .nodes) (z .edges) ln le lc (few .nodes) (few .edges) room ∙ ec;
-      nodes = nodes-there words ns es cs (z .nodes) (z .edges) ln le lc (few .nodes) (few .edges) room ∙ en;
-      edges = edges-there words ns es cs (z .nodes) (z .edges) ln le lc (few .nodes) (few .edges) room ∙ ee;
-      nodeRows = behind words ns es cs (z .nodes) (z .edges) ln le lc (few .nodes) (few .edges) room nodeRowsMadeAt (4 * z .«node_rows») (omega arith) ∙ r .nodeRows;
-      aggregates = behind words ns es cs (z .nodes) (z .edges) ln le lc (few .nodes) (few .edges) room aggregatesMadeAt (z .aggregates) (omega arith) ∙ r .aggregates;
-      virtualStorages = behind words ns es cs (z .nodes) (z .edges) ln le lc (few .nodes) (few .edges) room virtualStoragesMadeAt (6 * z .«virtual_storages») (omega arith) ∙ r .virtualStorages;
-      makers = behind words ns es cs (z .nodes) (z .edges) ln le lc (few .nodes) (few .edges) room makersMadeAt (3 * z .rows) (omega arith) ∙ r .makers;
+          (before words ns es cs os (z .nodes) (z .edges) ln le lc lo (few .nodes) (few .edges) room) refl;
+      counts = counts-there words ns es cs os (z .nodes) (z .edges) ln le lc lo (few .nodes) (few .edges) room ∙ ec;
+      nodes = nodes-there words ns es cs os (z .nodes) (z .edges) ln le lc lo (few .nodes) (few .edges) room ∙ en;
+      edges = edges-there words ns es cs os (z .nodes) (z .edges) ln le lc lo (few .nodes) (few .edges) room ∙ ee;
+      nodeRows = stays nodeRowsMadeAt (4 * z .«node_rows») (omega arith) (omega (arith, few .nodeRows)) ∙ r .nodeRows;
+      aggregates = stays aggregatesMadeAt (z .aggregates) (omega arith) (omega (arith, few .aggregates)) ∙ r .aggregates;
+      virtualStorages = stays virtualStoragesMadeAt (6 * z .«virtual_storages») (omega arith) (omega (arith, few .virtualStorages)) ∙ r .virtualStorages;
+      makers = stays makersMadeAt (3 * z .rows) (omega arith) (omega (arith, few .rows)) ∙ r .makers;
+      flowOrder = flow-order-there words ns es cs os (z .nodes) (z .edges) ln le lc lo (few .nodes) (few .edges) room ∙ eo;
     }

@@ -6,7 +6,7 @@ use mathlib.Core.List.{List, map, flatMap}
 use lib.Seq.{sets}
 use lib.Ieee.{Float}
 use Rattle.layout.specs.Layout.{countsLength, nodeWidth, edgeWidth, nodeRowWidth, virtualStorageWidth, makerWidth}
-use Rattle.layout.specs.Layout.{shapeMadeAt, nodesMadeAt, edgesMadeAt, nodeRowsMadeAt, aggregatesMadeAt, virtualStoragesMadeAt, makersMadeAt}
+use Rattle.layout.specs.Layout.{shapeMadeAt, nodesMadeAt, edgesMadeAt, nodeRowsMadeAt, aggregatesMadeAt, virtualStoragesMadeAt, makersMadeAt, flowOrderMadeAt}
 use Rattle.laws.specs.Part.{part}
 use Rattle.pywr.specs.declared.Sentinel.{Sentinel}
 use Rattle.pywr.specs.Result.{value, refused}
@@ -32,6 +32,7 @@ pub record Laid (s : Sentinel) (b : Built) (z : Sizes) (words : List ℕ) (numbe
   pub aggregates : part aggregatesMadeAt (z .aggregates) words ≡ b .shape .aggregates
   pub virtualStorages : part virtualStoragesMadeAt (virtualStorageWidth * z .«virtual_storages») words ≡ flatMap virtualStorageWords (b .shape .virtualStorages)
   pub makers : part makersMadeAt (makerWidth * z .rows) words ≡ flatMap makerWords (b .makers)
+  pub flowOrder : part flowOrderMadeAt (z .edges) words ≡ b .shape .flowOrder
 
 -- the build's programme is laid out
 pub record Made (s : Sentinel) (file : List ℕ) (z : Sizes) (words : List ℕ) (numbers : List Float) : Type 0 where
@@ -52,3 +53,7 @@ tablesWritten s file table z varying words =
     (sets words nodesMadeAt (flatMap nodeWords (map nodeShape (nodeRecords file (z .nodes)))))
     edgesMadeAt (flatMap edgeWords (edgeEntries file table (z .nodes) (z .edges))))
     shapeMadeAt (counts s z varying)
+
+-- these, and the edges' numbers in flow order
+abbrev pub shapeFinished : Sentinel → List ℕ → List ℕ → Sizes → ℕ → List ℕ → List ℕ → List ℕ
+shapeFinished s file table z varying order words = sets (tablesWritten s file table z varying words) flowOrderMadeAt order

@@ -1,13 +1,14 @@
-// A programme in the work runs of a build: all rows with their makers, the tables of nodes and edges, the counts.
+// A programme in the work runs of a build: all rows with their makers, the tables of nodes and edges, the counts, the flow order.
 ghost use mathlib.Core.Path.{_≡_};
 ghost use Prim.Native.Nat.{ℕ, _<_, _≤_};
 ghost use lib.ListN.{length, getD};
 ghost use Rattle.layout.specs.Layout.{wordsLength};
 ghost use Rattle.network_edge.specs.Edge.{edgePlace};
 ghost use Rattle.build_node_row.specs.EdgeColumns.{edgeColumns};
-ghost use Rattle.build_node_row.specs.Tables.{EdgeTables, SetTables};
+ghost use Rattle.build_node_row.specs.Tables.{networkOf, EdgeTables, SetTables};
 ghost use Rattle.build_write.specs.Lp.{Few};
-ghost use Rattle.build_rows.specs.Assembled.{AfterAssemble, tablesWritten};
+ghost use Rattle.pywr.specs.FlowOrder.{flowOrder};
+ghost use Rattle.build_rows.specs.Assembled.{AfterAssemble, tablesWritten, shapeFinished};
 ghost use Rattle.layout.specs.WorkRoom.{WorkRoom};
 use build_append::Filled;
 use build_append::RowsAdded;
@@ -49,7 +50,40 @@ fn write_tables(
     build_shape::write_counts(&mut words[SHAPE_MADE_AT..], sentinel, z, varying);
 }
 
-// All rows with their makers, then the tables of nodes and edges and the counts.
+// These, and the edges' numbers in flow order.
+fn finish_shape(
+    s: &[u8],
+    c: Counts,
+    first_in: &[u16; NODE_CEILING],
+    next_in: &[u16; EDGE_CEILING],
+    first_out: &[u16; NODE_CEILING],
+    next_out: &[u16; EDGE_CEILING],
+    edge_to_col: &[u16; EDGE_CEILING],
+    sentinel: Sentinel,
+    z: Sizes,
+    varying: usize,
+    words: &mut [u16],
+)
+    requires { ⌜ EdgeTables (now s) c (now «first_in») (now «next_in») (now «first_out») (now «next_out») (now «edge_to_col»)
+        × Few z × (z .nodes ≡ c .nodes) × (z .edges ≡ c .edges) × (varying ≤ z .rows) × (wordsLength ≤ length (now words)) ⌝ }
+    ensures { λ _. ⌜ now (words .exit) ≡ shapeFinished sentinel (now (s .entry)) (now («edge_to_col» .entry)) z varying (flowOrder (networkOf (now (s .entry)) c)) (now (words .entry)) ⌝ }
+{
+    write_tables(s, sentinel, edge_to_col, z, varying, words);
+    let nodes = c.nodes;
+    let edges = c.edges;
+    build_flow_order::write_flow_order(
+        s,
+        nodes,
+        edges,
+        first_in,
+        next_in,
+        first_out,
+        next_out,
+        &mut words[SHAPE_MADE_AT..],
+    );
+}
+
+// All rows with their makers, then the tables of nodes and edges, the counts and the flow order.
 pub fn add_rows(
     s: &[u8],
     c: Counts,
@@ -139,7 +173,19 @@ pub fn add_rows(
                         aggregates: c.aggregates,
                         virtual_storages: c.virtual_storages,
                     };
-                    write_tables(s, sentinel, edge_to_col, z, filled.rows, words);
+                    finish_shape(
+                        s,
+                        c,
+                        first_in,
+                        next_in,
+                        first_out,
+                        next_out,
+                        edge_to_col,
+                        sentinel,
+                        z,
+                        filled.rows,
+                        words,
+                    );
                     Assembled::Done(z)
                 }
             }

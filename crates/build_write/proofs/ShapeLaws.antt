@@ -5,7 +5,7 @@ use native.Mathlib.Omega.{arith}
 use mathlib.Core.List.{List}
 use lib.ListN.{length}
 use lib.Seq.{sets}
-use Rattle.layout.specs.Layout.{aggregatesAt, makersAt, countsLength, edgesAt, nodeRowCeiling, nodeRowsAt, nodesAt, shapeLength, shapeMadeAt, virtualStoragesAt, wordsLength}
+use Rattle.layout.specs.Layout.{aggregatesAt, makersAt, countsLength, edgesAt, flowOrderAt, nodeRowCeiling, nodeRowsAt, nodesAt, shapeLength, shapeMadeAt, virtualStoragesAt, wordsLength}
 use Rattle.laws.specs.Part.{part}
 use Rattle.laws.proofs.Tails.{tail, tail-length, tail-part}
 use Rattle.build_write.specs.declared.Sizes.{Sizes}
@@ -53,8 +53,8 @@ module _ (z : Sizes) (words old s₁ s₂ s₃ s₄ s₅ s₆ : List ℕ) where
         is-made 0 countsLength,
       )
 
--- the tables written, and the makers behind them
-pub makers-written : (z : Sizes) (words old s₁ s₂ : List ℕ) → s₂ ≡ sets s₁ makersAt (part makersAt (3 * z .rows) (tail shapeMadeAt words)) → s₁ ≡ shapeTables z words old
-    → s₂ ≡ shapeWritten z words old
+-- the tables written, and behind them the makers and the flow order
+pub last-written : (z : Sizes) (words old s₁ s₂ s₃ : List ℕ) → s₃ ≡ sets s₂ flowOrderAt (part flowOrderAt (z .edges) (tail shapeMadeAt words))
+    → s₂ ≡ sets s₁ makersAt (part makersAt (3 * z .rows) (tail shapeMadeAt words)) → s₁ ≡ shapeTables z words old → s₃ ≡ shapeWritten z words old
 unfolding shapeWritten
-makers-written z words old s₁ s₂ b a = rw (b, a, tail-part shapeMadeAt words makersAt (3 * z .rows))
+last-written z words old s₁ s₂ s₃ c b a = rw (c, b, a, tail-part shapeMadeAt words flowOrderAt (z .edges), tail-part shapeMadeAt words makersAt (3 * z .rows))

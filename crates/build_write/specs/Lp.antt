@@ -7,8 +7,8 @@ use lib.ListN.{getD, replicate}
 use lib.Seq.{sets}
 use lib.Ieee.{Float}
 use Rattle.layout.specs.Layout.{nodeCeiling, edgeCeiling, aggregateCeiling, virtualStorageCeiling, setCeiling, rowCeiling, elementCeiling, nodeRowCeiling, countsLength}
-use Rattle.layout.specs.Layout.{nodesAt, edgesAt, nodeRowsAt, aggregatesAt, virtualStoragesAt, nodeWidth, edgeWidth, nodeRowWidth, virtualStorageWidth, makersAt, makerWidth}
-use Rattle.layout.specs.Layout.{startsMadeAt, shapeMadeAt, nodesMadeAt, edgesMadeAt, nodeRowsMadeAt, aggregatesMadeAt, virtualStoragesMadeAt, makersMadeAt, uppersMadeAt, elementsMadeAt}
+use Rattle.layout.specs.Layout.{nodesAt, edgesAt, nodeRowsAt, aggregatesAt, virtualStoragesAt, nodeWidth, edgeWidth, nodeRowWidth, virtualStorageWidth, makersAt, makerWidth, flowOrderAt}
+use Rattle.layout.specs.Layout.{startsMadeAt, shapeMadeAt, nodesMadeAt, edgesMadeAt, nodeRowsMadeAt, aggregatesMadeAt, virtualStoragesMadeAt, makersMadeAt, flowOrderMadeAt, uppersMadeAt, elementsMadeAt}
 use Rattle.laws.specs.Part.{part}
 use Rattle.pywr.specs.declared.Sentinel.{Sentinel}
 use Rattle.pywr.specs.Programme.{Column}
@@ -61,6 +61,8 @@ shapeTables z words old =
     let aggregates : List ℕ = sets nodeRows aggregatesAt (part aggregatesMadeAt (z .aggregates) words) in
     sets aggregates virtualStoragesAt (part virtualStoragesMadeAt (virtualStorageWidth * z .«virtual_storages») words)
 
--- these, and behind them the makers of the rows
+-- these, and behind them the makers of the rows and the flow order
 unfoldable pub shapeWritten : Sizes → List ℕ → List ℕ → List ℕ
-shapeWritten z words old = sets (shapeTables z words old) makersAt (part makersMadeAt (makerWidth * z .rows) words)
+shapeWritten z words old =
+    let makers : List ℕ = sets (shapeTables z words old) makersAt (part makersMadeAt (makerWidth * z .rows) words) in
+    sets makers flowOrderAt (part flowOrderMadeAt (z .edges) words)

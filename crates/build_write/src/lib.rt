@@ -12,6 +12,7 @@ use layout::COUNTS_LENGTH;
 use layout::EDGE_WIDTH;
 use layout::EDGES_AT;
 use layout::ELEMENTS_MADE_AT;
+use layout::FLOW_ORDER_AT;
 use layout::MAKER_WIDTH;
 use layout::MAKERS_AT;
 use layout::NODE_ROW_WIDTH;
@@ -139,7 +140,7 @@ fn write_tables(z: Sizes, words: &[u16], shape: &mut [u16])
     );
 }
 
-// The shape run: counts and tables, the rows' makers last.
+// The shape run: counts and tables, then the rows' makers and the flow order.
 pub fn write_shape(z: Sizes, words: &[u16], shape: &mut [u16])
     requires { ⌜ Few z × (wordsLength ≤ length (now words)) × (shapeLength ≤ length (now shape)) ⌝ }
     ensures { λ _. ⌜ now (shape .exit) ≡ shapeWritten z (now (words .entry)) (now (shape .entry)) ⌝ }
@@ -147,4 +148,5 @@ pub fn write_shape(z: Sizes, words: &[u16], shape: &mut [u16])
     write_tables(z, words, shape);
     let made = &words[SHAPE_MADE_AT..];
     runs::copy_u16(shape, MAKERS_AT, made, MAKERS_AT, MAKER_WIDTH * z.rows);
+    runs::copy_u16(shape, FLOW_ORDER_AT, made, FLOW_ORDER_AT, z.edges);
 }

@@ -16,7 +16,7 @@ use Rattle.build_rows.specs.Assembled.{Laid}
 module _ (s : Sentinel) (b : Built) (z : Sizes) (words : List ℕ) (numbers : List Float) (l : Laid s b z words numbers) where
   shape-is : (old : List ℕ) → shapeWritten z words old ≡ shapeAfter old b
   unfolding shapeWritten shapeTables shapeAfter
-  shape-is old = rw (l .counts, l .nodes, l .edges, l .nodeRows, l .aggregates, l .virtualStorages, l .makers)
+  shape-is old = rw (l .counts, l .nodes, l .edges, l .nodeRows, l .aggregates, l .virtualStorages, l .makers, l .flowOrder)
 
   pub store-is : (old : Store) (cl cu cc rl ru el : List Float) (co st sh : List ℕ)
       → ColumnsWritten s z (old .colLower) (old .colUpper) (old .colObjCoef) cl cu cc

@@ -7,6 +7,7 @@ use lib.ListN.{length, getD, replicate}
 use lib.Dec.{ltb}
 use lib.Seq.{sets}
 use lib.Ieee.{Float}
+use Rattle.layout.specs.Layout.{flowOrderAt}
 use Rattle.pywr.specs.declared.Answer.{Answer}
 use Rattle.pywr.specs.declared.Answer.the-variants.{Accepted, Refused}
 use Rattle.pywr.specs.Result.{Result, value, refused, _>>=_, need}
@@ -15,7 +16,7 @@ use Rattle.pywr.specs.Numbers.{zero64}
 use Rattle.pywr.specs.Costs.{stepCosts}
 use Rattle.pywr.specs.Step.{stepped}
 use Rattle.pywr.specs.Store.{Store, edgeCount, edgesAt, shapeOf, columnCount}
-use Rattle.pywr.specs.Misshapen.{edgeFits, allEntries}
+use Rattle.pywr.specs.Misshapen.{edgeFits, flowOrderFits, allEntries}
 use Rattle.pywr.specs.Written.{steppedStore}
 use Rattle.pywr.specs.Calls.{cleared, stepRoom, stepRead, stepIntervals, stepAnswer, storeOfStep, stepStore, stepWork, AfterStep}
 use Rattle.step_costs.proofs.CostLaws.{stepped-costs}
@@ -38,11 +39,16 @@ storeOf colLower colUpper colObjCoef rowLower rowUpper elements columns rowStart
       shape = shape;
     }
 
--- the edges' test reads the shape run alone
+-- the edges' test and the flow order's read the shape run alone
 pub edges-fit : (s t : Store) → s .shape ≡ t .shape → allEntries (edgeFits t) 3 edgesAt (edgeCount t) ≡ true → allEntries (edgeFits s) 3 edgesAt (edgeCount s) ≡ true
 unfolding edgeFits
 edges-fit s t e h = ap (λ (w : List ℕ). allEntries
     (λ (at : ℕ). ltb (getD w at 0) (getD w 1 0) && ltb (getD w (at + 1) 0) (getD w 1 0) && ltb (getD w (at + 2) 0) (getD w 3 0)) 3 edgesAt (getD w 2 0)) e ∙ h
+
+pub order-fits : (s t : Store) → s .shape ≡ t .shape → allEntries (flowOrderFits t) 1 flowOrderAt (edgeCount t) ≡ true
+    → allEntries (flowOrderFits s) 1 flowOrderAt (edgeCount s) ≡ true
+unfolding flowOrderFits
+order-fits s t e h = ap (λ (w : List ℕ). allEntries (λ (at : ℕ). ltb (getD w at 0) (getD w 2 0)) 1 flowOrderAt (getD w 2 0)) e ∙ h
 
 module _ (file : List ℕ) (old : Store) (work : List Float) where
   -- 16: nothing is changed

@@ -15,7 +15,7 @@ use lib.Ieee.Fits.{div-fits, neg-fits, add-fits}
 use lib.Ieee.Scale.{finite}
 use Rattle.doubles.specs.Units.{sign, mag, signed, rank, zero+}
 use Rattle.doubles.specs.Sums.{Room, Grain, Each, addAll, ranks, mags}
-use Rattle.doubles.specs.Errors.{Off}
+use Rattle.doubles.specs.Errors.{Off, Near}
 use Rattle.doubles.specs.Costs.{two, twice, Part, edgeOff, EdgeCost, total, All}
 use Rattle.doubles.proofs.Integers.{sum-is, neg-plus, neg-less}
 use Rattle.doubles.proofs.Units.{neg-mag, neg-finite}
@@ -123,21 +123,33 @@ module _ {A : Type 0} (cost : A → Float) (exact : A → ℤ) where
       step : (n d : ℕ) → d + n * d ≡ suc n * d
       step n d = omega arith
 
+  -- the rounded sum is near the sum of the rounded costs, where the doubles stand 2 ^ 1041 units apart at most
+  sum-near : (xs : List A) → length xs ≤ 512 → All cost exact xs
+      → Near binary64 (rank binary64 zero+ +ℤ ranks binary64 (map cost xs)) (length (map cost xs) * 2 ^ 1041) (addAll binary64 zero+ (map cost xs))
+  sum-near xs n ps =
+      let rs = map cost xs in
+      let j : ℕ = 1041 in
+      let L : length rs ≤ 512 = le-trans (le-of-eq (length-map xs cost)) n in
+      add-all-near binary64 j (lit< tt) zero+ rs (zero-grain binary64 0 .fit) tt (finite-all xs ps)
+      (small (mag binary64 zero+) (mags binary64 rs) (length rs) (2001 * 2 ^ 1074) (2 ^ j) (2 ^ (53 + j)) (zero-mag binary64)
+      (mags-le binary64 (2001 * 2 ^ 1074) rs (within-all xs ps)) L (lit< tt))
+    where
+      small : (z m n b v u : ℕ) → z ≡ 0 → m ≤ n * b → n ≤ 512 → 512 * b + 512 * v < u → z + m + n * v < u
+      small z m n b v u e h k l = omega (arith, mul-le-mul-right b k, mul-le-mul-right v k)
+
+  pub column-finite : (xs : List A) → length xs ≤ 512 → All cost exact xs → T (finite (addAll binary64 zero+ (map cost xs)))
+  column-finite xs n ps = sum-near xs n ps .isFinite
+
   -- within 2 ^ -24: that is 2 ^ 1051 half units, and `Off` counts twice the distance
   pub column-near : (xs : List A) → length xs ≤ 512 → All cost exact xs → Off (twice (addAll binary64 zero+ (map cost xs))) (total exact xs) (2 ^ 1052)
   column-near xs n ps =
       let rs = map cost xs in
       let j : ℕ = 1041 in
       let L : length rs ≤ 512 = le-trans (le-of-eq (length-map xs cost)) n in
-      let ran = add-all-near binary64 j (lit< tt) zero+ rs (zero-grain binary64 0 .fit) tt (finite-all xs ps)
-      (small (mag binary64 zero+) (mags binary64 rs) (length rs) (2001 * 2 ^ 1074) (2 ^ j) (2 ^ (53 + j)) (zero-mag binary64) (mags-le binary64 (2001 * 2 ^ 1074) rs (within-all xs ps)) L (lit< tt)) in
-      let a = off-double (rank binary64 (addAll binary64 zero+ rs)) (rank binary64 zero+ +ℤ ranks binary64 rs) (length rs * 2 ^ j) (ran .off) in
+      let a = off-double (rank binary64 (addAll binary64 zero+ rs)) (rank binary64 zero+ +ℤ ranks binary64 rs) (length rs * 2 ^ j) (sum-near xs n ps .off) in
       let b = subst (λ (z : ℤ). Off (twice (addAll binary64 zero+ rs)) (z +ℤ z) (2 * (length rs * 2 ^ j)))
       (ap (λ (z : ℕ). pos z +ℤ ranks binary64 rs) (zero-mag binary64) ∙ +ℤ-idl (ranks binary64 rs)) a in
       off-le (enough (length rs) (length xs) (2 ^ j) edgeOff (2 ^ 1052) L n (lit≤ tt)) (off-trans b (edges-off edgeOff xs ps (le-refl edgeOff)))
     where
-      small : (z m n b v u : ℕ) → z ≡ 0 → m ≤ n * b → n ≤ 512 → 512 * b + 512 * v < u → z + m + n * v < u
-      small z m n b v u e h k l = omega (arith, mul-le-mul-right b k, mul-le-mul-right v k)
-
       enough : (m n v w u : ℕ) → m ≤ 512 → n ≤ 512 → 2 * (512 * v) + 512 * w ≤ u → 2 * (m * v) + n * w ≤ u
       enough m n v w u h k l = omega (arith, mul-le-mul-right v h, mul-le-mul-right w k)

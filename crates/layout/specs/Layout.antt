@@ -57,7 +57,7 @@ abbrev pub rowStartsLength : ℕ
 rowStartsLength = 1025
 
 abbrev pub shapeLength : ℕ
-shapeLength = 22795
+shapeLength = 23307
 
 -- the shape run starts with the sentinel's code and the counts
 abbrev pub sentinelAt : ℕ
@@ -115,6 +115,9 @@ virtualStoragesAt = 19531
 abbrev pub makersAt : ℕ
 makersAt = 19723
 
+abbrev pub flowOrderAt : ℕ
+flowOrderAt = 22795
+
 -- how many words an entry of each has
 abbrev pub nodeWidth : ℕ
 nodeWidth = 2
@@ -133,6 +136,9 @@ virtualStorageWidth = 6
 
 abbrev pub makerWidth : ℕ
 makerWidth = 3
+
+abbrev pub flowOrderWidth : ℕ
+flowOrderWidth = 1
 
 -- the counts of a shape run
 abbrev pub sentinelIn : List ℕ → ℕ
@@ -228,6 +234,10 @@ makerIndex shape at = getD shape (at + 1) 0
 abbrev pub makerSharedBy : List ℕ → ℕ → ℕ
 makerSharedBy shape at = getD shape (at + 2) 0
 
+-- of the flow order: an edge's number
+abbrev pub flowOrderEdge : List ℕ → ℕ → ℕ
+flowOrderEdge shape at = getD shape at 0
+
 -- ---- the build's work area
 
 -- a run of words: the elements' columns from 0, the row starts, then the shape run's words
@@ -255,8 +265,11 @@ virtualStoragesMadeAt = shapeMadeAt + virtualStoragesAt
 abbrev pub makersMadeAt : ℕ
 makersMadeAt = shapeMadeAt + makersAt
 
+abbrev pub flowOrderMadeAt : ℕ
+flowOrderMadeAt = shapeMadeAt + flowOrderAt
+
 abbrev pub wordsLength : ℕ
-wordsLength = 27916
+wordsLength = 28428
 
 -- a run of doubles: the rows' lower bounds from 0, their upper bounds, then the elements, with room for the row that is being gathered
 abbrev pub uppersMadeAt : ℕ
@@ -296,7 +309,8 @@ pub record Follows : Type 0 where
   pub aggregates : aggregatesAt ≡ nodeRowsAt + nodeRowWidth * nodeRowCeiling
   pub virtualStorages : virtualStoragesAt ≡ aggregatesAt + aggregateWidth * aggregateCeiling
   pub makers : makersAt ≡ virtualStoragesAt + virtualStorageWidth * virtualStorageCeiling
-  pub shape : shapeLength ≡ makersAt + makerWidth * rowCeiling
+  pub flow-order : flowOrderAt ≡ makersAt + makerWidth * rowCeiling
+  pub shape : shapeLength ≡ flowOrderAt + flowOrderWidth * edgeCeiling
   pub starts-made : startsMadeAt ≡ elementCeiling
   pub shape-made : shapeMadeAt ≡ startsMadeAt + rowStartsLength
   pub words : wordsLength ≡ shapeMadeAt + shapeLength
@@ -322,6 +336,7 @@ follows =
       aggregates = refl;
       virtualStorages = refl;
       makers = refl;
+      flow-order = refl;
       shape = refl;
       starts-made = refl;
       shape-made = refl;

@@ -68,7 +68,9 @@ pub const VIRTUAL_STORAGES_AT: usize = AGGREGATES_AT + AGGREGATE_WIDTH * AGGREGA
 
 pub const MAKERS_AT: usize = VIRTUAL_STORAGES_AT + VIRTUAL_STORAGE_WIDTH * VIRTUAL_STORAGE_CEILING;
 
-pub const SHAPE_LENGTH: usize = MAKERS_AT + MAKER_WIDTH * ROW_CEILING;
+pub const FLOW_ORDER_AT: usize = MAKERS_AT + MAKER_WIDTH * ROW_CEILING;
+
+pub const SHAPE_LENGTH: usize = FLOW_ORDER_AT + FLOW_ORDER_WIDTH * EDGE_CEILING;
 
 // The words of an entry in each table. A node: kind, flag (1 constant).
 pub const NODE_WIDTH: usize = 2;
@@ -113,6 +115,9 @@ pub const MAKER_WIDTH: usize = 3;
 pub const MAKER_INDEX: usize = 1;
 
 pub const MAKER_SHARED_BY: usize = 2;
+
+// The flow order: an edge's number. One entry for each edge.
+pub const FLOW_ORDER_WIDTH: usize = 1;
 
 // The kinds of makers.
 pub const BY_MASS: u16 = 0;

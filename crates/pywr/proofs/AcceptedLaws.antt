@@ -10,7 +10,7 @@ use lib.Seq.{sets, length-sets}
 use lib.Dec.{T, leb, ltb, eqb, le→leb}
 use lib.Ieee.{Float}
 use lib.Ieee.Fits.{and-i}
-use Rattle.layout.specs.Layout.{makersAt, makerWidth, rowStartsLength, shapeLength, varyingIn}
+use Rattle.layout.specs.Layout.{makersAt, makerWidth, flowOrderAt, flowOrderWidth, rowStartsLength, shapeLength, varyingIn}
 use Rattle.laws.proofs.Tests.{to-true, of-true}
 use Rattle.pywr.specs.declared.Sentinel.{Sentinel}
 use Rattle.pywr.specs.Result.{value, Result, refused, _>>=_, need}
@@ -25,7 +25,7 @@ use Rattle.pywr.specs.Step.{periods, stepped}
 use Rattle.pywr.specs.Store.{Store, storeHasRoom, sentinelCode, nodeCount, edgeCount, nodeRowCount, aggregateCount, virtualStorageCount}
 use Rattle.pywr.specs.Store.{varyingCount, rowCount, nodesAt, edgesAt, nodeRowsAt, aggregatesAt, virtualStoragesAt, nodeEntry, edgeEntry}
 use Rattle.pywr.specs.Store.{nodeRowEntry, virtualStorageEntry, makerEntry, makersIn, shapeOf, startOf, columnsOfRow, programmeIn}
-use Rattle.pywr.specs.Misshapen.{countsFit, startsRise, rowColumnsRise, nodeFits, edgeFits, nodeRowFits, aggregateFits, virtualStorageFits, makersOfKind, makerFits, allEntries, wellShaped}
+use Rattle.pywr.specs.Misshapen.{countsFit, startsRise, rowColumnsRise, nodeFits, edgeFits, nodeRowFits, aggregateFits, virtualStorageFits, makersOfKind, makerFits, flowOrderFits, allEntries, wellShaped}
 use Rattle.pywr.specs.Written.{nodeWords, edgeWords, nodeRowWords, virtualStorageWords, makerWords, countWords, shapeAfter, startsFrom}
 use Rattle.pywr.specs.Written.{columnsIn, valuesIn, lowerOf, upperOf, rowsOf, builtStore, steppedStore}
 use Rattle.pywr.specs.Calls.{buildAnswer, buildStore, workNeeded, stepRoom, stepRead, stepIntervals, stepOrdered, stepAnswer, storeOfStep, stepStore, isAccepted, rowAnswer}
@@ -42,7 +42,7 @@ unfolding startsRise steppedStore
 starts-same s p r zero = refl
 starts-same s p r (suc n) = ap (λ (x : Bool). leb (startOf s r) (startOf s (r + 1)) && x) (starts-same s p (r + 1) n)
 
--- 17's parts before the makers; the rising starts are x
+-- 17's parts before the makers, and before the flow order; the rising starts are x
 abbrev pub beforeMakers : Store → Bool → Bool
 beforeMakers s x =
     countsFit s
@@ -55,9 +55,12 @@ beforeMakers s x =
     && allEntries (aggregateFits s) 1 aggregatesAt (aggregateCount s)
     && allEntries (virtualStorageFits s) 6 virtualStoragesAt (virtualStorageCount s)
 
+abbrev pub beforeFlowOrder : Store → Bool → Bool
+beforeFlowOrder s x = beforeMakers s x && allEntries (makerFits s) makerWidth makersAt (rowCount s)
+
 shaped-same : (s : Store) (p : Programme) → wellShaped (steppedStore s p) ≡ wellShaped s
-unfolding wellShaped steppedStore countsFit rowColumnsRise nodeFits edgeFits nodeRowFits aggregateFits virtualStorageFits makerFits makersOfKind columnsOfRow
-shaped-same s p = ap (λ (x : Bool). beforeMakers s x && allEntries (makerFits s) makerWidth makersAt (rowCount s)) (starts-same s p 0 (rowCount s))
+unfolding wellShaped steppedStore countsFit rowColumnsRise nodeFits edgeFits nodeRowFits aggregateFits virtualStorageFits makerFits makersOfKind flowOrderFits columnsOfRow
+shaped-same s p = ap (λ (x : Bool). beforeFlowOrder s x && allEntries (flowOrderFits s) flowOrderWidth flowOrderAt (edgeCount s)) (starts-same s p 0 (rowCount s))
 
 shape-same : (s : Store) (p : Programme) → shapeOf (steppedStore s p) ≡ shapeOf s
 unfolding shapeOf steppedStore nodeEntry edgeEntry nodeRowEntry virtualStorageEntry
@@ -185,7 +188,9 @@ shape-long old b =
     let nodeRows : List ℕ = sets edges nodeRowsAt (flatMap nodeRowWords (b .shape .nodeRows)) in
     let groups : List ℕ = sets nodeRows aggregatesAt (b .shape .aggregates) in
     let virtualStorages : List ℕ = sets groups virtualStoragesAt (flatMap virtualStorageWords (b .shape .virtualStorages)) in
-    length-sets virtualStorages makersAt (flatMap makerWords (b .makers))
+    let makers : List ℕ = sets virtualStorages makersAt (flatMap makerWords (b .makers)) in
+    length-sets makers flowOrderAt (b .shape .flowOrder)
+    ∙ length-sets virtualStorages makersAt (flatMap makerWords (b .makers))
     ∙ length-sets groups virtualStoragesAt (flatMap virtualStorageWords (b .shape .virtualStorages))
     ∙ length-sets nodeRows aggregatesAt (b .shape .aggregates)
     ∙ length-sets edges nodeRowsAt (flatMap nodeRowWords (b .shape .nodeRows))

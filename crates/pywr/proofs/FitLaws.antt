@@ -31,6 +31,7 @@ use Rattle.pywr.proofs.ColumnLaws.{put-length, new-length}
 use Rattle.pywr.proofs.WeightLaws.{pipes-length}
 use Rattle.pywr.proofs.JoinLaws.{AllFit, add-fit, add-on-fit, RowsFit, Placed, JoinKept, joins-kept, placed-stays, placed-length}
 use Rattle.pywr.proofs.RowsBack.{Typed}
+use Rattle.pywr.proofs.FlowLaws.{flow-length}
 use Rattle.pywr.proofs.MakerLaws.{makers-count}
 use Rattle.pywr.proofs.Represents.{ProgrammeFits}
 use Rattle.pywr.proofs.VaryingLaws.{node-places}
@@ -329,6 +330,7 @@ programme-fits w net good fewAsks under =
             virtualStorages = let h = virtual-storages-few (net .virtualStorages) (forVirtualStorages w net .places) in omega arith;
             rows = b;
             makers = makers-count w net;
+            flowOrder = flow-length net ∙ sym (pipes-length (net .edges) (columns net .of) (columns-long net));
           };
       columns = subst (λ (k : ℕ). k ≤ 640) (sym cc′) (omega arith);
       rows = let l = length-append (p .varying) (p .fixed) in omega arith;

@@ -9,7 +9,7 @@ use lib.ListN.{length, getElem?, length-append}
 use lib.Dec.{T, leb, ltb, leb→le, ltb→lt}
 use lib.Ieee.{Float}
 use lib.Ieee.Fits.{and-l, and-r}
-use Rattle.layout.specs.Layout.{makersAt, makerWidth}
+use Rattle.layout.specs.Layout.{makersAt, makerWidth, flowOrderAt, flowOrderWidth}
 use Rattle.laws.proofs.Tests.{to-true, of-true}
 use Rattle.pywr.specs.declared.Sentinel.{Sentinel}
 use Rattle.pywr.specs.Result.{value}
@@ -18,8 +18,8 @@ use Rattle.pywr.specs.NetworkFile.{parseNetwork}
 use Rattle.pywr.specs.Programme.{Row, NodeRow, Shape, Maker, byNode, byAggregate, byExclusivity}
 use Rattle.pywr.specs.Makers.{askers, references}
 use Rattle.pywr.specs.Build.{programmeOf}
-use Rattle.pywr.specs.Store.{Store, varyingCount, rowCount, shapeOf, makerEntry, makersIn, rowMaker}
-use Rattle.pywr.specs.Misshapen.{startsRise, makersOfKind, makerFits, allEntries, wellShaped}
+use Rattle.pywr.specs.Store.{Store, edgeCount, varyingCount, rowCount, shapeOf, makerEntry, makersIn, rowMaker}
+use Rattle.pywr.specs.Misshapen.{startsRise, makersOfKind, makerFits, flowOrderFits, allEntries, wellShaped}
 use Rattle.pywr.specs.Written.{rowsOf}
 use Rattle.pywr.specs.Calls.{buildAnswer, buildStore, isAccepted}
 use Rattle.pywr.specs.Correspondence.{Call, storeAfter}
@@ -38,7 +38,9 @@ row-made s t r h =
     let m : Maker = rowMaker s r in
     let p : Bool = leb (m .kind) byExclusivity in
     let q : Bool = ltb (m .index) (makersOfKind s (m .kind)) in
-    let passed = to-true all (and-r (beforeMakers s (startsRise s 0 (rowCount s))) all t) in
+    let before : Bool = beforeMakers s (startsRise s 0 (rowCount s)) in
+    let flow : Bool = allEntries (flowOrderFits s) flowOrderWidth flowOrderAt (edgeCount s) in
+    let passed = to-true all (and-r before all (and-l (before && all) flow t)) in
     let fits : T (makerFits s (makersAt + makerWidth * r)) =
     of-true (makerFits s (makersAt + makerWidth * r)) (entry-passes (makerFits s) makerWidth (rowCount s) makersAt passed r h) in
     let both : T (p && q) = and-l (p && q) (leb 1 (m .sharedBy)) fits in

@@ -34,7 +34,7 @@ pub record FiniteFit (x : Float) : Type 0 where
   pub finite : T (finite x)
   pub fit : T (fits binary64 x)
 
-trillion-finite : T (finite trillion)
+pub trillion-finite : T (finite trillion)
 unfolding trillion ofBits
 trillion-finite = tt
 

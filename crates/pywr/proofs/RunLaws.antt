@@ -14,7 +14,7 @@ use Rattle.pywr.specs.ColEdgeMap.{MappedEdge}
 use Rattle.pywr.specs.Programme.{Column, Row, Programme, NodeShape, Shape, Built}
 use Rattle.pywr.specs.StepFile.{NodeStep, StepFile, readStep}
 use Rattle.pywr.specs.StepIntervals.{intervals, Intervals, hasBinaryRow, ordered}
-use Rattle.pywr.specs.Costs.{stepCosts, addCosts}
+use Rattle.pywr.specs.Costs.{stepCosts, addCosts, edgesNumbered}
 use Rattle.pywr.specs.Step.{periods, withCosts, stepped}
 use Rattle.pywr.specs.Store.{Store, shapeOf, programmeIn}
 use Rattle.pywr.specs.Written.{steppedStore}
@@ -26,14 +26,14 @@ use Rattle.pywr.proofs.AgainLaws.{step-again, step-columns}
 
 -- ---- columns: a step changes costs alone
 
-costs-length : (shapes : List NodeShape) (steps : List NodeStep) (ps : List MappedEdge) (costs : List Float) → length (addCosts shapes steps ps costs) ≡ length costs
+pub costs-length : (shapes : List NodeShape) (steps : List NodeStep) (ps : List MappedEdge) (costs : List Float) → length (addCosts shapes steps ps costs) ≡ length costs
 unfolding addCosts
 costs-length shapes steps [] costs = refl
 costs-length shapes steps (p ∷ ps) costs = costs-length shapes steps ps _ ∙ length-set costs (p .column) _
 
-step-costs-length : (shape : Shape) (n : ℕ) (steps : List NodeStep) → length (stepCosts shape n steps) ≡ n
+pub step-costs-length : (shape : Shape) (n : ℕ) (steps : List NodeStep) → length (stepCosts shape n steps) ≡ n
 unfolding stepCosts
-step-costs-length shape n steps = costs-length (shape .nodes) steps (shape .mappedEdges) _ ∙ length-replicate n _
+step-costs-length shape n steps = costs-length (shape .nodes) steps (edgesNumbered (shape .flowOrder) (shape .mappedEdges)) _ ∙ length-replicate n _
 
 module _ {A : Type 0} (get : Column → A) (keeps : (c : Column) (x : Float) → get (record { integer = c .integer; lower = c .lower; upper = c .upper; cost = x }) ≡ get c) where
   with-costs-keep : (cs : List Column) (xs : List Float) → length xs ≡ length cs → map get (withCosts cs xs) ≡ map get cs
@@ -60,15 +60,27 @@ with-costs-again (c ∷ cs) (x ∷ xs) (y ∷ ys) e =
     ap (λ (l : List Column). record { integer = c .integer; lower = c .lower; upper = c .upper; cost = y }
     ∷ l) (with-costs-again cs xs ys (let z : suc (length xs) ≡ suc (length cs) = e in omega arith))
 
+-- the costs are those that were given
+pub with-costs-are : (cs : List Column) (xs : List Float) → length xs ≡ length cs → map (λ (c : Column). c .cost) (withCosts cs xs) ≡ xs
+unfolding withCosts
+with-costs-are [] [] e = refl
+with-costs-are [] (x ∷ xs) e = let z : suc (length xs) ≡ 0 = e in absurd (omega arith)
+with-costs-are (c ∷ cs) [] e = let z : 0 ≡ suc (length cs) = e in absurd (omega arith)
+with-costs-are (c ∷ cs) (x ∷ xs) e = ap (λ (l : List Float). x ∷ l) (with-costs-are cs xs (let z : suc (length xs) ≡ suc (length cs) = e in omega arith))
+
 -- ---- one step
 
 module _ (shape : Shape) (f : StepFile) (p : Programme) where
   costs-long : length (stepCosts shape (length (p .columns)) (f .nodes)) ≡ length (p .columns)
   costs-long = step-costs-length shape (length (p .columns)) (f .nodes)
 
-  stepped-length : length (stepped shape f p .columns) ≡ length (p .columns)
+  pub stepped-length : length (stepped shape f p .columns) ≡ length (p .columns)
   unfolding stepped
   stepped-length = with-costs-length (p .columns) _ costs-long
+
+  pub stepped-costs : map (λ (c : Column). c .cost) (stepped shape f p .columns) ≡ stepCosts shape (length (p .columns)) (f .nodes)
+  unfolding stepped
+  stepped-costs = with-costs-are (p .columns) _ costs-long
 
   pub stepped-lowers : map (λ (c : Column). c .lower) (stepped shape f p .columns) ≡ map (λ (c : Column). c .lower) (p .columns)
   unfolding stepped

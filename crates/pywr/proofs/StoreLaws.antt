@@ -8,7 +8,7 @@ use mathlib.Core.List.{List, [], _∷_, _++_, map, flatMap}
 use lib.ListN.{length, getD, set, length-set, length-append, List·getD-append}
 use lib.Seq.{sets, length-sets, getD-set-same, getD-set-other, getD-append-add}
 use lib.Dec.{eqb, lit≤}
-use Rattle.layout.specs.Layout.{aggregatesAt, edgesAt, makersAt, nodeRowCeiling, nodeRowsAt, shapeLength, virtualStoragesAt}
+use Rattle.layout.specs.Layout.{aggregatesAt, edgesAt, flowOrderAt, makersAt, nodeRowCeiling, nodeRowsAt, shapeLength, virtualStoragesAt}
 use Rattle.pywr.specs.ColEdgeMap.{MappedEdge}
 use Rattle.pywr.specs.Programme.{NodeShape, RowType, continuous, binaryUpper, binaryLower, NodeRow, VirtualStorageShape, Maker, Built}
 use Rattle.pywr.specs.Store.{Store, rowTypeOf, entries, nodeEntry, edgeEntry, nodeRowEntry, virtualStorageEntry, makerEntry, makersIn, shapeOf}
@@ -208,6 +208,7 @@ pub record TablesFit (b : Built) : Type 0 where
   pub virtualStorages : length (b .shape .virtualStorages) ≤ 32
   pub rows : length (b .programme .varying) + length (b .programme .fixed) ≤ 1024
   pub makers : length (b .makers) ≡ length (b .programme .varying) + length (b .programme .fixed)
+  pub flowOrder : length (b .shape .flowOrder) ≡ length (b .shape .mappedEdges)
 
 module _ (b : Built) where
   abbrev nodeTable : List ℕ
@@ -244,6 +245,9 @@ module _ (b : Built) where
   abbrev r6 : List ℕ → List ℕ
   r6 old = sets (r5 old) virtualStoragesAt virtualStorageTable
 
+  abbrev r7 : List ℕ → List ℕ
+  r7 old = sets (r6 old) makersAt makerTable
+
 module _ (old : List ℕ) (b : Built) (room : shapeLength ≤ length old) (fit : TablesFit b) where
   l1 : length (r1 b old) ≡ length old
   l1 = length-sets old 0 (countWords b)
@@ -263,6 +267,9 @@ module _ (old : List ℕ) (b : Built) (room : shapeLength ≤ length old) (fit :
   l6 : length (r6 b old) ≡ length old
   l6 = length-sets (r5 b old) virtualStoragesAt (virtualStorageTable b) ∙ l5
 
+  l7 : length (r7 b old) ≡ length old
+  l7 = length-sets (r6 b old) makersAt (makerTable b) ∙ l6
+
   n2 : 11 + length (nodeTable b) ≤ edgesAt
   n2 = let e = flat-length nodeWords 2 node-wide (b .shape .nodes) in let h = fit .nodes in omega arith
 
@@ -278,8 +285,16 @@ module _ (old : List ℕ) (b : Built) (room : shapeLength ≤ length old) (fit :
   n6 : virtualStoragesAt + length (virtualStorageTable b) ≤ makersAt
   n6 = let e = flat-length virtualStorageWords 6 virtual-storage-wide (b .shape .virtualStorages) in let h = fit .virtualStorages in omega arith
 
-  n7 : makersAt + length (makerTable b) ≤ shapeLength
+  n7 : makersAt + length (makerTable b) ≤ flowOrderAt
   n7 = let e = flat-length makerWords 3 maker-wide (b .makers) in let h = fit .rows in let k = fit .makers in omega arith
+
+  n8 : flowOrderAt + length (b .shape .flowOrder) ≤ shapeLength
+  n8 = let e = fit .flowOrder in let h = fit .mappedEdges in omega arith
+
+  -- the flow order is written last, behind every other table
+  held-last : (xs : List ℕ) (at : ℕ) → at + length xs ≤ flowOrderAt → Holds 0 (r7 b old) at xs → Holds 0 (shapeAfter old b) at xs
+  unfolding shapeAfter
+  held-last xs at n h = holds-after 0 (b .shape .flowOrder) xs (r7 b old) at flowOrderAt n h
 
   pub counts-held : Holds 0 (shapeAfter old b) 0 (countWords b)
   unfolding shapeAfter
@@ -291,7 +306,8 @@ module _ (old : List ℕ) (b : Built) (room : shapeLength ≤ length old) (fit :
       let e = holds-after 0 (nodeRowTable b) (countWords b) (r3 b old) 0 nodeRowsAt (omega arith) d in
       let f = holds-after 0 (b .shape .aggregates) (countWords b) (r4 b old) 0 aggregatesAt (omega arith) e in
       let g = holds-after 0 (virtualStorageTable b) (countWords b) (r5 b old) 0 virtualStoragesAt (omega arith) f in
-      holds-after 0 (makerTable b) (countWords b) (r6 b old) 0 makersAt (omega arith) g
+      let h = holds-after 0 (makerTable b) (countWords b) (r6 b old) 0 makersAt (omega arith) g in
+      held-last (countWords b) 0 (omega arith) h
 
   pub nodes-held : Holds 0 (shapeAfter old b) 11 (nodeTable b)
   unfolding shapeAfter
@@ -302,7 +318,8 @@ module _ (old : List ℕ) (b : Built) (room : shapeLength ≤ length old) (fit :
       let e = holds-after 0 (nodeRowTable b) (nodeTable b) (r3 b old) 11 nodeRowsAt (omega arith) d in
       let f = holds-after 0 (b .shape .aggregates) (nodeTable b) (r4 b old) 11 aggregatesAt (omega arith) e in
       let g = holds-after 0 (virtualStorageTable b) (nodeTable b) (r5 b old) 11 virtualStoragesAt (omega arith) f in
-      holds-after 0 (makerTable b) (nodeTable b) (r6 b old) 11 makersAt (omega arith) g
+      let h = holds-after 0 (makerTable b) (nodeTable b) (r6 b old) 11 makersAt (omega arith) g in
+      held-last (nodeTable b) 11 (omega arith) h
 
   pub pipes-held : Holds 0 (shapeAfter old b) edgesAt (pipeTable b)
   unfolding shapeAfter
@@ -312,7 +329,8 @@ module _ (old : List ℕ) (b : Built) (room : shapeLength ≤ length old) (fit :
       let e = holds-after 0 (nodeRowTable b) (pipeTable b) (r3 b old) edgesAt nodeRowsAt n d in
       let f = holds-after 0 (b .shape .aggregates) (pipeTable b) (r4 b old) edgesAt aggregatesAt (omega arith) e in
       let g = holds-after 0 (virtualStorageTable b) (pipeTable b) (r5 b old) edgesAt virtualStoragesAt (omega arith) f in
-      holds-after 0 (makerTable b) (pipeTable b) (r6 b old) edgesAt makersAt (omega arith) g
+      let h = holds-after 0 (makerTable b) (pipeTable b) (r6 b old) edgesAt makersAt (omega arith) g in
+      held-last (pipeTable b) edgesAt (omega arith) h
 
   pub nodeRows-held : Holds 0 (shapeAfter old b) nodeRowsAt (nodeRowTable b)
   unfolding shapeAfter
@@ -321,7 +339,8 @@ module _ (old : List ℕ) (b : Built) (room : shapeLength ≤ length old) (fit :
       let e = sets-holds 0 (nodeRowTable b) (r3 b old) nodeRowsAt (let l = l3 in omega arith) in
       let f = holds-after 0 (b .shape .aggregates) (nodeRowTable b) (r4 b old) nodeRowsAt aggregatesAt n e in
       let g = holds-after 0 (virtualStorageTable b) (nodeRowTable b) (r5 b old) nodeRowsAt virtualStoragesAt (omega arith) f in
-      holds-after 0 (makerTable b) (nodeRowTable b) (r6 b old) nodeRowsAt makersAt (omega arith) g
+      let h = holds-after 0 (makerTable b) (nodeRowTable b) (r6 b old) nodeRowsAt makersAt (omega arith) g in
+      held-last (nodeRowTable b) nodeRowsAt (omega arith) h
 
   pub aggregates-held : Holds 0 (shapeAfter old b) aggregatesAt (b .shape .aggregates)
   unfolding shapeAfter
@@ -329,20 +348,35 @@ module _ (old : List ℕ) (b : Built) (room : shapeLength ≤ length old) (fit :
       let n = n5 in
       let f = sets-holds 0 (b .shape .aggregates) (r4 b old) aggregatesAt (let l = l4 in omega arith) in
       let g = holds-after 0 (virtualStorageTable b) (b .shape .aggregates) (r5 b old) aggregatesAt virtualStoragesAt n f in
-      holds-after 0 (makerTable b) (b .shape .aggregates) (r6 b old) aggregatesAt makersAt (omega arith) g
+      let h = holds-after 0 (makerTable b) (b .shape .aggregates) (r6 b old) aggregatesAt makersAt (omega arith) g in
+      held-last (b .shape .aggregates) aggregatesAt (omega arith) h
 
   pub virtual-storages-held : Holds 0 (shapeAfter old b) virtualStoragesAt (virtualStorageTable b)
   unfolding shapeAfter
   virtual-storages-held =
       let n = n6 in
       let g = sets-holds 0 (virtualStorageTable b) (r5 b old) virtualStoragesAt (let l = l5 in omega arith) in
-      holds-after 0 (makerTable b) (virtualStorageTable b) (r6 b old) virtualStoragesAt makersAt n g
+      let h = holds-after 0 (makerTable b) (virtualStorageTable b) (r6 b old) virtualStoragesAt makersAt n g in
+      held-last (virtualStorageTable b) virtualStoragesAt (omega arith) h
 
   pub makers-held : Holds 0 (shapeAfter old b) makersAt (makerTable b)
   unfolding shapeAfter
-  makers-held = let n = n7 in sets-holds 0 (makerTable b) (r6 b old) makersAt (let l = l6 in omega arith)
+  makers-held =
+      let n = n7 in
+      let h = sets-holds 0 (makerTable b) (r6 b old) makersAt (let l = l6 in omega arith) in
+      held-last (makerTable b) makersAt n h
+
+  pub flow-order-held : Holds 0 (shapeAfter old b) flowOrderAt (b .shape .flowOrder)
+  unfolding shapeAfter
+  flow-order-held = let n = n8 in sets-holds 0 (b .shape .flowOrder) (r7 b old) flowOrderAt (let l = l7 in omega arith)
 
 -- ---- what is read of a built store is what was built
+
+-- a table of one word an entry
+numbers-back : (s : Store) (at : ℕ) (xs : List ℕ) → Holds 0 (s .shape) at xs → entries (λ (i : ℕ). getD (s .shape) i 0) 1 at (length xs) ≡ xs
+numbers-back s at xs h =
+    entries-back 0 (s .shape) (λ (i : ℕ). getD (s .shape) i 0) 1 (λ (x : ℕ). x ∷ []) (λ x. refl) (row-reads s) xs at
+    (subst (λ (l : List ℕ). Holds 0 (s .shape) at l) (sym (singles xs)) h)
 
 module _ (old : Store) (b : Built) (room : shapeLength ≤ length (old .shape)) (fit : TablesFit b) where
   pub count-is : (i : ℕ) → i < 11 → getD (shapeAfter (old .shape) b) i 0 ≡ getD (countWords b) i 0
@@ -365,13 +399,24 @@ module _ (old : Store) (b : Built) (room : shapeLength ≤ length (old .shape)) 
       ∙ entries-back 0 run (nodeRowEntry s) 4 nodeRowWords nodeRow-wide (nodeRow-reads s) (b .shape .nodeRows) nodeRowsAt (nodeRows-held (old .shape) b room fit) in
       let aggregates : entries (λ (at : ℕ). getD run at 0) 1 aggregatesAt (getD run 9 0) ≡ b .shape .aggregates =
       ap (entries (λ (at : ℕ). getD run at 0) 1 aggregatesAt) (count-is 9 (lit≤ tt))
-      ∙ entries-back 0 run (λ (at : ℕ). getD run at 0) 1 (λ (x : ℕ). x ∷ []) (λ x. refl) (row-reads s) (b .shape .aggregates) aggregatesAt
-      (subst (λ (l : List ℕ). Holds 0 run aggregatesAt l) (sym (singles (b .shape .aggregates))) (aggregates-held (old .shape) b room fit)) in
+      ∙ numbers-back s aggregatesAt (b .shape .aggregates) (aggregates-held (old .shape) b room fit) in
       let virtualStorages : entries (virtualStorageEntry s) 6 virtualStoragesAt (getD run 10 0) ≡ b .shape .virtualStorages =
       ap (entries (virtualStorageEntry s) 6 virtualStoragesAt) (count-is 10 (lit≤ tt))
       ∙ entries-back 0 run (virtualStorageEntry s) 6 virtualStorageWords virtual-storage-wide (virtual-storage-reads s) (b .shape .virtualStorages)
       virtualStoragesAt (virtual-storages-held (old .shape) b room fit) in
-      λ i. record { nodes = nodes i; mappedEdges = mappedEdges i; edgeColumns = count-is 3 (lit≤ tt) i; nodeRows = nodeRows i; aggregates = aggregates i; virtualStorages = virtualStorages i }
+      let flow : entries (λ (at : ℕ). getD run at 0) 1 flowOrderAt (getD run 2 0) ≡ b .shape .flowOrder =
+      ap (entries (λ (at : ℕ). getD run at 0) 1 flowOrderAt) (count-is 2 (lit≤ tt) ∙ sym (fit .flowOrder))
+      ∙ numbers-back s flowOrderAt (b .shape .flowOrder) (flow-order-held (old .shape) b room fit) in
+      λ i.
+      record {
+        nodes = nodes i;
+        mappedEdges = mappedEdges i;
+        flowOrder = flow i;
+        edgeColumns = count-is 3 (lit≤ tt) i;
+        nodeRows = nodeRows i;
+        aggregates = aggregates i;
+        virtualStorages = virtualStorages i;
+      }
 
   pub makers-back : makersIn (builtStore old b) ≡ b .makers
   unfolding makersIn builtStore countWords

@@ -1,12 +1,12 @@
 -- What a node and a virtual storage's parts add to a row, each element times a weight of its column, where every sum is exact. Assumes nothing.
 use mathlib.Core.Path.{_≡_, refl, sym, ap, ap₂, _∙_}
-use Prim.Native.Nat.{ℕ, suc, _+_, _*_, _^_, _<_, _≤_, suc-le-suc, zero-le}
+use Prim.Native.Nat.{ℕ, zero, suc, _+_, _*_, _^_, _<_, _≤_, suc-le-suc, zero-le}
 use native.Mathlib.Nat.{le-trans, le-of-eq, mul-le-mul-right, suc-mul}
 use native.Mathlib.Omega.{arith}
 use mathlib.Core.Bool.{Bool, true, false, cond}
 use mathlib.Core.List.{List, [], _∷_}
-use mathlib.Core.Option.{Option}
-use lib.ListN.{length}
+use mathlib.Core.Option.{Option, none, Option·getD}
+use lib.ListN.{length, getD}
 use lib.IntN.{ℤ, pos, negℤ, _+ℤ_, _-ℤ_, _*ℤ_, +ℤ-assoc, +ℤ-comm, +ℤ-idl}
 use lib.Dec.{eqb}
 use lib.Ieee.{Float, binary64, neg}
@@ -46,6 +46,15 @@ unfolding withColumns
 pipes-length [] cs l = refl
 pipes-length (x ∷ xs) [] l = let z : suc (length xs) ≡ 0 = l in absurd (omega arith)
 pipes-length (x ∷ xs) (c ∷ cs) l = ap suc (pipes-length xs cs (let m : suc (length xs) ≡ suc (length cs) = l in omega arith))
+
+-- an edge with its column, by its number
+pub pipe-at : (d : MappedEdge) (e : Edge) (es : List Edge) (cs : List (Option ℕ)) (i : ℕ) → length es ≡ length cs → i < length es
+    → getD (withColumns es cs) i d ≡ record { from = getD es i e .from; to = getD es i e .to; column = Option·getD (getD cs i none) 0 }
+unfolding withColumns
+pipe-at d e [] cs i l h = absurd (omega arith)
+pipe-at d e (x ∷ xs) [] i l h = let m : suc (length xs) ≡ 0 = l in absurd (omega arith)
+pipe-at d e (x ∷ xs) (c ∷ cs) zero l h = refl
+pipe-at d e (x ∷ xs) (c ∷ cs) (suc i) l h = pipe-at d e xs cs i (let m : suc (length xs) ≡ suc (length cs) = l in omega arith) (omega arith)
 
 -- ---- weights of a node's row and of parts
 

@@ -10,7 +10,7 @@ use mathlib.Core.Option.{Option, some}
 use lib.ListN.{length, getD, getElem?, length-append, length-map}
 use lib.Dec.{T, leb, ltb, eqb, le→leb, lt→ltb, lit≤}
 use lib.Ieee.Fits.{and-i, eq→eqb}
-use Rattle.layout.specs.Layout.{aggregatesAt, edgesAt, makersAt, nodeRowCeiling, nodeRowsAt, virtualStoragesAt}
+use Rattle.layout.specs.Layout.{aggregatesAt, edgesAt, flowOrderAt, makersAt, nodeRowCeiling, nodeRowsAt, virtualStoragesAt}
 use Rattle.laws.proofs.Tests.{or-l, or-r}
 use Rattle.pywr.specs.declared.Sentinel.{Sentinel}
 use Rattle.pywr.specs.declared.Sentinel.the-variants.{Infinity, Largest}
@@ -25,14 +25,14 @@ use Rattle.pywr.specs.Build.{allColumns, nodeShape, placedNodeRows, plac
 use Rattle.pywr.specs.Store.{Store, word, sentinelCode, nodeCount, edgeCount, edgeColumnCount, setCount, varyingCount, fixedCount}
 use Rattle.pywr.specs.Store.{elementsKept, nodeRowCount, aggregateCount, virtualStorageCount, rowCount, columnCount, startOf, columnsOfRow}
 use Rattle.pywr.specs.Misshapen.{countsFit, startsRise, columnsRise, rowColumnsRise, allEntries, wellShaped}
-use Rattle.pywr.specs.Misshapen.{nodeFits, edgeFits, nodeRowFits, aggregateFits, virtualStorageFits, makersOfKind, makerFits}
+use Rattle.pywr.specs.Misshapen.{nodeFits, edgeFits, nodeRowFits, aggregateFits, virtualStorageFits, makersOfKind, makerFits, flowOrderFits}
 use Rattle.pywr.specs.Written.{sentinelWord, rowTypeWord, flagWord, nodeWords, edgeWords, nodeRowWords, virtualStorageWords, makerWords, countWords}
 use Rattle.pywr.specs.Written.{shapeAfter, startsFrom, columnsIn, rowsOf, builtStore}
 use Rattle.pywr.proofs.WeightLaws.{pipes-length}
 use Rattle.pywr.proofs.EvenLaws.{mapped-edge-of}
 use Rattle.pywr.proofs.MassLaws.{Every}
 use Rattle.pywr.proofs.StoreLaws.{Holds, holds-left, holds-right, word-at, first-word, node-wide, pipe-wide, nodeRow-wide}
-use Rattle.pywr.proofs.StoreLaws.{virtual-storage-wide, nodes-held, pipes-held, nodeRows-held, aggregates-held, virtual-storages-held, maker-wide, makers-held, count-is}
+use Rattle.pywr.proofs.StoreLaws.{virtual-storage-wide, nodes-held, pipes-held, nodeRows-held, aggregates-held, virtual-storages-held, maker-wide, makers-held, flow-order-held, count-is}
 use Rattle.pywr.proofs.RowsBack.{held-head, held-tail, start-head, part-is, columns-length}
 use Rattle.pywr.proofs.Represents.{Roomy, Represents, ProgrammeFits, built-represents}
 use Rattle.pywr.proofs.ListLaws.{AllMem, all-none, all-cons, all-append, all-map, every-mem, found-mem, mem-found, not-found, same-some, below-found, found-left, found-map}
@@ -44,6 +44,7 @@ use Rattle.pywr.proofs.FitLaws.{nodes-placed, aggregates-placed, virtua
 use Rattle.pywr.proofs.CountLaws.{sets-under, requests-few}
 use Rattle.pywr.proofs.ShapeLaws.{Good-row, rising-test, aggregate-good, virtual-storage-good, masses-good, constants-good}
 use Rattle.pywr.proofs.MadeLaws.{makersFor, Made, makers-made}
+use Rattle.pywr.proofs.FlowLaws.{flow-length, flow-below}
 use Rattle.pywr.proofs.ShapeLaws.{actives-good, AskOk, requests-ok, joins-all}
 
 -- ---- tests of entries
@@ -192,6 +193,9 @@ nine a b c d e f g h i ta tb tc td te tf tg th ti =
 
 ten : (a b c d e f g h i j : Bool) → T a → T b → T c → T d → T e → T f → T g → T h → T i → T j → T (a && b && c && d && e && f && g && h && i && j)
 ten a b c d e f g h i j ta tb tc td te tf tg th ti tj = and-i (a && b && c && d && e && f && g && h && i) j (nine a b c d e f g h i ta tb tc td te tf tg th ti) tj
+
+eleven : (a b c d e f g h i j k : Bool) → T a → T b → T c → T d → T e → T f → T g → T h → T i → T j → T k → T (a && b && c && d && e && f && g && h && i && j && k)
+eleven a b c d e f g h i j k ta tb tc td te tf tg th ti tj tk = and-i (a && b && c && d && e && f && g && h && i && j) k (ten a b c d e f g h i j ta tb tc td te tf tg th ti tj) tk
 
 requests-rise : (net : Network) (sound : Sound net) → AllMem (Good-row net sound) (map requestedRow (requestsFrom (columnMap net) 0 (net .nodes)))
 unfolding requestedRow
@@ -475,12 +479,20 @@ module _ (w : Sentinel) (net : Network) (sound : Sound net) (old : Store) (room 
       (le→leb 1 (word store (at + 2)) (subst (λ (n : ℕ). 1 ≤ n) (sym third) (k .shared))))
       (b .makers) makersAt (makers-made w net sound) (makers-held (old .shape) b (room .shape) (fits .tables)))
 
+  flow-order-ok : T (allEntries (flowOrderFits store) 1 flowOrderAt (edgeCount store))
+  unfolding builtStore flowOrderFits countWords programmeOf assemble
+  flow-order-ok =
+      subst (λ (n : ℕ). T (allEntries (flowOrderFits store) 1 flowOrderAt n)) (flow-length net ∙ sym c2)
+      (row-all (shapeAfter (old .shape) b) (flowOrderFits store) (length (net .edges)) (λ at x k e. ltb-is (word store at) x (edgeCount store) (length (net .edges)) e c2 k)
+      (b .shape .flowOrder) flowOrderAt (flow-below net) (flow-order-held (old .shape) b (room .shape) (fits .tables)))
+
   pub shaped : T (wellShaped (builtStore old (programmeOf w net)))
   unfolding wellShaped
   shaped =
-      ten (countsFit store) (leb (sentinelCode store) 1) (eqb (startOf store 0) 0 && startsRise store 0 (rowCount store))
+      eleven (countsFit store) (leb (sentinelCode store) 1) (eqb (startOf store 0) 0 && startsRise store 0 (rowCount store))
       (allEntries (rowColumnsRise store) 1 0 (rowCount store)) (allEntries (nodeFits store) 2 11 (nodeCount store))
       (allEntries (edgeFits store) 3 edgesAt (edgeCount store)) (allEntries (nodeRowFits store) 4 nodeRowsAt (nodeRowCount store))
       (allEntries (aggregateFits store) 1 aggregatesAt (aggregateCount store)) (allEntries (virtualStorageFits store) 6 virtualStoragesAt (virtualStorageCount store))
-      (allEntries (makerFits store) 3 makersAt (rowCount store))
+      (allEntries (makerFits store) 3 makersAt (rowCount store)) (allEntries (flowOrderFits store) 1 flowOrderAt (edgeCount store))
       counts-ok (leb-is (sentinelCode store) (sentinelWord w) 1 c0 (sentinel-most w)) starts-ok rows-ok nodes-ok edges-ok nodeRows-ok aggregates-ok virtual-storages-ok makers-ok
+      flow-order-ok

@@ -10,6 +10,7 @@ use Rattle.pywr.specs.Result.{Result, _>>=_, need}
 use Rattle.pywr.specs.Numbers.{zero64, one64, high}
 use Rattle.pywr.specs.Network.{Node, VirtualStorage, Network}
 use Rattle.pywr.specs.NetworkFile.{parseNetwork}
+use Rattle.pywr.specs.FlowOrder.{flowOrder}
 use Rattle.pywr.specs.Rows.{Element, ColumnMap, columnMap, aggregateRow, virtualStorageRow}
 use Rattle.pywr.specs.VariableRows.{addVariableRows, Joined}
 use Rattle.pywr.specs.Programme.{Column, Row, Programme, NodeShape, NodeRow, VirtualStorageShape, Shape, Built}
@@ -56,6 +57,7 @@ assemble s net mapping =
     record {
       nodes = map nodeShape (net .nodes);
       mappedEdges = mapping .mappedEdges;
+      flowOrder = flowOrder net;
       edgeColumns = mapping .edgeColumns;
       nodeRows = placedNodeRows requests (forNodes .places);
       aggregates = forAggregates .places;

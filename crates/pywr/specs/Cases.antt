@@ -1,10 +1,11 @@
--- Document 01's cases marked •, the first as document 02, L2 has it, together as one table about these definitions, most of them on the bytes of a file.
+-- Document 01's cases marked •, the first as document 02, L2 has it, with cases of L2 and L10, together as one table about these definitions, most of them
+-- on the bytes of a file.
 -- Assumes nothing.
 use mathlib.Core.Path.{_≡_, refl}
 use Prim.Native.Nat.{ℕ}
 use mathlib.Core.List.{List, [], _∷_, _++_, map}
 use mathlib.Core.Bool.{Bool, true, false}
-use mathlib.Core.Option.{Option, some}
+use mathlib.Core.Option.{Option, none, some}
 use lib.ListN.{replicate}
 use lib.IntN.{pos, negsuc}
 use lib.Ieee.{Float, fin, neg}
@@ -16,12 +17,13 @@ use Rattle.pywr.specs.Numbers.{double, zero64, one64}
 use Rattle.pywr.specs.Network.{input, output, link, storage, Period, Network}
 use Rattle.pywr.specs.NetworkFile.{parseNetwork}
 use Rattle.pywr.specs.ColEdgeMap.{columns}
+use Rattle.pywr.specs.FlowOrder.{flowOrder}
 use Rattle.pywr.specs.Rows.{Element, element}
 use Rattle.pywr.specs.Programme.{Row, NodeRow, Built}
-use Rattle.pywr.specs.Build.{build}
+use Rattle.pywr.specs.Build.{build, programmeOf}
 use Rattle.pywr.specs.Interval.{intervalOf, storageBounds}
 use Rattle.pywr.specs.Period.{isActive}
-use Rattle.pywr.specs.Costs.{edgeCost}
+use Rattle.pywr.specs.Costs.{edgeCost, stepCosts}
 use Rattle.pywr.specs.Store.{Store, programmeIn}
 use Rattle.pywr.specs.Calls.{buildStore, stepAnswer, stepStore, isAccepted}
 use Rattle.pywr.specs.FileBytes.{varying, constant, edge, exclusive, date, nodeStep}
@@ -36,6 +38,15 @@ columnsOf (refused number place) = []
 unfoldable pub columnCountOf : Result Network → ℕ
 columnCountOf (value net) = columns net .count
 columnCountOf (refused number place) = 0
+
+unfoldable pub orderOf : Result Network → List ℕ
+orderOf (value net) = flowOrder net
+orderOf (refused number place) = []
+
+-- the cost of each column under these costs of the nodes
+unfoldable pub costsOf : Result Network → List Float → List Float
+costsOf (value net) costs = stepCosts (programmeOf Infinity net .shape) (columns net .count) (map (λ (x : Float). record { cost = x; bounds = none }) costs)
+costsOf (refused number place) costs = []
 
 unfoldable pub fixedOf : Result Built → List (List Element)
 fixedOf (value b) = map (λ (r : Row). r .elements) (b .programme .fixed)
@@ -69,6 +80,10 @@ orderedChain = chainNodes ++ edge 0 1 ++ edge 1 2 ++ edge 2 3 ++ edge 3 4
 -- "Input 0, links 1 and 2, edges 0→1, 1→2, 2→1"
 unfoldable pub ring : List ℕ
 ring = varying input ++ varying link ++ varying link ++ edge 0 1 ++ edge 1 2 ++ edge 2 1
+
+-- a ring of the links 2, 3 and 4 beside a pipe from input 0 to output 1
+unfoldable pub closedRing : List ℕ
+closedRing = varying input ++ varying output ++ varying link ++ varying link ++ varying link ++ edge 3 4 ++ edge 0 1 ++ edge 2 3 ++ edge 4 2
 
 -- two varying inputs without edges, beside a constant input and a constant output with one
 unfoldable pub edgelessInputs : List ℕ
@@ -157,6 +172,11 @@ pub record Cases : Type 0 where
   -- "columns 0, 1, 1; link 1's row is 1.0, 0.0"
   pub ringColumns : columnsOf (parseNetwork ring) ≡ some 0 ∷ some 1 ∷ some 1 ∷ []
   pub ringMass : fixedOf (build Infinity ring) ≡ (element 0 (whole 1) ∷ element 1 (whole 0) ∷ []) ∷ []
+  -- "Sum each column in flow order" (document 02, L10): 0→1, 1→2, 2→3, 3→4. Edge costs 2 ^ -30, 2 ^ 37, -2 ^ 37 and 0 come to 0.0, in edge order to 2 ^ -30
+  pub mixedOrder : orderOf (parseNetwork mixedChain) ≡ 3 ∷ 0 ∷ 2 ∷ 1 ∷ []
+  pub mixedCost : costsOf (parseNetwork mixedChain) (fin false 1 (negsuc 29) ∷ zero64 ∷ times 1 38 ∷ fin true 1 (pos 39) ∷ times 1 38 ∷ []) ≡ zero64 ∷ []
+  -- "a closed ring starts at its lowest edge" (document 02, L10): the pipe, then 3→4, 4→2, 2→3
+  pub closedRingOrder : orderOf (parseNetwork closedRing) ≡ 1 ∷ 0 ∷ 3 ∷ 2 ∷ []
   -- "Two varying inputs without edges share one empty row."
   pub edgelessRows : varyingOf (build Infinity edgelessInputs) ≡ [] ∷ []
   pub edgelessPlaces : placesOf (build Infinity edgelessInputs) ≡ 0 ∷ 0 ∷ []
@@ -187,8 +207,8 @@ pub record Cases : Type 0 where
   pub wrappedOver : isActive (season 3 10 3 5) 3 7 ≡ false
 
 pub cases : Cases
-unfolding computing columnsOf columnCountOf fixedOf varyingOf placesOf chainNodes mixedChain chainAndPipes orderedChain ring edgelessInputs pumps inputToOutput
-    inputToOutputStep blank work built boundsAfter acceptedAfter interval season
+unfolding computing columnsOf columnCountOf orderOf costsOf fixedOf varyingOf placesOf chainNodes mixedChain chainAndPipes orderedChain ring closedRing
+    edgelessInputs pumps inputToOutput inputToOutputStep blank work built boundsAfter acceptedAfter interval season
 cases =
     record {
       mixedColumns = refl;
@@ -199,6 +219,9 @@ cases =
       orderedMass = refl;
       ringColumns = refl;
       ringMass = refl;
+      mixedOrder = refl;
+      mixedCost = refl;
+      closedRingOrder = refl;
       edgelessRows = refl;
       edgelessPlaces = refl;
       pumpRows = refl;

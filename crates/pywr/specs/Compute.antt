@@ -10,6 +10,7 @@ use Rattle.pywr.specs.NetworkFile.{constantFits, readNode, joins, wrongW
 use Rattle.pywr.specs.NetworkFile.{inOrder, hasRoom, withNode, withEdge, withAggregate, withVirtualStorage, readBody, between, mostConstant, activeFits, leastDate}
 use Rattle.pywr.specs.NetworkFile.{mostDate, readRecord, readRecords, isEmpty, unconnectedLink, badConstant, checkNetwork, parseNetwork}
 use Rattle.pywr.specs.ColEdgeMap.{columns, columnAt, put, putNew, addSimpleEdge, united, uniteUnder, unite, addEqualEdges, single, sharesWith, placeEdge, placeEdges, withColumns, mappedEdges, columnOf}
+use Rattle.pywr.specs.FlowOrder.{numbersFrom, edgeOrder, nextEdge, noEdge, follow, isNone, startsPath, followAll, paths, flowOrder}
 use Rattle.pywr.specs.ExclusiveSets.{sameSet, hasSet, addSets, setsFrom, exclusiveSets, setNumber, timesIn, setsWithNode}
 use Rattle.pywr.specs.Rows.{addElement, addOn, columnMap, columnsWith, columnsInto, columnsOutOf, addNode, nodeRow, massRow}
 use Rattle.pywr.specs.Rows.{addNodes, addSetsOf, aggregateRow, addParts, virtualStorageRow, upperRow, lowerRow, addActive, exclusivityRow}
@@ -24,14 +25,14 @@ use Rattle.pywr.specs.Period.{isActive, virtualInterval}
 use Rattle.pywr.specs.StepFile.{expectMark, daysIn, readDate, boundFits, volumeFits, boundsRead, readNodeStep}
 use Rattle.pywr.specs.StepFile.{readNodeSteps, readAggregateStep, readAggregateSteps, readVirtualStorageStep, readVirtualStorageSteps, readStep}
 use Rattle.pywr.specs.StepIntervals.{intervals, nodeInterval, nodeIntervals, virtualStorageIntervals, isCrossed, isBeyond, isBinary, hasBinaryRow, badInterval, ordered}
-use Rattle.pywr.specs.Costs.{outgoingCost, incomingCost, edgeCost, kindAt, costAt, stepCosts, addCosts}
+use Rattle.pywr.specs.Costs.{outgoingCost, incomingCost, edgeCost, kindAt, costAt, addCosts, noMappedEdge, edgesNumbered, stepCosts, edgeOrderCosts}
 use Rattle.pywr.specs.Step.{adjust, withBounds, applyRowBounds, changeCoefficient, withCoefficient, overNodeRows, intervalFor, applyInterval, applyNodeRows}
 use Rattle.pywr.specs.Step.{resetBinaryRow, resetBinaryRows, applyCoefficient, applyCoefficients}
 use Rattle.pywr.specs.Step.{applyIntervals, rowOf, periodOf, stepRows, periods, withCosts, stepped}
 use Rattle.pywr.specs.Store.{storeHasRoom, sentinelOf, rowTypeOf, entries, nodeEntry, edgeEntry, nodeRowEntry}
 use Rattle.pywr.specs.Store.{virtualStorageEntry, makerEntry, makersIn, rowMaker, shapeOf, elementsOf, columnsOfRow, rowEntry, columnEntry, programmeIn}
 use Rattle.pywr.specs.Misshapen.{countsFit, startsRise, columnsRise, rowColumnsRise, allEntries, wellShaped}
-use Rattle.pywr.specs.Misshapen.{nodeFits, edgeFits, nodeRowFits, aggregateFits, virtualStorageFits, makersOfKind, makerFits}
+use Rattle.pywr.specs.Misshapen.{nodeFits, edgeFits, nodeRowFits, aggregateFits, virtualStorageFits, makersOfKind, makerFits, flowOrderFits}
 use Rattle.pywr.specs.Written.{sentinelWord, rowTypeWord, flagWord, nodeWords, edgeWords, nodeRowWords, virtualStorageWords, makerWords, integerColumns, countWords}
 use Rattle.pywr.specs.Written.{shapeAfter, startsFrom, columnsIn, valuesIn, lowerOf, upperOf, rowsOf, builtStore, steppedStore}
 use Rattle.pywr.specs.Calls.{cleared, buildRoom, buildAnswer, storeOfBuild, buildStore, buildWords, buildNumbers, stepRoom, stepRead}
@@ -61,7 +62,8 @@ reading = 0
 
 -- columns, rows and programmes
 unfoldable pub building : ℕ
-unfolding columnAt put putNew addSimpleEdge united uniteUnder unite addEqualEdges single sharesWith placeEdge placeEdges columns withColumns mappedEdges columnOf sameSet
+unfolding columnAt put putNew addSimpleEdge united uniteUnder unite addEqualEdges single sharesWith placeEdge placeEdges columns withColumns mappedEdges columnOf numbersFrom edgeOrder nextEdge noEdge follow isNone
+    startsPath followAll paths flowOrder sameSet
     hasSet addSets setsFrom exclusiveSets setNumber timesIn setsWithNode addElement addOn columnMap columnsWith columnsInto columnsOutOf addNode
     nodeRow massRow addNodes addSetsOf aggregateRow addParts virtualStorageRow upperRow lowerRow addActive exclusivityRow sameRow position
     addVariableRow addVariableRows exclusiveRequests requestsBySets requestsFrom freshRow massRowsFrom upperCoefficient lowerCoefficient exclusiveRows
@@ -74,7 +76,8 @@ building = 0
 unfoldable pub stepping : ℕ
 unfolding tighten sentinels intervalOf storageBounds virtualBounds isActive virtualInterval expectMark daysIn readDate boundFits volumeFits boundsRead
     readNodeStep readNodeSteps readAggregateStep readAggregateSteps readVirtualStorageStep readVirtualStorageSteps readStep nodeInterval nodeIntervals
-    virtualStorageIntervals intervals isCrossed isBeyond isBinary hasBinaryRow badInterval ordered outgoingCost incomingCost edgeCost kindAt costAt addCosts stepCosts adjust
+    virtualStorageIntervals intervals isCrossed isBeyond isBinary hasBinaryRow badInterval ordered outgoingCost incomingCost edgeCost kindAt costAt addCosts
+    noMappedEdge edgesNumbered stepCosts edgeOrderCosts adjust
     withBounds applyRowBounds changeCoefficient withCoefficient overNodeRows intervalFor applyInterval applyNodeRows resetBinaryRow resetBinaryRows
     applyCoefficient applyCoefficients applyIntervals rowOf periodOf stepRows periods withCosts
     stepped
@@ -84,7 +87,7 @@ stepping = 0
 unfoldable pub storing : ℕ
 unfolding flatMap storeHasRoom sentinelOf rowTypeOf entries nodeEntry edgeEntry nodeRowEntry virtualStorageEntry makerEntry makersIn rowMaker shapeOf elementsOf columnsOfRow
     rowEntry columnEntry programmeIn countsFit startsRise columnsRise rowColumnsRise nodeFits edgeFits nodeRowFits aggregateFits virtualStorageFits
-    makersOfKind makerFits allEntries wellShaped sentinelWord rowTypeWord flagWord nodeWords edgeWords nodeRowWords virtualStorageWords makerWords integerColumns countWords shapeAfter
+    makersOfKind makerFits flowOrderFits allEntries wellShaped sentinelWord rowTypeWord flagWord nodeWords edgeWords nodeRowWords virtualStorageWords makerWords integerColumns countWords shapeAfter
     startsFrom columnsIn valuesIn lowerOf upperOf rowsOf builtStore steppedStore cleared buildRoom buildAnswer storeOfBuild buildStore buildWords
     buildNumbers stepRoom stepRead stepIntervals stepOrdered stepAnswer storeOfStep stepStore stepWork isAccepted rowAnswer partOf rowPart
 storing = 0

@@ -1,6 +1,6 @@
 -- The cost of an edge and of a column (edge.rs, node.rs). Assumes nothing.
 use Prim.Native.Nat.{ℕ, zero, suc}
-use mathlib.Core.List.{List, [], _∷_}
+use mathlib.Core.List.{List, [], _∷_, map}
 use mathlib.Core.Bool.{cond}
 use lib.ListN.{getD, set, replicate}
 use lib.Dec.{eqb}
@@ -33,13 +33,24 @@ costAt [] node = zero64
 costAt (x ∷ xs) zero = x .cost
 costAt (x ∷ xs) (suc node) = costAt xs node
 
--- "Costs add into the column in edge order from 0.0."
+-- the costs of these edges added into their columns, one after the other
 unfoldable pub addCosts : List NodeShape → List NodeStep → List MappedEdge → List Float → List Float
 addCosts shapes steps [] costs = costs
 addCosts shapes steps (edge ∷ edges) costs =
     let cost : Float = edgeCost (kindAt shapes (edge .from)) (costAt steps (edge .from)) (kindAt shapes (edge .to)) (costAt steps (edge .to)) in
     addCosts shapes steps edges (set costs (edge .column) (add binary64 (getD costs (edge .column) zero64) cost))
 
--- the cost of every column
+-- the edges that have these numbers. A well-shaped store's numbers are under the edge count, so `noMappedEdge` never stands
+unfoldable pub noMappedEdge : MappedEdge
+noMappedEdge = record { from = 0; to = 0; column = 0 }
+
+unfoldable pub edgesNumbered : List ℕ → List MappedEdge → List MappedEdge
+edgesNumbered numbers edges = map (λ (number : ℕ). getD edges number noMappedEdge) numbers
+
+-- the cost of every column: "Sum each column in flow order" (document 02, L10), from 0.0
 unfoldable pub stepCosts : Shape → ℕ → List NodeStep → List Float
-stepCosts shape columns steps = addCosts (shape .nodes) steps (shape .mappedEdges) (replicate columns zero64)
+stepCosts shape columns steps = addCosts (shape .nodes) steps (edgesNumbered (shape .flowOrder) (shape .mappedEdges)) (replicate columns zero64)
+
+-- the same in edge order, "Costs add into the column in edge order from 0.0." (document 01); no step has these costs since L10 but where they are equal
+unfoldable pub edgeOrderCosts : Shape → ℕ → List NodeStep → List Float
+edgeOrderCosts shape columns steps = addCosts (shape .nodes) steps (shape .mappedEdges) (replicate columns zero64)

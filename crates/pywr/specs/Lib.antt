@@ -6,6 +6,7 @@ pub mod Network
 pub mod NetworkFile
 pub mod EdgeRefusals
 pub mod ColEdgeMap
+pub mod FlowOrder
 pub mod ExclusiveSets
 pub mod Rows
 pub mod VariableRows

@@ -49,10 +49,11 @@ pub record VirtualStorageShape : Type 0 where
   pub row : ℕ
   pub period : Period
 
--- `aggregates` has the number of each aggregate's row
+-- `flowOrder` has the edges' numbers in flow order, `aggregates` the number of each aggregate's row
 pub record Shape : Type 0 where
   pub nodes : List NodeShape
   pub mappedEdges : List MappedEdge
+  pub flowOrder : List ℕ
   pub edgeColumns : ℕ
   pub nodeRows : List NodeRow
   pub aggregates : List ℕ

@@ -6,7 +6,7 @@
 --   elements                             f64   row r's from row_starts[r] up to row_starts[r + 1]
 --   columns                              u16   the column of each element
 --   row_starts                           u32   where each row starts, and last the element count
---   shape                                u16   the eleven counts below, then the tables, the rows' makers last
+--   shape                                u16   the eleven counts below, then the tables, the flow order last
 use Prim.Native.Nat.{ℕ, zero, suc, _+_, _*_}
 use mathlib.Core.List.{List, [], _∷_}
 use mathlib.Core.Bool.{Bool, _&&_}
@@ -18,7 +18,7 @@ use Rattle.layout.specs.Layout.{columnCeiling, rowCeiling, elementCeiling, rowS
 use Rattle.layout.specs.Layout.{virtualStorageWidth, sentinelIn, nodesIn, edgesIn, edgeColumnsIn, setsIn, varyingIn, fixedIn, elementsIn}
 use Rattle.layout.specs.Layout.{nodeRowsIn, aggregatesIn, virtualStoragesIn, nodeKind, nodeFlag, edgeFrom, edgeTo, mappedColumn, nodeRowNode}
 use Rattle.layout.specs.Layout.{nodeRowRow, nodeRowType, nodeRowSet, entryRow, periodFlag, periodStartMonth, periodStartDay, periodEndMonth, periodEndDay}
-use Rattle.layout.specs.Layout.{makersAt, makerWidth, makerKind, makerIndex, makerSharedBy}
+use Rattle.layout.specs.Layout.{makersAt, makerWidth, makerKind, makerIndex, makerSharedBy, flowOrderAt, flowOrderWidth}
 pub use Rattle.layout.specs.Layout.{nodesAt, edgesAt, nodeRowsAt, aggregatesAt, virtualStoragesAt}
 use Rattle.pywr.specs.declared.Sentinel.{Sentinel}
 use Rattle.pywr.specs.declared.Sentinel.the-variants.{Infinity, Largest}
@@ -145,6 +145,7 @@ shapeOf s =
     record {
       nodes = entries (nodeEntry s) nodeWidth nodesAt (nodeCount s);
       mappedEdges = entries (edgeEntry s) edgeWidth edgesAt (edgeCount s);
+      flowOrder = entries (word s) flowOrderWidth flowOrderAt (edgeCount s);
       edgeColumns = edgeColumnCount s;
       nodeRows = entries (nodeRowEntry s) nodeRowWidth nodeRowsAt (nodeRowCount s);
       aggregates = entries (word s) aggregateWidth aggregatesAt (aggregateCount s);

@@ -5,7 +5,7 @@ use mathlib.Core.Bool.{Bool, true, false, cond, not}
 use lib.ListN.{length}
 use lib.Seq.{sets}
 use lib.Ieee.{Float}
-use Rattle.layout.specs.Layout.{nodesAt, edgesAt, nodeRowsAt, aggregatesAt, virtualStoragesAt, makersAt}
+use Rattle.layout.specs.Layout.{nodesAt, edgesAt, nodeRowsAt, aggregatesAt, virtualStoragesAt, makersAt, flowOrderAt}
 use Rattle.pywr.specs.declared.Sentinel.{Sentinel}
 use Rattle.pywr.specs.declared.Sentinel.the-variants.{Infinity, Largest}
 use Rattle.pywr.specs.ColEdgeMap.{MappedEdge}
@@ -76,7 +76,8 @@ shapeAfter old b =
     let nodeRows : List ℕ = sets edges nodeRowsAt (flatMap nodeRowWords (b .shape .nodeRows)) in
     let aggregates : List ℕ = sets nodeRows aggregatesAt (b .shape .aggregates) in
     let virtualStorages : List ℕ = sets aggregates virtualStoragesAt (flatMap virtualStorageWords (b .shape .virtualStorages)) in
-    sets virtualStorages makersAt (flatMap makerWords (b .makers))
+    let makers : List ℕ = sets virtualStorages makersAt (flatMap makerWords (b .makers)) in
+    sets makers flowOrderAt (b .shape .flowOrder)
 
 -- the starts of the rows and, last, the element count
 unfoldable pub startsFrom : ℕ → List Row → List ℕ

@@ -3,25 +3,26 @@ use mathlib.Core.Path.{_≡_, refl, sym, _∙_, ap}
 use mathlib.Core.Bool.{true, _&&_}
 use mathlib.Core.List.{List, [], _∷_, _++_, map}
 use Prim.Native.Nat.{ℕ, zero, suc, _+_, _*_, _-_, _≤_, _<_, zero-le}
-use native.Mathlib.Nat.{sub-zero}
+use native.Mathlib.Nat.{one-mul}
 use native.Mathlib.Omega.{arith}
 use lib.Dec.{ltb, ltb→lt}
-use lib.ListN.{length, getD, set, drop, replicate, length-append, length-drop, length-set, length-replicate, List·getD-append}
+use lib.ListN.{length, getD, set, drop, replicate, length-append, length-drop, length-set, length-replicate, drop-of-length-le, List·getD-append}
 use lib.Seq.{sets, sets-eq, set-append-left, drop-at}
 use lib.Ieee.{Float, nan, binary64, ofBits, add}
 use lib.Ieee.Fits.{and-l, and-r}
-use Rattle.layout.specs.Layout.{edgesAt}
-use Rattle.laws.proofs.Runs.{getD-any}
+use Rattle.layout.specs.Layout.{edgesAt, flowOrderAt}
+use Rattle.laws.proofs.Runs.{drop-next, getD-any}
 use Rattle.pywr.specs.Numbers.{zero64, two64}
 use Rattle.pywr.specs.Programme.{Column, NodeShape, Shape}
 use Rattle.pywr.specs.ColEdgeMap.{MappedEdge}
 use Rattle.pywr.specs.StepFile.{NodeStep}
-use Rattle.pywr.specs.Costs.{edgeCost, kindAt, costAt, addCosts, stepCosts}
+use Rattle.pywr.specs.Costs.{edgeCost, kindAt, costAt, addCosts, noMappedEdge, edgesNumbered, stepCosts}
 use Rattle.pywr.specs.Store.{Store, word, entries, nodeEntry, edgeEntry, nodeRowEntry, virtualStorageEntry, nodeCount, edgeColumnCount, columnCount, shapeOf, programmeIn}
 use Rattle.pywr.specs.Step.{withCosts}
-use Rattle.pywr.specs.Misshapen.{edgeFits, allEntries}
+use Rattle.pywr.proofs.RunLaws.{step-costs-length, with-costs-are}
+use Rattle.pywr.specs.Misshapen.{edgeFits, flowOrderFits, allEntries}
 use Rattle.laws.proofs.Tests.{of-true}
-use Rattle.store_shape.proofs.EntryLaws.{first-entry, next-entry, entries-length}
+use Rattle.store_shape.proofs.EntryLaws.{first-entry, next-entry, entries-length, entries-at}
 use Rattle.store_shape.proofs.Entries.{ofShape, entry-passes}
 use Rattle.step_file.specs.Decoded.{f64At, nodeStepAt, nodeStepsAt, decoded}
 use Rattle.step_costs.specs.NodeCosts.{kindIn, costIn}
@@ -35,24 +36,7 @@ pub two-literal : ofBits binary64 0x4000000000000000 ≡ two64
 unfolding ofBits two64
 two-literal = refl
 
--- ---- lists
-
-add-costs-length : (shapes : List NodeShape) (steps : List NodeStep) (ps : List MappedEdge) (costs : List Float) → length (addCosts shapes steps ps costs) ≡ length costs
-unfolding addCosts
-add-costs-length shapes steps [] costs = refl
-add-costs-length shapes steps (p ∷ ps) costs = add-costs-length shapes steps ps _ ∙ length-set costs (p .column) _
-
-step-costs-length : (shape : Shape) (n : ℕ) (steps : List NodeStep) → length (stepCosts shape n steps) ≡ n
-unfolding stepCosts
-step-costs-length shape n steps = add-costs-length (shape .nodes) steps (shape .mappedEdges) _ ∙ length-replicate n _
-
-with-costs-are : (cs : List Column) (xs : List Float) → length xs ≡ length cs → map (λ (c : Column). c .cost) (withCosts cs xs) ≡ xs
-unfolding withCosts
-with-costs-are [] [] e = refl
-with-costs-are [] (x ∷ xs) e = let z : suc (length xs) ≡ 0 = e in absurd (omega arith)
-with-costs-are (c ∷ cs) [] e = let z : 0 ≡ suc (length cs) = e in absurd (omega arith)
-with-costs-are (c ∷ cs) (x ∷ xs) e =
-    ap (λ (l : List Float). x ∷ l) (with-costs-are cs xs (let z : suc (length xs) ≡ suc (length cs) = e in omega arith))
+-- ---- the costs
 
 -- the costs of the programme after a step
 pub stepped-costs : (s : Store) (steps : List NodeStep)
@@ -118,41 +102,65 @@ module _ (file shape : List ℕ) where
   abbrev steps : List NodeStep
   steps = nodeStepsAt file (tables .nodes) 12
 
-  -- i edges were added, and the next one stands at `at`; d₀ is the run with a zero for every column
-  pub record Added (d₀ d : List Float) (at i : ℕ) : Type 0 where
+  -- i edges of the flow order were added; d₀ is the run with a zero for every column
+  pub record Added (d₀ d : List Float) (i : ℕ) : Type 0 where
     pub costs : List Float
     pub size : length costs ≡ columns
     pub few : i ≤ edges
-    pub place : at ≡ edgesAt + 3 * i
     pub held : d ≡ costs ++ drop columns d₀
-    pub so-far : stepCosts tables columns steps ≡ addCosts (tables .nodes) steps (entries (edgeEntry (ofShape shape)) 3 at (edges - i)) costs
+    pub so-far : stepCosts tables columns steps ≡ addCosts (tables .nodes) steps (edgesNumbered (drop i (tables .flowOrder)) (tables .mappedEdges)) costs
 
   behind : (d d₁ : List Float) → columns ≤ length d → d₁ ≡ sets d 0 (replicate columns zero64) → drop columns d₁ ≡ drop columns d
   behind d d₁ h e =
       ap (drop columns) (e ∙ front-is d (replicate columns zero64) columns (length-replicate columns zero64) h)
       ∙ drop-at (replicate columns zero64) (drop columns d) columns (length-replicate columns zero64)
 
-  pub added-none : (d d₁ : List Float) → columns ≤ length d → d₁ ≡ sets d 0 (replicate columns zero64) → Added d₁ d₁ edgesAt 0
-  unfolding stepCosts shapeOf
+  pub added-none : (d d₁ : List Float) → columns ≤ length d → d₁ ≡ sets d 0 (replicate columns zero64) → Added d₁ d₁ 0
+  unfolding stepCosts
   added-none d d₁ h e =
       record {
         costs = replicate columns zero64;
         size = length-replicate columns zero64;
         few = zero-le;
-        place = refl;
         held =
             e
             ∙ front-is d (replicate columns zero64) columns (length-replicate columns zero64) h
             ∙ ap (λ (l : List Float). replicate columns zero64 ++ l) (sym (behind d d₁ h e));
-        so-far = rw sub-zero;
+        so-far = refl;
       }
 
-  pub added-length : (d₀ d : List Float) (at i : ℕ) → columns ≤ length d₀ → Added d₀ d at i → length d ≡ length d₀
-  added-length d₀ d at i h a = omega (arith, ap length (a .held), length-append (a .costs) (drop columns d₀), length-drop columns d₀, a .size)
+  pub added-length : (d₀ d : List Float) (i : ℕ) → columns ≤ length d₀ → Added d₀ d i → length d ≡ length d₀
+  added-length d₀ d i h a = omega (arith, ap length (a .held), length-append (a .costs) (drop columns d₀), length-drop columns d₀, a .size)
 
-  -- an edge that fits
-  pub edge-at : (d₀ d : List Float) (at i : ℕ) → Added d₀ d at i → i < edges → allEntries (edgeFits (ofShape shape)) 3 edgesAt edges ≡ true → Edge (ofShape shape) at
-  edge-at d₀ d at i a lt fit = edge-fits (ofShape shape) at (rw (a .place) (entry-passes (edgeFits (ofShape shape)) 3 edges edgesAt fit i lt))
+  -- what 17 has tested of the edges and of the flow order
+  abbrev pub EdgesFit : Type 0
+  EdgesFit = allEntries (edgeFits (ofShape shape)) 3 edgesAt edges ≡ true
+
+  abbrev pub OrderFits : Type 0
+  OrderFits = allEntries (flowOrderFits (ofShape shape)) 1 flowOrderAt edges ≡ true
+
+  pub edge-at : (number : ℕ) → number < edges → EdgesFit → Edge (ofShape shape) (edgesAt + 3 * number)
+  edge-at number lt fit = edge-fits (ofShape shape) (edgesAt + 3 * number) (entry-passes (edgeFits (ofShape shape)) 3 edges edgesAt fit number lt)
+
+  -- the edge that the flow order names next
+  module _ (i number : ℕ) (lt : i < edges) (is : number ≡ getD shape (flowOrderAt + i) 0) (named : OrderFits) where
+    pub number-under : number < edges
+    unfolding flowOrderFits
+    number-under = rw is (ltb→lt _ _ (of-true _ (rw (one-mul i) at (entry-passes (flowOrderFits (ofShape shape)) 1 edges flowOrderAt named i lt))))
+
+    next-edge : edgesNumbered (drop i (tables .flowOrder)) (tables .mappedEdges)
+        ≡ edgeEntry (ofShape shape) (edgesAt + 3 * number) ∷ edgesNumbered (drop (i + 1) (tables .flowOrder)) (tables .mappedEdges)
+    unfolding shapeOf edgesNumbered
+    next-edge =
+        let s = ofShape shape in
+        let more : i < length (tables .flowOrder) = omega (arith, entries-length (word s) 1 flowOrderAt edges) in
+        rw (
+          drop-next (tables .flowOrder) i 0 more,
+          entries-at (word s) 1 flowOrderAt edges i 0 lt,
+          one-mul i,
+          ← is,
+          entries-at (edgeEntry s) 3 edgesAt edges number noMappedEdge number-under,
+        )
 
   kind-is : (k : ℕ) → k < getD shape 1 0 → kindAt (tables .nodes) k ≡ kindIn shape k
   unfolding shapeOf
@@ -165,7 +173,11 @@ module _ (file shape : List ℕ) where
   abbrev costOf : ℕ → ℕ → Float
   costOf from to = edgeCost (kindIn shape from) (costIn file from) (kindIn shape to) (costIn file to)
 
-  module _ (d₀ d : List Float) (at i : ℕ) (a : Added d₀ d at i) (lt : i < edges) (fit : allEntries (edgeFits (ofShape shape)) 3 edgesAt edges ≡ true) where
+  module _ (d₀ d : List Float) (i number : ℕ) (a : Added d₀ d i) (lt : i < edges) (is : number ≡ getD shape (flowOrderAt + i) 0)
+      (named : OrderFits) (fit : EdgesFit) where
+    abbrev at : ℕ
+    at = edgesAt + 3 * number
+
     abbrev from : ℕ
     from = getD shape at 0
 
@@ -178,10 +190,10 @@ module _ (file shape : List ℕ) where
     abbrev costsNext : List Float
     costsNext = set (a .costs) column (add binary64 (getD (a .costs) column zero64) (edgeCost (kindAt (tables .nodes) from) (costAt steps from) (kindAt (tables .nodes) to) (costAt steps to)))
 
-    pub added-more : (x : Float) → x ≡ costOf from to → Added d₀ (set d column (add binary64 (getD d column nan) x)) (at + 3) (i + 1)
-    unfolding addCosts entries edgeEntry
+    pub added-more : (x : Float) → x ≡ costOf from to → Added d₀ (set d column (add binary64 (getD d column nan) x)) (i + 1)
+    unfolding addCosts edgeEntry
     added-more x e =
-        let edge = edge-at d₀ d at i a lt fit in
+        let edge = edge-at number (number-under i number lt is named) fit in
         let under : column < length (a .costs) = omega (arith, edge .column, a .size) in
         let k₁ = kind-is from (edge .from) in
         let k₂ = kind-is to (edge .to) in
@@ -190,25 +202,28 @@ module _ (file shape : List ℕ) where
         let same : x ≡ edgeCost (kindAt (tables .nodes) from) (costAt steps from) (kindAt (tables .nodes) to) (costAt steps to) = rw (k₁, k₂, c₁, c₂) e in
         let old : getD (a .costs ++ drop columns d₀) column nan ≡ getD (a .costs) column zero64 =
         List·getD-append (a .costs) (drop columns d₀) nan column under ∙ getD-any (a .costs) column nan zero64 under in
-        let fuel : edges - i ≡ suc (edges - (i + 1)) = omega arith in
         record {
           costs = costsNext;
           size = length-set (a .costs) column _ ∙ a .size;
           few = omega arith;
-          place = omega (arith, a .place);
           held =
               ap (λ (l : List Float). set l column (add binary64 (getD l column nan) x)) (a .held)
               ∙ set-append-left (a .costs) (drop columns d₀) column _ under
               ∙ rw (old, same);
-          so-far = a .so-far ∙ rw fuel;
+          so-far = a .so-far ∙ ap (λ (l : List MappedEdge). addCosts (tables .nodes) steps l (a .costs)) (next-edge i number lt is named);
         }
 
-  pub added-all : (d d₁ d₂ : List Float) (at i : ℕ) → columns ≤ length d → d₁ ≡ sets d 0 (replicate columns zero64) → Added d₁ d₂ at i → edges ≤ i
+  none-left : (i : ℕ) → edges ≤ i → edgesNumbered (drop i (tables .flowOrder)) (tables .mappedEdges) ≡ []
+  unfolding shapeOf edgesNumbered
+  none-left i le =
+      let all : length (tables .flowOrder) ≤ i = omega (arith, entries-length (word (ofShape shape)) 1 flowOrderAt edges) in
+      rw (drop-of-length-le (tables .flowOrder) all)
+
+  pub added-all : (d d₁ d₂ : List Float) (i : ℕ) → columns ≤ length d → d₁ ≡ sets d 0 (replicate columns zero64) → Added d₁ d₂ i → edges ≤ i
       → (s : Store) (m v : ℕ) → s .shape ≡ shape → d₂ ≡ sets d 0 (stepCosts (shapeOf s) (columnCount s) (decoded (shapeOf s .nodes) m v file .nodes))
-  unfolding addCosts entries decoded
-  added-all d d₁ d₂ at i h e a le s m v same =
-      let none : edges - i ≡ 0 = omega arith in
-      let costs : stepCosts tables columns steps ≡ a .costs = a .so-far ∙ rw none in
+  unfolding addCosts decoded
+  added-all d d₁ d₂ i h e a le s m v same =
+      let costs : stepCosts tables columns steps ≡ a .costs = a .so-far ∙ rw (none-left i le) in
       let here : shapeOf s ≡ tables = of-shape s ∙ ap (λ (l : List ℕ). shapeOf (ofShape l)) same in
       a .held
       ∙ ap (λ (l : List Float). a .costs ++ l) (behind d d₁ h e)

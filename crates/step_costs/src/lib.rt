@@ -1,9 +1,10 @@
-// The costs of a step: each edge's cost added into its column (update_edge_objectives of builder.rs, cost of edge.rs and node.rs).
+// The costs of a step: each edge's cost added into its column, in flow order (update_edge_objectives of builder.rs, cost of edge.rs and node.rs).
 use layout::EDGE_COLUMN_COUNT_AT;
 use layout::EDGE_COUNT_AT;
 use layout::EDGE_TO;
 use layout::EDGE_WIDTH;
 use layout::EDGES_AT;
+use layout::FLOW_ORDER_AT;
 use layout::MAPPED_COLUMN;
 use layout::NODE_WIDTH;
 use layout::NODES_AT;
@@ -17,8 +18,9 @@ ghost use Prim.Native.Nat.{ℕ, _≤_, _<_};
 ghost use lib.ListN.{length};
 ghost use lib.Seq.{sets};
 ghost use Rattle.layout.specs.Layout.{nodeCeiling, edgeCeiling, setCeiling, columnCeiling, shapeLength, edgesAt, edgeWidth, nodesIn, edgesIn, edgeColumnsIn, setsIn};
+ghost use Rattle.layout.specs.Layout.{flowOrderAt, flowOrderWidth};
 ghost use Rattle.pywr.specs.Store.{Store, edgeCount, columnCount, shapeOf};
-ghost use Rattle.pywr.specs.Misshapen.{edgeFits, allEntries};
+ghost use Rattle.pywr.specs.Misshapen.{edgeFits, flowOrderFits, allEntries};
 ghost use Rattle.pywr.specs.Costs.{outgoingCost, incomingCost, edgeCost, stepCosts};
 ghost use Rattle.step_file.specs.Decoded.{decoded, aggregateStepsAt};
 ghost use Rattle.step_costs.specs.NodeCosts.{kindIn, costIn};
@@ -65,6 +67,7 @@ pub fn update_edge_objectives(file: &[u8], shape: &[u16], col_obj_coef: &mut [f6
     requires { ⌜ (shapeLength ≤ length (now shape)) × (columnCeiling ≤ length (now «col_obj_coef»)) × (nodesIn (now shape) ≤ nodeCeiling) × (edgesIn (now shape) ≤ edgeCeiling)
         × (edgeColumnsIn (now shape) ≤ edgeCeiling) × (setsIn (now shape) ≤ setCeiling)
         × ((s : Store) → s .shape ≡ now shape → allEntries (edgeFits s) edgeWidth edgesAt (edgeCount s) ≡ true)
+        × ((s : Store) → s .shape ≡ now shape → allEntries (flowOrderFits s) flowOrderWidth flowOrderAt (edgeCount s) ≡ true)
         × (aggregateStepsAt (nodesIn (now shape)) ≤ length (now file)) ⌝ }
     ensures { λ _. ⌜ ((s : Store) (a v : ℕ) → s .shape ≡ now (shape .entry)
         → now («col_obj_coef» .exit)
@@ -74,18 +77,15 @@ pub fn update_edge_objectives(file: &[u8], shape: &[u16], col_obj_coef: &mut [f6
     let edges = wide16(shape[EDGE_COUNT_AT]);
     let columns = wide16(shape[EDGE_COLUMN_COUNT_AT]) + wide16(shape[SET_COUNT_AT]);
     runs::fill_f64(col_obj_coef, 0, columns, 0.0);
-    let mut at: usize = EDGES_AT;
     let mut i: usize = 0;
     while i < edges {
+        let e = wide16(shape[FLOW_ORDER_AT + i]);
+        let at = EDGES_AT + EDGE_WIDTH * e;
         let c = wide16(shape[at + MAPPED_COLUMN]);
-        let obj_coef = edge_cost(
-            file,
-            shape,
-            NodeIndex(shape[at]),
-            NodeIndex(shape[at + EDGE_TO]),
-        );
+        let from = shape[at];
+        let to = shape[at + EDGE_TO];
+        let obj_coef = edge_cost(file, shape, NodeIndex(from), NodeIndex(to));
         col_obj_coef[c] = col_obj_coef[c] + obj_coef;
-        at += EDGE_WIDTH;
         i += 1;
     }
 }

@@ -7,8 +7,9 @@ use lib.ListN.{length}
 use lib.Seq.{sets}
 use lib.Ieee.{Float}
 use Rattle.layout.specs.Layout.{nodeCeiling, edgeCeiling, setCeiling, columnCeiling, shapeLength, edgesAt, edgeWidth, nodesIn, edgesIn, edgeColumnsIn, setsIn}
+use Rattle.layout.specs.Layout.{flowOrderAt, flowOrderWidth}
 use Rattle.pywr.specs.Store.{Store, edgeCount, columnCount, shapeOf}
-use Rattle.pywr.specs.Misshapen.{edgeFits, allEntries}
+use Rattle.pywr.specs.Misshapen.{edgeFits, flowOrderFits, allEntries}
 use Rattle.pywr.specs.Costs.{stepCosts}
 use Rattle.pywr.specs.StepIntervals.{Intervals}
 use Rattle.step_file.specs.Decoded.{decoded, aggregateStepsAt}
@@ -18,7 +19,9 @@ use Rattle.step_rows.specs.ConstraintBounds.{storeOf, StepRuns, StepWritten, Ha
 abbrev pub CostsReady : List ℕ → List Float → List ℕ → Type 0
 CostsReady file costs shape =
     (shapeLength ≤ length shape) × (columnCeiling ≤ length costs) × (nodesIn shape ≤ nodeCeiling) × (edgesIn shape ≤ edgeCeiling) × (edgeColumnsIn shape ≤ edgeCeiling) × (setsIn shape ≤ setCeiling)
-    × ((s : Store) → s .shape ≡ shape → allEntries (edgeFits s) edgeWidth edgesAt (edgeCount s) ≡ true) × (aggregateStepsAt (nodesIn shape) ≤ length file)
+    × ((s : Store) → s .shape ≡ shape → allEntries (edgeFits s) edgeWidth edgesAt (edgeCount s) ≡ true)
+    × ((s : Store) → s .shape ≡ shape → allEntries (flowOrderFits s) flowOrderWidth flowOrderAt (edgeCount s) ≡ true)
+    × (aggregateStepsAt (nodesIn shape) ≤ length file)
 
 abbrev pub CostsUpdated : List ℕ → List ℕ → List Float → List Float → Type 0
 CostsUpdated file shape costs costs′ =

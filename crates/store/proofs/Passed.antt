@@ -7,11 +7,12 @@ use lib.ListN.{length, getD}
 use lib.Dec.{leb, eqb, leb→le}
 use lib.Ieee.Fits.{and-l, and-r}
 use borrow.Author.Tests.{not-false}
-use Rattle.layout.specs.Layout.{makersAt, nodeRowCeiling, rowStartsLength, shapeLength}
+use Rattle.layout.specs.Layout.{flowOrderAt, makersAt, nodeRowCeiling, rowStartsLength, shapeLength}
 use Rattle.laws.proofs.Tests.{of-true, to-true}
 use Rattle.pywr.specs.Store.{Store, storeHasRoom, sentinelCode, nodeCount, edgeCount, edgeColumnCount, setCount, rowCount, elementsKept}
 use Rattle.pywr.specs.Store.{nodeRowCount, aggregateCount, virtualStorageCount, nodesAt, edgesAt, nodeRowsAt, aggregatesAt, virtualStoragesAt, startOf}
-use Rattle.pywr.specs.Misshapen.{countsFit, startsRise, rowColumnsRise, nodeFits, edgeFits, nodeRowFits, aggregateFits, virtualStorageFits, makerFits, allEntries, wellShaped}
+use Rattle.pywr.specs.Misshapen.{countsFit, startsRise, rowColumnsRise, allEntries, wellShaped}
+use Rattle.pywr.specs.Misshapen.{nodeFits, edgeFits, nodeRowFits, aggregateFits, virtualStorageFits, makerFits, flowOrderFits}
 use Rattle.pywr.proofs.Represents.{Roomy}
 use Rattle.pywr.proofs.DemandThree.{roomy-parts}
 use Rattle.store_shape.proofs.Entries.{ofShape}
@@ -105,6 +106,7 @@ pub record Shaped (s : Store) : Type 0 where
   pub aggregates : allEntries (aggregateFits s) 1 aggregatesAt (aggregateCount s) ≡ true
   pub virtualStorages : allEntries (virtualStorageFits s) 6 virtualStoragesAt (virtualStorageCount s) ≡ true
   pub makers : allEntries (makerFits s) 3 makersAt (rowCount s) ≡ true
+  pub flow-order : allEntries (flowOrderFits s) 1 flowOrderAt (edgeCount s) ≡ true
 
 pub shaped : (s : Store) → wellShaped s ≡ true → Shaped s
 unfolding wellShaped
@@ -119,7 +121,9 @@ shaped s q =
     let h : Bool = allEntries (aggregateFits s) 1 aggregatesAt (aggregateCount s) in
     let i : Bool = allEntries (virtualStorageFits s) 6 virtualStoragesAt (virtualStorageCount s) in
     let j : Bool = allEntries (makerFits s) 3 makersAt (rowCount s) in
-    let h10 = of-true (a && b && c && d && e && f && g && h && i && j) q in
+    let k : Bool = allEntries (flowOrderFits s) 1 flowOrderAt (edgeCount s) in
+    let h11 = of-true (a && b && c && d && e && f && g && h && i && j && k) q in
+    let h10 = and-l (a && b && c && d && e && f && g && h && i && j) k h11 in
     let h9 = and-l (a && b && c && d && e && f && g && h && i) j h10 in
     let h8 = and-l (a && b && c && d && e && f && g && h) i h9 in
     let h7 = and-l (a && b && c && d && e && f && g) h h8 in
@@ -139,4 +143,5 @@ shaped s q =
       aggregates = to-true h (and-r (a && b && c && d && e && f && g) h h8);
       virtualStorages = to-true i (and-r (a && b && c && d && e && f && g && h) i h9);
       makers = to-true j (and-r (a && b && c && d && e && f && g && h && i) j h10);
+      flow-order = to-true k (and-r (a && b && c && d && e && f && g && h && i && j) k h11);
     }

@@ -12,6 +12,7 @@ use store_rows::starts_rise;
 use store_shape::aggregates_fit;
 use store_shape::counts_fit;
 use store_shape::edges_fit;
+use store_shape::flow_order_fits;
 use store_shape::makers_fit;
 use store_shape::nodes_fit;
 use store_shape::row_count;
@@ -68,6 +69,7 @@ pub fn well_shaped(columns: &[u16], row_starts: &[u32], shape: &[u16]) -> bool
         & aggregates_fit(shape)
         & virtual_storages_fit(shape)
         & makers_fit(shape)
+        & flow_order_fits(shape)
 }
 
 // The answer to reading a row: where its columns stand, or 16, 17 or 18.

@@ -1,7 +1,6 @@
 // The shape run of a store: its words, and the parts of refusal 17 that read no other run.
 use layout::AGGREGATE_CEILING;
 use layout::AGGREGATE_COUNT_AT;
-use layout::AGGREGATE_WIDTH;
 use layout::AGGREGATES_AT;
 use layout::BY_EXCLUSIVITY;
 use layout::EDGE_CEILING;
@@ -13,6 +12,7 @@ use layout::EDGES_AT;
 use layout::ELEMENT_CEILING;
 use layout::ELEMENT_COUNT_AT;
 use layout::FIXED_COUNT_AT;
+use layout::FLOW_ORDER_AT;
 use layout::MAKER_INDEX;
 use layout::MAKER_KINDS;
 use layout::MAKER_SHARED_BY;
@@ -39,14 +39,16 @@ use layout::VIRTUAL_STORAGES_AT;
 use pywr::Sentinel;
 use widths::wide16;
 ghost use mathlib.Core.Path.{_≡_};
-ghost use Prim.Native.Nat.{_+_, _≤_, _<_};
+ghost use Prim.Native.Nat.{ℕ, _+_, _≤_, _<_};
 ghost use mathlib.Core.List.{[], _∷_};
-ghost use lib.ListN.{length};
+ghost use lib.ListN.{length, getD};
+ghost use lib.Dec.{ltb};
 ghost use Rattle.layout.specs.Layout.{nodeCeiling, edgeCeiling, aggregateCeiling, virtualStorageCeiling, rowCeiling, shapeLength};
 ghost use Rattle.layout.specs.Layout.{nodesAt, edgesAt, aggregatesAt, virtualStoragesAt, makersAt, nodeWidth, edgeWidth, aggregateWidth, virtualStorageWidth, makerWidth};
+ghost use Rattle.layout.specs.Layout.{flowOrderAt, flowOrderWidth};
 ghost use Rattle.layout.specs.Layout.{sentinelIn, nodesIn, edgesIn, varyingIn, fixedIn, aggregatesIn, virtualStoragesIn};
 ghost use Rattle.pywr.specs.Store.{Store, sentinelOf, nodeCount, edgeCount, edgeColumnCount, aggregateCount, virtualStorageCount, rowCount};
-ghost use Rattle.pywr.specs.Misshapen.{countsFit, nodeFits, edgeFits, aggregateFits, virtualStorageFits, makerFits, allEntries};
+ghost use Rattle.pywr.specs.Misshapen.{countsFit, nodeFits, edgeFits, aggregateFits, virtualStorageFits, makerFits, flowOrderFits, allEntries};
 
 // The ceilings in the width of the words.
 const NODE_CEILING_WORD: u16 = NODE_CEILING as u16;
@@ -151,22 +153,38 @@ pub fn edges_fit(shape: &[u16]) -> bool
     true
 }
 
+// Whether each of `count` words from `first` on is under `limit`.
+fn words_under(shape: &[u16], first: usize, count: usize, limit: u16) -> bool
+    requires { ⌜ first + count ≤ length (now shape) ⌝ }
+    ensures { λ r. ⌜ r ≡ allEntries (λ (at : ℕ). ltb (getD (now (shape .entry)) at 0) limit) 1 first count ⌝ }
+{
+    let mut good = true;
+    let mut at: usize = first;
+    let mut i: usize = 0;
+    while i < count {
+        good = good & (shape[at] < limit);
+        at += 1;
+        i += 1;
+    }
+    good
+}
+
 // An aggregate: a varying row.
 pub fn aggregates_fit(shape: &[u16]) -> bool
     requires { ⌜ (shapeLength ≤ length (now shape)) × (aggregatesIn (now shape) ≤ aggregateCeiling) ⌝ }
     ensures { λ r. ⌜ ((s : Store) → s .shape ≡ now (shape .entry) → r ≡ allEntries (aggregateFits s) aggregateWidth aggregatesAt (aggregateCount s)) ⌝ }
 {
-    let varying = shape[VARYING_COUNT_AT];
     let aggregates = wide16(shape[AGGREGATE_COUNT_AT]);
-    let mut good = true;
-    let mut at: usize = AGGREGATES_AT;
-    let mut i: usize = 0;
-    while i < aggregates {
-        good = good & (shape[at] < varying);
-        at += AGGREGATE_WIDTH;
-        i += 1;
-    }
-    good
+    words_under(shape, AGGREGATES_AT, aggregates, shape[VARYING_COUNT_AT])
+}
+
+// The flow order: an edge for each edge.
+pub fn flow_order_fits(shape: &[u16]) -> bool
+    requires { ⌜ (shapeLength ≤ length (now shape)) × (edgesIn (now shape) ≤ edgeCeiling) ⌝ }
+    ensures { λ r. ⌜ ((s : Store) → s .shape ≡ now (shape .entry) → r ≡ allEntries (flowOrderFits s) flowOrderWidth flowOrderAt (edgeCount s)) ⌝ }
+{
+    let edges = shape[EDGE_COUNT_AT];
+    words_under(shape, FLOW_ORDER_AT, wide16(edges), edges)
 }
 
 // A virtual storage: a varying row, and whether it has a period.

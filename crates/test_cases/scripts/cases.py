@@ -10,6 +10,7 @@ sys.path.append(str(FOLDER.parent.parent / "examples"))  # the records of networ
 
 from build_cases import CASES
 from commands import build, commands, counted, expected, title
+from cost_cases import costs_downstream
 from exclusive_cases import exclusives
 from factor_cases import factors
 from maker_cases import makers
@@ -46,6 +47,7 @@ makers()
 factors()
 exclusives()
 unions()
+costs_downstream()
 stdin, stdout = FOLDER / "stdin", FOLDER / "stdout"
 lines = stdout.read_text().splitlines(keepends=True)
 kept = next((k for k, line in enumerate(lines) if line.startswith(MARK)), len(lines))

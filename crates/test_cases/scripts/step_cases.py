@@ -168,7 +168,7 @@ def costs():
     listed(3, [8.5, 5.5, -2.5], varying, mass)
     step(file(0.0, 0.0, 0.0))
     listed(3, [0.0, 0.0, 0.0], varying, mass)
-    title("# three edges of one column: their costs add in edge order from 0.0, each sum rounded")
+    title("# three edges of one column: their costs add downstream from 0.0, each sum rounded")
     build(node(INPUT) + node(LINK) + node(LINK) + node(OUTPUT) + edge(0, 1) + edge(1, 2) + edge(2, 3))
     bounds = [0.0, 9.0]
     row = (*bounds, {0: 1.0}, by(NODE, 0, 4))

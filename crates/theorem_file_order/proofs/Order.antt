@@ -19,7 +19,7 @@ use Rattle.theorem_file_order.proofs.Places.{turned, to, to-found, to-b
 -- ---- joined edges stay joined
 
 module _ (a b : Network) (same : SameButOrder a b) (once : Unrepeated (b .edges)) where
-  joint-moves : (n i o : ℕ) → PlainJoint a n i o → PlainJoint b n (to a b same i) (to a b same o)
+  pub joint-moves : (n i o : ℕ) → PlainJoint a n i o → PlainJoint b n (to a b same i) (to a b same o)
   unfolding incoming outgoing
   joint-moves n i o j =
       record {

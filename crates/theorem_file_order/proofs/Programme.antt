@@ -54,8 +54,12 @@ module _ (s : Sentinel) (a b : Network) (same : SameNetwork a b) (sa : Sound a) 
   abbrev g : ColumnMap
   g = withEdges (columnMap a) (mappedEdges b)
 
+  -- the first network with the second's edges
+  abbrev otherEdges : Network
+  otherEdges = record { nodes = a .nodes; edges = b .edges; aggregates = a .aggregates; virtualStorages = a .virtualStorages }
+
   -- the second network's programme is made from the first's nodes, aggregates and virtual storages, with its own edges
-  second-is : programmeOf s b ≡ assemble s a g
+  second-is : programmeOf s b ≡ assemble s otherEdges g
   unfolding programmeOf assemble columnMap exclusiveSets withEdges fixedMakers
   second-is =
       ap₂ (λ (nodes : List Node) (count : ℕ). from nodes count (b .aggregates) (b .virtualStorages)) (sym (same .butOrder .nodes))
@@ -99,7 +103,7 @@ module _ (s : Sentinel) (a b : Network) (same : SameNetwork a b) (sa : Sound a) 
   node-rows : placedNodeRows (requestsFrom f 0 (a .nodes)) (forNodes f .places) ≡ placedNodeRows (requestsFrom g 0 (a .nodes)) (forNodes g .places)
   node-rows = placed-alike (requests-alike moved 0 (a .nodes)) (forNodes f .places) ∙ ap (placedNodeRows (requestsFrom g 0 (a .nodes))) (nodes-join .places)
 
-  both-alike : BuiltAlike to (assemble s a f) (assemble s a g)
+  both-alike : BuiltAlike to (assemble s a f) (assemble s otherEdges g)
   unfolding assemble allColumns withEdges freshRow askers fixedMakers
   both-alike =
       let nodes = node-rows in
@@ -116,7 +120,7 @@ module _ (s : Sentinel) (a b : Network) (same : SameNetwork a b) (sa : Sound a) 
         virtualStorages = storages;
         makers =
             ap₂ (λ (p q : List Maker). p ++ q)
-            (ap₂ (λ (all : List Asker) (count : ℕ). varyingMakers all 0 count) (askers-alike (assemble s a f .shape) (assemble s a g .shape) nodes aggregates storages)
+            (ap₂ (λ (all : List Asker) (count : ℕ). varyingMakers all 0 count) (askers-alike (assemble s a f .shape) (assemble s otherEdges g .shape) nodes aggregates storages)
             (each-length (virtual-storages-join .rows)))
             (fixed-makers-alike moved s (a .nodes) (a .aggregates));
       }

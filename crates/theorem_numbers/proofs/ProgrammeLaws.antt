@@ -3,6 +3,7 @@
 use mathlib.Core.Path.{_≡_, refl, sym, ap, ap₂, _∙_, subst}
 use mathlib.Core.Logic.{inl, inr}
 use Prim.Native.Nat.{ℕ, suc, _≤_}
+use native.Mathlib.Nat.{le-trans, le-of-eq}
 use mathlib.Core.Bool.{Bool, true, false, cond, not, _&&_}
 use mathlib.Core.List.{List, [], _∷_}
 use mathlib.Core.Option.{Option, none as no-file, some}
@@ -39,10 +40,11 @@ use Rattle.pywr.proofs.DemandThree.{accepted-value, build-accepted, build-repre
 use Rattle.pywr.proofs.KeptBinaryRows.{Left, left-of-built}
 use Rattle.theorem_numbers.specs.ProgrammeNumbers.{isNumber, columnWithoutNaN, elementWithoutNaN, rowWithoutNaN, withoutNaN, NoNaN, elementFinite}
 use Rattle.theorem_numbers.specs.ProgrammeNumbers.{rowElementsFinite, elementsFinite, FiniteElements, isMinusZero, rowWithoutMinusZero, withoutMinusZero, NoMinusZero, askedRows, EqualBits}
+use Rattle.pywr.proofs.FlowLaws.{flow-length}
 use Rattle.theorem_numbers.proofs.SumBounds.{plain-bits}
 use Rattle.theorem_numbers.proofs.ReadBounds.{read-small, costs-small}
 use Rattle.theorem_numbers.proofs.ElementBounds.{Plain, AllPlain}
-use Rattle.theorem_numbers.proofs.BuildNumbers.{ElementsOk, RowOk, ColumnOk, ProgrammeOk, edges-few, build-ok, asked-plain}
+use Rattle.theorem_numbers.proofs.BuildNumbers.{ElementsOk, RowOk, ColumnOk, ProgrammeOk, build-ok, asked-plain}
 use Rattle.theorem_numbers.proofs.StepNumbers.{stepped-ok}
 
 -- ---- the tests
@@ -150,7 +152,7 @@ left-finite : (y x : Row) → Left y x → ElementsOk FiniteFit y → ElementsOk
 left-finite y x (inl same) us = subst (Every (λ (e : Element). FiniteFit (e .value))) (sym same) us
 left-finite y x (inr set) us = subst (Every (λ (e : Element). FiniteFit (e .value))) (sym (set .2)) (set-finite (set .0) (set .1) (set .3) (y .elements) us)
 
-module _ (s : Store) (b : Built) (held : Represents s b) (few : length (b .shape .mappedEdges) ≤ 512) (ok : ProgrammeOk FiniteFit (b .programme)) where
+module _ (s : Store) (b : Built) (held : Represents s b) (few : length (b .shape .flowOrder) ≤ 512) (ok : ProgrammeOk FiniteFit (b .programme)) where
   reached-ok : (o : Option (List ℕ)) (t : Store) → Reached s b held o t → AllMem (ElementsOk FiniteFit) (programmeIn t .varying) → ProgrammeOk FiniteFit (programmeIn t)
   unfolding Reached
   reached-ok no-file t h elements = subst (ProgrammeOk FiniteFit) (sym (ap programmeIn h ∙ programme-back s b held)) ok
@@ -199,9 +201,9 @@ module _ (networkFile : List ℕ) (s : Sentinel) (old : Store) (words : List ℕ
   built-finite : ProgrammeOk FiniteFit (programmeOf s net .programme)
   built-finite = weaker (programmeOf s net .programme) built
 
-  few : length (programmeOf s net .shape .mappedEdges) ≤ 512
-  unfolding programmeOf assemble columnMap
-  few = edges-few net (sound .good)
+  few : length (programmeOf s net .shape .flowOrder) ≤ 512
+  unfolding programmeOf assemble
+  few = le-trans (le-of-eq (flow-length net)) (sound .good .edgeCount)
 
   elements-after : (calls : List Call) → AllMem (ElementsOk FiniteFit) (programmeIn (storeAfter start calls) .varying)
   elements-after calls x m =

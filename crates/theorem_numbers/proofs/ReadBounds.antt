@@ -17,7 +17,8 @@ use Rattle.pywr.specs.StepFile.{NodeStep, StepFile, readNodeStep, readNodeSteps
 use Rattle.pywr.proofs.RunLaws.{bind-then, bind-value, need-value}
 use Rattle.pywr.proofs.ListLaws.{AllMem, all-none, all-snoc}
 use Rattle.pywr.proofs.ReadLaws.{same-value, checked-value}
-use Rattle.theorem_numbers.proofs.SumBounds.{Within, small-within}
+use Rattle.pywr.proofs.CostReadLaws.{step-costs}
+use Rattle.theorem_numbers.proofs.SumBounds.{Within, up-to-within, small-within}
 
 -- ---- a network's factors
 
@@ -88,22 +89,5 @@ read-small file net e =
 abbrev pub SmallCost : NodeStep → Type 0
 SmallCost n = Within 1 (n .cost)
 
-read-node-step : (file : List ℕ) (n : NodeShape) (place : ℕ) (r : NodeStep) → readNodeStep file n place ≡ value r → SmallCost r
-unfolding readNodeStep
-read-node-step file n place r e =
-    bind-then _ _ r e (λ a a-is e. bind-then _ _ r e (λ b b-is e. bind-then _ _ r e (λ c c-is e. bind-then _ _ r e (λ d d-is e. bind-then _ _ r e (λ g g-is e.
-    subst SmallCost (same-value _ r e) (small-within b (checked-value 13 a isSmall _ b b-is)))))))
-
-read-node-steps : (file : List ℕ) (ns : List NodeShape) (soFar : List NodeStep) (at : ℕ) (r : Read (List NodeStep)) → readNodeSteps file ns soFar at ≡ value r
-    → AllMem SmallCost soFar → AllMem SmallCost (r .item)
-unfolding readNodeSteps
-read-node-steps file [] soFar at r e h = subst (λ (q : Read (List NodeStep)). AllMem SmallCost (q .item)) (same-value _ r e) h
-read-node-steps file (n ∷ ns) soFar at r e h =
-    let a = bind-value _ _ r e in
-    read-node-steps file ns (soFar ++ (a .0 ∷ [])) (at + 34) r (a .2) (all-snoc SmallCost soFar (a .0) h (read-node-step file n at (a .0) (a .1)))
-
 pub costs-small : (shapes : List NodeShape) (aggregates virtualStorages : ℕ) (file : List ℕ) (f : StepFile) → readStep shapes aggregates virtualStorages file ≡ value f → AllMem SmallCost (f .nodes)
-unfolding readStep
-costs-small shapes aggregates virtualStorages file f e =
-    bind-then _ _ f e (λ a a-is e. bind-then _ _ f e (λ b b-is e. bind-then _ _ f e (λ c c-is e. bind-then _ _ f e (λ d d-is e.
-    subst (λ (g : StepFile). AllMem SmallCost (g .nodes)) (need-value _ 12 (d .next) _ f e) (read-node-steps file shapes [] (a .next) b b-is (all-none SmallCost))))))
+costs-small shapes aggregates virtualStorages file f e x m = up-to-within (x .cost) (step-costs shapes aggregates virtualStorages file f e x m)

@@ -1,10 +1,10 @@
 -- A step whose file was read leaves numbers: costs are sums of at most 1,024 terms, bounds come from the file's intervals. Assumes nothing.
-use mathlib.Core.Path.{refl}
+use mathlib.Core.Path.{_≡_, refl}
 use Prim.Native.Nat.{ℕ, zero, suc, _+_, _*_, _≤_}
 use native.Mathlib.Omega.{arith}
 use mathlib.Core.Bool.{Bool, true, false, cond}
 use mathlib.Core.List.{List, [], _∷_, map, List·Memᴰ·head, List·Memᴰ·tail}
-use lib.ListN.{length, getD, set, replicate}
+use lib.ListN.{length, getD, set, replicate, length-map}
 use lib.Dec.{eqb, lit≤}
 use lib.Ieee.{Float, binary64, add, div, neg}
 use Rattle.doubles.proofs.Units.{finite-number}
@@ -18,7 +18,7 @@ use Rattle.pywr.specs.Programme.{Column, Row, Programme, NodeShape, RowType, co
 use Rattle.pywr.specs.Interval.{tighten, sentinels}
 use Rattle.pywr.specs.StepFile.{NodeStep, StepFile}
 use Rattle.pywr.specs.StepIntervals.{intervals, Intervals}
-use Rattle.pywr.specs.Costs.{outgoingCost, incomingCost, edgeCost, kindAt, costAt, addCosts, stepCosts}
+use Rattle.pywr.specs.Costs.{outgoingCost, incomingCost, edgeCost, kindAt, costAt, addCosts, edgesNumbered, stepCosts}
 use Rattle.pywr.specs.Step.{adjust, withBounds, applyRowBounds, withCoefficient, overNodeRows, intervalFor, applyInterval, applyNodeRows}
 use Rattle.pywr.specs.Step.{resetBinaryRow, resetBinaryRows, applyCoefficient, applyCoefficients, applyIntervals, rowOf, stepRows, periods, withCosts, stepped}
 use Rattle.pywr.proofs.BoundLaws.{high-bound, IsInterval}
@@ -156,16 +156,18 @@ with-costs n (c ∷ cs) (x ∷ xs) oks us =
 -- ---- the whole step
 
 -- over the elements that the step leaves in its varying rows
-pub stepped-ok : (P : Float → Type 0) (shape : Shape) (f : StepFile) (p : Programme) (a v : ℕ) → length (shape .mappedEdges) ≤ 512 → AllMem SmallCost (f .nodes)
+pub stepped-ok : (P : Float → Type 0) (shape : Shape) (f : StepFile) (p : Programme) (a v : ℕ) → length (shape .flowOrder) ≤ 512 → AllMem SmallCost (f .nodes)
     → IntervalsOk a v (intervals (p .sentinel) (periods shape) f) → AllMem (ElementsOk P) (stepped shape f p .varying) → ProgrammeOk P p → ProgrammeOk P (stepped shape f p)
-unfolding stepped stepCosts
+unfolding stepped stepCosts edgesNumbered
 stepped-ok P shape f p a v few small ii elements ok =
+    let edges : List MappedEdge = edgesNumbered (shape .flowOrder) (shape .mappedEdges) in
+    let many : length edges ≡ length (shape .flowOrder) = length-map (shape .flowOrder) _ in
     let n : ℕ = length (p .columns) in
     let rows : List Row = stepRows (p .sentinel) shape (intervals (p .sentinel) (periods shape) f) (p .varying) in
     let bounded : AllMem Bounded rows = every-mem Bounded rows (rows-ok (p .sentinel) shape a v (intervals (p .sentinel) (periods shape) f) ii (p .varying)) in
     record {
-      columns = with-costs (0 + length (shape .mappedEdges) * 2) (p .columns) (stepCosts shape n (f .nodes)) (ok .columns)
-          (costs-within (shape .nodes) (f .nodes) small (shape .mappedEdges) 0 (replicate n zero64) (omega arith) (every-replicate (Within 0) n zero64 (zero-within 0)));
+      columns = with-costs (0 + length edges * 2) (p .columns) (stepCosts shape n (f .nodes)) (ok .columns)
+          (costs-within (shape .nodes) (f .nodes) small edges 0 (replicate n zero64) (let l = many in omega arith) (every-replicate (Within 0) n zero64 (zero-within 0)));
       varying = mem-every (RowOk P) rows (λ r m. record { lower = bounded r m .lower; upper = bounded r m .upper; elements = elements r m });
       fixed = ok .fixed;
     }

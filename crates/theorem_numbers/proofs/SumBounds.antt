@@ -26,7 +26,8 @@ use Rattle.doubles.proofs.Monotone.{add-num}
 use Rattle.doubles.proofs.Errors.{under-finite}
 use Rattle.doubles.proofs.Halves.{half-near}
 use Rattle.pywr.specs.Numbers.{zero64, one64, two64, trillion, isFlow, isSmall, ofPattern}
-use Rattle.pywr.proofs.NumberLaws.{FiniteFit, small-is}
+use Rattle.pywr.proofs.NumberLaws.{FiniteFit}
+use Rattle.pywr.proofs.CostReadLaws.{UpTo, most, small-cost}
 use Rattle.theorem_numbers.specs.ProgrammeNumbers.{minusZeroBits, isMinusZero}
 
 -- what each term of a sum keeps under, 2 ^ 40 in units: over 1e12
@@ -108,36 +109,13 @@ pub one-within : Within 1 one64
 unfolding one64 fits mag largestTerm
 one-within = record { fit = tt; isFinite = tt; most = lit≤ tt }
 
--- a pattern of at most 1e12 in magnitude
-between-most : (s : Bool) (m M : ℕ) → T (leZ (signed s m) (pos M)) → T (leZ (negℤ (pos M)) (signed s m)) → m ≤ M
-between-most false m M h k = omega tests
-between-most true m M h k = omega (ints, neg-plus (pos m), neg-less (pos m), neg-plus (pos M), neg-less (pos M))
-
-trillion-num : Num binary64 trillion
-unfolding trillion ofBits fits
-trillion-num = (tt, tt)
-
-trillion-rank : rank binary64 trillion ≡ pos (mag binary64 trillion)
-unfolding trillion ofBits
-trillion-rank = refl
-
-trillion-most : mag binary64 trillion ≤ 1 * largestTerm
-unfolding trillion ofBits mag largestTerm
-trillion-most = lit≤ tt
+-- what is at most 1e12 in magnitude, and a pattern of such
+pub up-to-within : (x : Float) → UpTo most x → Within 1 x
+unfolding largestTerm
+up-to-within x u = record { fit = u .fit; isFinite = u .isFinite; most = le-trans (u .most) (lit≤ tt) }
 
 pub small-within : (bits : ℕ) → T (isSmall bits) → Within 1 (ofPattern bits)
-unfolding isSmall ofPattern
-small-within bits t =
-    let x : Float = ofBits binary64 bits in
-    let ok : FiniteFit x = (unfold ofPattern in small-is bits t) in
-    let n : Num binary64 x = (ok .fit, finite-number x (ok .finite)) in
-    let h : T (le (neg trillion) x && le x trillion) = and-r (isFlow bits) (le (neg trillion) x && le x trillion) t in
-    let over : T (leZ (rank binary64 x) (pos (mag binary64 trillion))) = subst (λ (z : ℤ). T (leZ (rank binary64 x) z)) trillion-rank
-    (le→Z binary64 x trillion n trillion-num (and-r (le (neg trillion) x) (le x trillion) h)) in
-    let under : T (leZ (negℤ (pos (mag binary64 trillion))) (rank binary64 x)) =
-    subst (λ (z : ℤ). T (leZ z (rank binary64 x))) (neg-rank binary64 trillion (trillion-num .1) ∙ ap negℤ trillion-rank)
-    (le→Z binary64 (neg trillion) x (neg-num binary64 trillion trillion-num) n (and-l (le (neg trillion) x) (le x trillion) h)) in
-    record { fit = ok .fit; isFinite = ok .finite; most = le-trans (between-most (sign x) (mag binary64 x) (mag binary64 trillion) over under) trillion-most }
+small-within bits t = up-to-within (ofPattern bits) (small-cost bits t)
 
 -- ---- −0.0
 

@@ -11,7 +11,7 @@ use lib.Seq.{take-append-le, getD-append-add}
 use lib.Dec.{leb, eqb, leb→le, nleb→lt, lit≤}
 use lib.Ieee.{Float}
 use borrow.Author.Tests.{le-leb, lt-leb, eq-eqb}
-use Rattle.layout.specs.Layout.{aggregatesAt, edgesAt, makersAt, nodeRowsAt, rowStartsLength, shapeLength, stepWorkLength, virtualStoragesAt}
+use Rattle.layout.specs.Layout.{flowOrderAt, aggregatesAt, edgesAt, makersAt, nodeRowsAt, rowStartsLength, shapeLength, stepWorkLength, virtualStoragesAt}
 use Rattle.laws.proofs.Tests.{by-cases}
 use Rattle.pywr.specs.declared.Sentinel.{Sentinel}
 use Rattle.pywr.specs.declared.Interval.{Interval}
@@ -25,7 +25,7 @@ use Rattle.pywr.specs.StepFile.{NodeStep, StepFile, expectMark, daysIn, readDat
 use Rattle.pywr.specs.StepFile.{readNodeStep, readNodeSteps, readAggregateStep, readAggregateSteps, readVirtualStorageStep, readVirtualStorageSteps, readStep}
 use Rattle.pywr.specs.StepIntervals.{Intervals, isCrossed, isBeyond, badInterval, ordered}
 use Rattle.pywr.specs.Store.{Store, storeHasRoom, word, nodeEntry, virtualStorageEntry, shapeOf, columnsOfRow}
-use Rattle.pywr.specs.Misshapen.{countsFit, startsRise, columnsRise, rowColumnsRise, allEntries, wellShaped}
+use Rattle.pywr.specs.Misshapen.{countsFit, startsRise, columnsRise, rowColumnsRise, flowOrderFits, allEntries, wellShaped}
 use Rattle.pywr.specs.Misshapen.{nodeFits, edgeFits, nodeRowFits, aggregateFits, virtualStorageFits, makersOfKind, makerFits}
 use Rattle.pywr.specs.Calls.{stepRoom, stepRead, stepOrdered, stepAnswer}
 use Rattle.pywr.specs.Compute.{computing}
@@ -244,7 +244,7 @@ counts = 0 ∷ 256 ∷ 0 ∷ 0 ∷ 0 ∷ 1 ∷ 0 ∷ 0 ∷ 0 ∷ 64 ∷ 32 ∷ [
 
 -- zeros up to the count of row 0's makers, which is 1
 abbrev rest : List ℕ
-rest = zeros 19714 ++ (1 ∷ zeros 3069)
+rest = zeros 19714 ++ (1 ∷ zeros 3581)
 
 unfoldable doubles : ℕ → List Float
 doubles n = replicate n zero64
@@ -271,14 +271,14 @@ word-zero : (at : ℕ) → 11 ≤ at → at < makersAt + 2 → word wide at ≡ 
 word-zero at h k =
     ap (word wide) (let e : at ≡ 11 + (at - 11) = omega arith in e)
     ∙ getD-append-add counts rest (at - 11) 0
-    ∙ List·getD-append (zeros 19714) (1 ∷ zeros 3069) 0 (at - 11) (let l = zeros-length 19714 in omega arith)
+    ∙ List·getD-append (zeros 19714) (1 ∷ zeros 3581) 0 (at - 11) (let l = zeros-length 19714 in omega arith)
     ∙ zeros-at 19714 (at - 11)
 
 shared-by-one : word wide (makersAt + 2) ≡ 1
 shared-by-one =
     getD-append-add counts rest 19714 0
     ∙ ap (λ (n : ℕ). getD rest n 0) (let l = zeros-length 19714 in let e : 19714 ≡ length (zeros 19714) + 0 = omega arith in e)
-    ∙ getD-append-add (zeros 19714) (1 ∷ zeros 3069) 0 0
+    ∙ getD-append-add (zeros 19714) (1 ∷ zeros 3581) 0 0
 
 -- a table before the makers'
 entries-pass : (test : ℕ → Bool) → ((at : ℕ) → 11 ≤ at → at < makersAt → test at ≡ true) → (words at count : ℕ) → 11 ≤ at → at + suc words * count ≤ makersAt
@@ -337,6 +337,7 @@ wide-shaped =
       entries-pass (virtualStorageFits wide)
           virtual-storage-fits 5 virtualStoragesAt 32 (omega arith) (omega arith),
       makers-pass,
+      none-pass (flowOrderFits wide) 1 flowOrderAt,
     )
 
 long-enough : {A : Type 0} (n : ℕ) (l : List A) → length l ≡ n → leb n (length l) ≡ true
@@ -353,7 +354,7 @@ wide-room =
       long-enough 4096 (zeros 4096) (zeros-length 4096),
       long-enough rowStartsLength (zeros rowStartsLength)
           (zeros-length rowStartsLength),
-      long-enough shapeLength (counts ++ rest) (let k = zeros-length 19714 in let l = zeros-length 3069 in let m = length-append (zeros 19714) (1 ∷ zeros 3069) in omega arith),
+      long-enough shapeLength (counts ++ rest) (let k = zeros-length 19714 in let l = zeros-length 3581 in let m = length-append (zeros 19714) (1 ∷ zeros 3581) in omega arith),
       long-enough stepWorkLength
           (doubles stepWorkLength) (doubles-length stepWorkLength),
     )

@@ -23,7 +23,7 @@ pub const COL_EDGE_MAP: [Alteration; 1] = [Alteration {
     )],
 }];
 
-pub const BUILDER: [Alteration; 4] = [
+pub const BUILDER: [Alteration; 5] = [
     // Document 02's L2.
     Alteration {
         name: "the altered column map",
@@ -39,6 +39,11 @@ pub const BUILDER: [Alteration; 4] = [
             "let mut node_sets_in_a_mutual_exclusivity = HashSet::new();",
             "let mut node_sets_in_a_mutual_exclusivity = crate::first_appearance::SetInOrder::new();",
         )],
+    },
+    // Document 02's L10.
+    Alteration {
+        name: "costs summed in flow order",
+        lines: &[("for edge in network.edges() {", "for edge in network.edges_in_flow_order() {")],
     },
     // Document 02's L3. No interval names these rows, so nothing tightens them behind this.
     Alteration {

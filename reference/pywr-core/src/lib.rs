@@ -3,6 +3,7 @@ pub mod aggregated_node;
 pub mod civil;
 pub mod edge;
 mod first_appearance;
+mod flow_order;
 pub mod metric;
 pub mod network;
 pub mod node;

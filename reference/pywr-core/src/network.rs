@@ -1,10 +1,12 @@
 //! network.rs: the index types and accessors of the source over a stand-in for the network, and how one is made.
 use crate::aggregated_node::AggregatedNode;
 use crate::edge::Edge;
+use crate::flow_order::flow_order;
 use crate::node::{Node, NodeType};
 use crate::virtual_storage::VirtualStorageNode;
 use std::fmt::{self, Display, Formatter};
 use std::ops::Deref;
+use std::sync::OnceLock;
 
 include!(concat!(env!("OUT_DIR"), "/network.rs"));
 
@@ -14,6 +16,8 @@ pub struct Network {
     edges: Vec<Edge>,
     aggregated_nodes: Vec<AggregatedNode>,
     virtual_storage_nodes: Vec<VirtualStorageNode>,
+    /// Found by the first step that asks for it, and kept.
+    flow_order: OnceLock<Vec<usize>>,
 }
 
 /// A node of the network file: its kind and, if constant, its min and max.
@@ -61,7 +65,12 @@ impl Network {
         aggregated_nodes: Vec<AggregatedNode>,
         virtual_storage_nodes: Vec<VirtualStorageNode>,
     ) -> Self {
-        Self { nodes, edges, aggregated_nodes, virtual_storage_nodes }
+        Self { nodes, edges, aggregated_nodes, virtual_storage_nodes, flow_order: OnceLock::new() }
+    }
+
+    /// For the altered builder.rs.
+    pub fn edges_in_flow_order(&self) -> impl Iterator<Item = &Edge> {
+        self.flow_order.get_or_init(|| flow_order(self)).iter().map(|&edge| &self.edges[edge])
     }
 
     /// The network of a file that has been read. Names are numbers.

@@ -1,9 +1,11 @@
 //! compare [PORT] [--from INDEX] [--out DIR] SEED COUNT: cases INDEX up to INDEX + COUNT of SEED, the port beside the reference.
 //! compare [PORT] --case FILE: one case that was written out. PORT is `--library` (with the feature `library`), `--lister PROGRAM` or
 //! `--namer PROGRAM`; without it the reference runs alone.
-use pywr_reference::comparison::{self, ByUnions, Tally};
+use pywr_reference::comparison::{self, ByPaths, ByUnions, Tally};
+use pywr_reference::flow_costs::CostCounts;
 use pywr_reference::generate::{self, Case};
 use pywr_reference::port::Port;
+use pywr_reference::reference::InBoth;
 use pywr_reference::{case_file, port_lister::Lister, port_namer::Namer};
 use std::panic::{AssertUnwindSafe, catch_unwind};
 use std::time::{Duration, Instant};
@@ -57,6 +59,7 @@ fn main() {
     println!("networks {}, compared {}; {}", tally.builds.total(), tally.builds_compared, tally.builds.text());
     println!("steps {}, compared {}; {}", tally.steps.total(), tally.steps_compared, tally.steps.text());
     tell_unions(&tally);
+    tell_costs(&tally);
     let compared = port.as_deref().is_none_or(|port| all_compared(port, &tally));
     let tried = port.as_deref().is_none_or(|port| tell_tried(port, tally.builds.total()));
     println!("the Rust's own 15, retired: {}", tally.retired());
@@ -83,7 +86,22 @@ fn tell_unions(tally: &Tally) {
     println!("columns as in the model: networks {}", with + without);
     println!("  with a union {with} ({under_by_unions} accepted that are over a ceiling without it)");
     println!("  without a union {without}, the unaltered Rust's columns alike");
-    println!("altered and unaltered Rust alike: networks {}, accepted steps {}", tally.in_both.builds, tally.in_both.steps);
+    let InBoth { builds, steps, costs, costs_unlike } = tally.in_both;
+    println!("altered and unaltered Rust alike: networks {builds}, accepted steps but for costs {steps}");
+    println!(
+        "  costs of the unaltered Rust as in the model: accepted steps {costs}, in {costs_unlike} another bit than in the altered one"
+    );
+}
+
+/// The costs of accepted steps in both orders.
+fn tell_costs(tally: &Tally) {
+    let CostCounts { steps, whole, small, steps_unlike, columns_unlike } = tally.costs;
+    let ByPaths { closed, keyed_otherwise } = tally.by_paths;
+    println!("networks with a closed ring {closed}, with a column whose flow order is not its edge order {keyed_otherwise}");
+    println!("costs as in the model: accepted steps {}, with such a column {}", steps[0], steps[1]);
+    println!("  all costs whole {}, with such a column {}, both orders alike", whole[0], whole[1]);
+    println!("  no cost over 1,000 {}, with such a column {}, both orders within 2^-24 of the exact sum", small[0], small[1]);
+    println!("  flow order and edge order unlike in a bit: steps {steps_unlike}, columns {columns_unlike}");
 }
 
 /// What the port has tried of its own; whether a long run has tried all of it.

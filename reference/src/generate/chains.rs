@@ -27,7 +27,7 @@ pub fn network(r: &mut Random) -> NetworkFile {
 /// One chain of so many nodes, keyed in random order or every other edge first.
 pub fn single(r: &mut Random, nodes: usize) -> NetworkFile {
     let mut network = NetworkFile::default();
-    add_links(r, &mut network, nodes - 2, false);
+    add_links(r, &mut network, nodes - 2, Form::Line);
     if r.chance(50) {
         r.shuffle(&mut network.edges);
     } else {
@@ -42,32 +42,50 @@ fn key_every_other_first(edges: &mut Vec<(usize, usize)>) {
     edges.extend(first.into_iter().chain(second).map(|(_, edge)| edge));
 }
 
-pub fn add_chain(r: &mut Random, network: &mut NetworkFile) {
-    let links = if r.chance(10) { r.between(20, 60) } else { r.between(1, 8) };
-    let ring = r.chance(25);
-    add_links(r, network, links, ring);
+/// What stands before a chain's links, and behind them.
+#[derive(Clone, Copy)]
+enum Form {
+    /// A source, and a sink.
+    Line,
+    /// One link more, before them and behind them.
+    ClosedRing,
+    /// One storage, before them and behind them.
+    LoopThroughStorage,
 }
 
-/// A source, links one behind the other, a sink; or a ring of links, one more.
-fn add_links(r: &mut Random, network: &mut NetworkFile, links: usize, ring: bool) {
+pub fn add_chain(r: &mut Random, network: &mut NetworkFile) {
+    let links = if r.chance(10) { r.between(20, 60) } else { r.between(1, 8) };
+    let form = match r.below(100) {
+        0..20 => Form::ClosedRing,
+        20..35 => Form::LoopThroughStorage,
+        _ => Form::Line,
+    };
+    add_links(r, network, links, form);
+}
+
+/// Links one behind the other.
+fn add_links(r: &mut Random, network: &mut NetworkFile, links: usize, form: Form) {
     let mut order: Vec<usize> = Vec::new();
     let mut add = |r: &mut Random, kind: NodeType| {
         order.push(network.nodes.len());
         let node = small::node(r, kind);
         network.nodes.push(node);
     };
-    if !ring {
-        let source = *r.pick(&[NodeType::Input, NodeType::Storage]);
-        add(r, source);
-    }
-    for _ in 0..links + ring as usize {
+    let first = match form {
+        Form::Line => *r.pick(&[NodeType::Input, NodeType::Storage]),
+        Form::ClosedRing => NodeType::Link,
+        Form::LoopThroughStorage => NodeType::Storage,
+    };
+    add(r, first);
+    for _ in 0..links {
         add(r, NodeType::Link);
     }
-    if ring {
-        order.push(order[0]);
-    } else {
-        let sink = *r.pick(&[NodeType::Output, NodeType::Storage]);
-        add(r, sink);
+    match form {
+        Form::Line => {
+            let sink = *r.pick(&[NodeType::Output, NodeType::Storage]);
+            add(r, sink);
+        }
+        Form::ClosedRing | Form::LoopThroughStorage => order.push(order[0]),
     }
     for pair in order.windows(2) {
         small::add_edge(network, pair[0], pair[1]);

@@ -1,4 +1,5 @@
 //! Doubles: everyday ones, those at each limit of document 01, infinities and subnormals.
+use crate::flow_costs::MOST;
 use crate::random::Random;
 
 const LEAST: f64 = f64::from_bits(1);
@@ -74,7 +75,7 @@ pub fn at_sentinel(r: &mut Random) -> f64 {
     if r.chance(50) { bound } else { -bound }
 }
 
-/// A cost, a volume or a factor: magnitude at most 1e12.
+/// A volume or a factor, and a cost in some steps: magnitude at most 1e12.
 pub fn amount(r: &mut Random) -> f64 {
     let limits = [
         0.0,
@@ -101,6 +102,53 @@ pub fn amount(r: &mut Random) -> f64 {
         5..9 => *r.pick(&limits),
         _ => Some(f64::from_bits(r.bits())).filter(|x| x.abs() <= 1e12).unwrap_or(2.0),
     }
+}
+
+/// How a step's costs are drawn, all of them in one way.
+pub type DrawCost = fn(&mut Random) -> f64;
+
+pub fn draw_cost(r: &mut Random) -> DrawCost {
+    match r.below(100) {
+        0..25 => whole_cost,
+        25..55 => rounding_cost,
+        55..80 => small_cost,
+        _ => amount,
+    }
+}
+
+fn of_either_sign(r: &mut Random, x: f64) -> f64 {
+    if r.chance(50) { x } else { -x }
+}
+
+/// A whole number: few digits, or any up to 1e12.
+fn whole_cost(r: &mut Random) -> f64 {
+    let limits = [0.0, 1.0, 3.0, 1000.0, 1001.0, (1_u64 << 38) as f64, ((1_u64 << 39) - 1) as f64, 1e12 - 1.0, 1e12];
+    let cost = match r.below(10) {
+        0..4 => r.below(2001) as f64,
+        4..7 => *r.pick(&limits),
+        _ => (r.bits() % 1_000_000_000_001) as f64,
+    };
+    of_either_sign(r, cost)
+}
+
+/// Numbers that are lost in one another's sums: a sum shows in which order it was made.
+fn rounding_cost(r: &mut Random) -> f64 {
+    let (large, small) = ((1_u64 << 38) as f64, |bits: u32| 1.0 / (1_u64 << bits) as f64);
+    let limits = [large, small(30), 1e12, small(12), small(13), small(11), 1.0, 1.0 / 3.0, 2e11 / 3.0, small(52), MOST.next_up()];
+    let cost = if r.chance(70) { *r.pick(&limits) } else { r.below(3000) as f64 / 3.0 };
+    if r.chance(15) { 0.0 } else { of_either_sign(r, cost) }
+}
+
+/// At most 1,000, with a fraction mostly.
+fn small_cost(r: &mut Random) -> f64 {
+    let least = 1.0 / (1 << 30) as f64;
+    let limits = [MOST, MOST.next_down(), MOST - least, 1.0 / 3.0, 2000.0 / 3.0, least, 512.0, 0.1, LEAST, LARGEST_SUBNORMAL];
+    let cost = match r.below(10) {
+        0..4 => *r.pick(&limits),
+        4..7 => r.below(3000) as f64 / 3.0,
+        _ => r.below(1 << 31) as f64 / (1_u64 << 31) as f64 * MOST,
+    };
+    of_either_sign(r, cost)
 }
 
 /// A factor that is a whole multiple of 1/1024, at most 1,000,000 in magnitude.

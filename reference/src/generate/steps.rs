@@ -1,7 +1,7 @@
 //! Lists of steps for a network: good ones, crossed limits, damaged and cut files between them.
 use super::damage;
 use super::encode::{Step, step_records};
-use super::numbers::{amount, at_sentinel, days, flow, interval, interval_within, unread, volumes};
+use super::numbers::{DrawCost, amount, at_sentinel, days, draw_cost, flow, interval, interval_within, unread, volumes};
 use crate::NetworkFile;
 use crate::random::Random;
 use pywr_core::node::NodeType;
@@ -29,19 +29,20 @@ fn file(r: &mut Random, network: &NetworkFile) -> Vec<u8> {
 
 pub fn step(r: &mut Random, network: &NetworkFile) -> Step {
     let (month, day) = date(r, network);
+    let cost = draw_cost(r);
     Step {
         month,
         day,
         days: days(r),
-        nodes: (0..network.nodes.len()).map(|n| node(r, network, n)).collect(),
+        nodes: (0..network.nodes.len()).map(|n| node(r, network, n, cost)).collect(),
         aggregates: network.aggregates.iter().map(|_| aggregate(r)).collect(),
         virtual_storages: network.virtual_storages.iter().map(|_| virtual_storage(r)).collect(),
     }
 }
 
-fn node(r: &mut Random, network: &NetworkFile, index: usize) -> NodeNumbers {
+fn node(r: &mut Random, network: &NetworkFile, index: usize, cost: DrawCost) -> NodeNumbers {
     let node = network.nodes[index];
-    let cost = amount(r);
+    let cost = cost(r);
     if node.kind == NodeType::Storage {
         let (min, max) = volumes(r);
         return NodeNumbers { cost, min, max, volume: amount(r) };

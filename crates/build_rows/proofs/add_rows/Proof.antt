@@ -1,5 +1,5 @@
 -- `build_rows::add_rows` meets its contract. Assumes nothing.
-use mathlib.Core.Path.{_≡_, sym, _∙_}
+use mathlib.Core.Path.{_≡_, refl, sym, _∙_}
 use mathlib.Core.List.{List, _++_}
 use Prim.Native.Nat.{ℕ, _≤_}
 use native.Mathlib.Omega.{arith}
@@ -17,7 +17,6 @@ use Rattle.build_node_row.specs.Tables.{networkOf}
 use Rattle.build_makers.specs.MadeRows.{MadeHeld, AfterMade}
 use Rattle.build_varying.specs.VaryingLaid.{VaryingLaid}
 use Rattle.build_varying.proofs.Varying.{asks-few}
-use Rattle.build_rows.proofs.EdgeTable.{placed}
 use Rattle.build_rows.proofs.LaidOut.{shape-room}
 use Rattle.build_rows.proofs.VaryingMade.{makersOfVarying, rows-under, still-laid, varying-made}
 use Rattle.build_rows.proofs.Finish.{varying-refused, fixed-refused, few, varying-most, all-made}
@@ -61,7 +60,7 @@ to-add-fixed-rows c =
     let after-words4 = c .before .before .before in
     after-words4 .before
 
-abbrev to-f : tie.After-write-tables → tie.After-f
+abbrev to-f : tie.After-finish-shape → tie.After-f
 to-f c =
     c .before .before .before
 
@@ -192,21 +191,22 @@ add-fixed-rows-requires c κs =
       record { rows = _; makers = _; held = made after-put-varying-makers },
     )
 
-write-tables-requires : tie.Need-write-tables-requires
-write-tables-requires c κs =
+finish-shape-requires : tie.Need-finish-shape-requires
+finish-shape-requires c κs =
     let after-f = c .before .before in
     let after-add-fixed-rows = to-add-fixed-rows (after-f .before .before) in
     let after-put-varying-makers = to-makers after-add-fixed-rows in
     let after-v = to-v after-put-varying-makers in
     let start = start-of after-v in
     let t = start .pre .0 in (
+      t,
       few (start .args .sentinel) _ (start .args .c) _ _ _ _ _ t _ _ _ _ (start .pre .1) _ (start .pre .2) _ _ _ _ _ _ (laid after-put-varying-makers) _
           (fixed after-add-fixed-rows) (after-f .f .given .1),
-      omega (arith, t .sections .fixed, t .sections .inside),
-      room₃ after-add-fixed-rows,
+      refl,
+      refl,
       varying-most (start .args .sentinel) _ (start .args .c) _ _ _ _ _ t _ _ _ _ (start .pre .1) _ (start .pre .2) _ _ _ _ _ _ (laid after-put-varying-makers) _
           (fixed after-add-fixed-rows) (after-f .f .given .1),
-      placed _ _ _ _ _ _ _ t,
+      room₃ after-add-fixed-rows,
     )
 
 same-length : tie.Need-same-length
@@ -250,9 +250,9 @@ returns-2 c =
 
 same-length-5 : tie.Need-same-length-5
 same-length-5 c =
-    let after-write-tables = c .before .before in
-    let after-add-fixed-rows = to-add-fixed-rows (to-f after-write-tables .before .before) in
-    after-write-tables .write-tables .kept .1 .1 .1 .1 .1 .0 ∙ words-kept after-add-fixed-rows
+    let after-finish-shape = c .before .before in
+    let after-add-fixed-rows = to-add-fixed-rows (to-f after-finish-shape .before .before) in
+    after-finish-shape .finish-shape .kept .1 .1 .1 .1 .1 .1 .1 .1 .1 .1 .0 ∙ words-kept after-add-fixed-rows
 
 same-length-6 : tie.Need-same-length-6
 same-length-6 c =
@@ -260,13 +260,13 @@ same-length-6 c =
 
 returns-3 : tie.Need-returns-3
 returns-3 c =
-    let after-write-tables = c .before .before in
-    let after-f = to-f after-write-tables in
+    let after-finish-shape = c .before .before in
+    let after-f = to-f after-finish-shape in
     let after-add-fixed-rows = to-add-fixed-rows (after-f .before .before) in
     let after-put-varying-makers = to-makers after-add-fixed-rows in
     let start = start-of (to-v after-put-varying-makers) in
     all-made (start .args .sentinel) _ (start .args .c) _ _ _ _ _ (start .pre .0) _ _ _ _ (start .pre .1) _ (start .pre .2) _ _ _ _ _ _ (laid after-put-varying-makers) _
-    (fixed after-add-fixed-rows) (after-f .f .given .1) _ (room₂ after-put-varying-makers) (room₃ after-add-fixed-rows) (after-write-tables .write-tables .ensures)
+    (fixed after-add-fixed-rows) (after-f .f .given .1) _ (room₂ after-put-varying-makers) (room₃ after-add-fixed-rows) (after-finish-shape .finish-shape .ensures)
 
 pub add-rows-spec : {M : Type 1} → statement M
 add-rows-spec =
@@ -283,7 +283,7 @@ add-rows-spec =
     add-fixed-rows-requires
     (λ c. search needs)
     (λ c. search needs)
-    write-tables-requires
+    finish-shape-requires
     same-length
     same-length-2
     returns

@@ -1,7 +1,7 @@
 -- `build_write::write_shape` meets its contract. Assumes nothing.
 use mathlib.Core.Path.{_∙_}
 use native.Mathlib.Omega.{arith}
-use Rattle.build_write.proofs.ShapeLaws.{made-room, makers-written}
+use Rattle.build_write.proofs.ShapeLaws.{made-room, last-written}
 use borrow.Author.Needs.{needs}
 use Rattle.build_write.proofs.write_shape.Statement.{statement}
 use Rattle.build_write.proofs.write_shape.Tie as tie
@@ -17,6 +17,10 @@ to-write-tables c =
     let after-slice-known2 = c .before .before .before in
     after-slice-known2 .before .before
 
+abbrev to-copy : tie.After-copy-u16-arg2 → tie.After-copy-u16
+to-copy c =
+    c .before .before .before
+
 mul-copy-u16 : tie.Need-mul-copy-u16
 mul-copy-u16 c =
     record { fits = omega (arith, to-start (to-write-tables c) .pre .0 .rows) }
@@ -29,17 +33,29 @@ copy-u16-requires c κs =
       made-room (start .args .words .now) _ (start .pre .1) (omega (arith, start .pre .0 .rows)),
     )
 
+copy-u16-requires-2 : tie.Need-copy-u16-requires-2
+copy-u16-requires-2 c κs =
+    let after-copy-u16 = to-copy c in
+    let after-write-tables = to-write-tables (after-copy-u16 .before) in
+    let start = to-start after-write-tables in (
+      omega (arith, after-copy-u16 .copy-u16 .kept .0, after-write-tables .write-tables .kept .1 .1 .0, start .pre .0 .edges, start .pre .2),
+      made-room (start .args .words .now) _ (start .pre .1) (omega (arith, start .pre .0 .edges)),
+    )
+
 same-length : tie.Need-same-length
 same-length c =
-    let after-copy-u16 = c .before .before in
-    after-copy-u16 .copy-u16 .kept .0 ∙ to-write-tables (after-copy-u16 .before) .write-tables .kept .1 .1 .0
+    let after-copy-u162 = c .before .before in
+    let after-copy-u16 = to-copy (after-copy-u162 .before) in
+    after-copy-u162 .copy-u162 .kept .0 ∙ after-copy-u16 .copy-u16 .kept .0 ∙ to-write-tables (after-copy-u16 .before) .write-tables .kept .1 .1 .0
 
 returns : tie.Need-returns
 returns c =
-    let after-copy-u16 = c .before .before in
+    let after-copy-u162 = c .before .before in
+    let after-copy-u16 = to-copy (after-copy-u162 .before) in
     let after-write-tables = to-write-tables (after-copy-u16 .before) in
     let start = to-start after-write-tables in
-    makers-written (start .args .z) (start .args .words .now) (start .args .shape .now) _ _ (after-copy-u16 .copy-u16 .ensures) (after-write-tables .write-tables .ensures)
+    last-written (start .args .z) (start .args .words .now) (start .args .shape .now) _ _ _ (after-copy-u162 .copy-u162 .ensures)
+    (after-copy-u16 .copy-u16 .ensures) (after-write-tables .write-tables .ensures)
 
 pub write-shape-spec : {M : Type 1} → statement M
 write-shape-spec =
@@ -51,5 +67,6 @@ write-shape-spec =
     (λ c. search needs)
     mul-copy-u16
     copy-u16-requires
+    copy-u16-requires-2
     same-length
     returns)

@@ -9,7 +9,7 @@ use Rattle.pywr.specs.Calls.{stepRoom}
 use Rattle.store.proofs.Passed.{lengths, shaped}
 use Rattle.step_rows.specs.ConstraintBounds as rows
 use Rattle.step_checks.proofs.JudgeLaws.{room-store, room-work}
-use Rattle.built_solver.proofs.FinishLaws.{storeOf, edges-fit, short, refuse, finish}
+use Rattle.built_solver.proofs.FinishLaws.{storeOf, edges-fit, order-fits, short, refuse, finish}
 use Rattle.built_solver.proofs.step.Statement.{statement}
 use Rattle.built_solver.proofs.step.Tie as tie
 
@@ -83,7 +83,17 @@ update-requires c κs =
     let ready = judge .judge .ensures (lent s) refl refl refl .ready (told .enum-told .given .1) in
     let n = shaped (lent s) (ready .shaped) in
     let r = rows.storeOf (a .row-lower .now) (a .row-upper .now) (a .elements .now) (a .columns .now) (a .row-starts .now) (a .shape .now) in (
-      (h .shape, h .colObjCoef, n .counts .nodes, n .counts .edges, n .counts .edge-columns, n .counts .sets, (λ t e. edges-fit t (lent s) e (n .edges)), omega (arith, ready .long)),
+      (
+        h .shape,
+        h .colObjCoef,
+        n .counts .nodes,
+        n .counts .edges,
+        n .counts .edge-columns,
+        n .counts .sets,
+        (λ t e. edges-fit t (lent s) e (n .edges)),
+        (λ t e. order-fits t (lent s) e (n .flow-order)),
+        omega (arith, ready .long),
+      ),
       record {
         row-lower-long = h .rowLower;
         row-upper-long = h .rowUpper;

@@ -99,10 +99,16 @@ makers-fit-requires c κs =
     let else1 = to-else1 (to-nodes-fit c) in
     (to-start else1 .pre .2, counts else1 .rows)
 
+flow-order-fits-requires : tie.Need-flow-order-fits-requires
+flow-order-fits-requires c κs =
+    let else1 = to-else1 (to-nodes-fit (c .before)) in
+    (to-start else1 .pre .2, counts else1 .edges)
+
 returns-3 : tie.Need-returns-3
 unfolding wellShaped
 returns-3 c =
-    let after-virtual-storages-fit = c .before in
+    let after-makers-fit = c .before in
+    let after-virtual-storages-fit = after-makers-fit .before in
     let after-aggregates-fit = after-virtual-storages-fit .before in
     let after-node-rows-fit = after-aggregates-fit .before in
     let after-edges-fit = after-node-rows-fit .before in
@@ -124,7 +130,8 @@ returns-3 c =
       after-node-rows-fit .node-rows-fit .ensures s ec er es,
       after-aggregates-fit .aggregates-fit .ensures s es,
       after-virtual-storages-fit .virtual-storages-fit .ensures s es,
-      c .makers-fit .ensures s es,
+      after-makers-fit .makers-fit .ensures s es,
+      c .flow-order-fits .ensures s es,
     )
 
 pub well-shaped-spec : {M : Type 1} → statement M
@@ -143,4 +150,5 @@ well-shaped-spec =
     aggregates-fit-requires
     virtual-storages-fit-requires
     makers-fit-requires
+    flow-order-fits-requires
     returns-3)

@@ -1,46 +1,16 @@
--- `aggregates_fit` meets its contract. The loop's invariant: i entries were tested, and `good` says whether all passed. Assumes nothing.
-use Prim.Native.Nat.{_-_}
-use Rattle.layout.specs.Layout.{aggregatesAt}
+-- `aggregates_fit` meets its contract. Assumes nothing.
+use mathlib.Core.Path.{_∙_}
 use Rattle.pywr.specs.Misshapen.{aggregateFits}
-use Rattle.store_shape.proofs.Entries.{ofShape, Tested, tested-none, tested-more, tested-all}
 use borrow.Author.Needs.{needs}
 use Rattle.store_shape.proofs.aggregates_fit.Statement.{statement}
 use Rattle.store_shape.proofs.aggregates_fit.Tie as tie
 
-abbrev Inv-loop : tie.InvT-loop
-Inv-loop shape varying aggregates good₀ at₀ i₀ good at i = Tested (aggregateFits (ofShape shape)) 1 aggregatesAt aggregates good at i
-
-abbrev μ-loop : tie.MeasureT-loop
-μ-loop shape varying aggregates good₀ at₀ i₀ good at i = aggregates - i
-
-loop-holds : tie.Need-loop-holds Inv-loop μ-loop
-loop-holds c =
-    tested-none _ _ _ _
-
-loop-again : tie.Need-loop-again Inv-loop μ-loop
-unfolding aggregateFits
-loop-again c =
-    tested-more (c .before .before .loop .inv) (c .before .loop-test .taken)
-
-returns : tie.Need-returns Inv-loop μ-loop
+returns : tie.Need-returns
 unfolding aggregateFits
 returns c =
-    λ s e. rw (e, ← (c .before .before .wide16 .ensures .0)) (tested-all (c .before .loop .inv) (c .loop-test .left))
+    let after-wide16 = c .before .before in
+    λ s e. c .words-under .ensures ∙ rw (e, after-wide16 .wide16 .ensures .0)
 
 pub aggregates-fit-spec : {M : Type 1} → statement M
 aggregates-fit-spec =
-    tie.close
-    (tie.spec
-    Inv-loop
-    μ-loop
-    (λ c. search needs)
-    (λ c. search needs)
-    (λ c κs. search needs)
-    loop-holds
-    (λ c. search needs)
-    (λ c. search needs)
-    (λ c. search needs)
-    (λ c. search needs)
-    (λ c. search needs)
-    loop-again
-    returns)
+    tie.close (tie.spec (λ c. search needs) (λ c κs. search needs) (λ c. search needs) (λ c κs. search needs) returns)

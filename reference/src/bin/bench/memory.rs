@@ -110,9 +110,15 @@ pub fn tell(case: &Case) {
 
     let network = network_reader::read(&case.network).unwrap();
     let held = heap(|| rust_create::<Altered>(&network));
-    let with_network = heap(|| (rust_build::<Altered>(&case.network), StepReader::new(&case.file)));
+    // A network finds its flow order in its first step and keeps it.
+    let with_network = heap(|| {
+        let ((network, mut solver), mut reader) = (rust_build(&case.network), StepReader::new(&case.file));
+        rust_step(&network, &mut solver, &mut reader, &case.step);
+        (network, solver, reader)
+    });
     let build = heap(|| rust_build::<Altered>(&case.network));
     let (mut solver, mut reader) = (rust_create(&network), StepReader::new(&case.file));
+    rust_step(&network, &mut solver, &mut reader, &case.step);
     let step = heap(|| rust_step(&network, &mut solver, &mut reader, &case.step));
     print!("         Rust  solver {}, with the network and the state {}; ", held.held, with_network.held);
     let stacks = [

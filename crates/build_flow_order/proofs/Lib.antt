@@ -1,0 +1,4 @@
+pub mod Marks
+pub mod Neighbours
+pub mod Turn
+pub mod Passes

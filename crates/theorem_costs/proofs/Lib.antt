@@ -1,0 +1,10 @@
+pub mod NextEdges
+pub mod FlowPlaces
+pub mod ColumnSums
+pub mod StoreCosts
+pub mod ReadCosts
+pub mod WholeCosts
+pub mod SmallCosts
+pub mod ColumnChains
+pub mod CostFileOrder
+pub mod FlowExample

@@ -1,0 +1,3 @@
+pub mod FlowPlaces
+pub mod CostOrder
+pub mod CostFileOrder
