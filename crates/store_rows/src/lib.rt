@@ -4,13 +4,14 @@ use layout::ELEMENT_COUNT_AT;
 use layout::SET_COUNT_AT;
 use pywr::ColumnIndex;
 use store_shape::row_count;
+use store_shape::words_under;
 use widths::wide16;
 use widths::wide32;
 ghost use mathlib.Core.Path.{_≡_};
 ghost use mathlib.Core.Bool.{_&&_};
 ghost use Prim.Native.Nat.{ℕ, _+_, _≤_, _<_};
 ghost use lib.ListN.{length, getD};
-ghost use lib.Dec.{ltb, eqb};
+ghost use lib.Dec.{eqb};
 ghost use Rattle.layout.specs.Layout.{rowCeiling, elementCeiling, rowStartsLength, shapeLength, varyingIn, fixedIn};
 ghost use Rattle.pywr.specs.Store.{Store, rowCount, startOf};
 ghost use Rattle.pywr.specs.Misshapen.{startsRise, rowColumnsRise, allEntries};
@@ -31,20 +32,6 @@ pub fn starts_rise(row_starts: &[u32], shape: &[u16]) -> bool
         r += 1;
     }
     good & (wide32(row_starts[rows]) == wide16(shape[ELEMENT_COUNT_AT]))
-}
-
-// Whether each of the first n columns is under the count.
-fn columns_under(columns: &[u16], n: usize, count: u16) -> bool
-    requires { ⌜ n ≤ length (now columns) ⌝ }
-    ensures { λ r. ⌜ r ≡ allEntries (λ at. ltb (getD (now (columns .entry)) at 0) count) 1 0 n ⌝ }
-{
-    let mut good = true;
-    let mut i: usize = 0;
-    while i < n {
-        good = good & (columns[i] < count);
-        i += 1;
-    }
-    good
 }
 
 // A column falls where it is not over the one before it: 1 there.
@@ -103,8 +90,9 @@ pub fn columns_rise(columns: &[u16], row_starts: &[u32], shape: &[u16]) -> bool
         → r ≡ allEntries (rowColumnsRise s) 1 0 (rowCount s)) ⌝ }
 {
     let kept = wide16(shape[ELEMENT_COUNT_AT]);
-    let under = columns_under(
+    let under = words_under(
         columns,
+        0,
         kept,
         shape[EDGE_COLUMN_COUNT_AT] + shape[SET_COUNT_AT],
     );

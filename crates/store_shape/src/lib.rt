@@ -154,15 +154,15 @@ pub fn edges_fit(shape: &[u16]) -> bool
 }
 
 // Whether each of `count` words from `first` on is under `limit`.
-fn words_under(shape: &[u16], first: usize, count: usize, limit: u16) -> bool
-    requires { ⌜ first + count ≤ length (now shape) ⌝ }
-    ensures { λ r. ⌜ r ≡ allEntries (λ (at : ℕ). ltb (getD (now (shape .entry)) at 0) limit) 1 first count ⌝ }
+pub fn words_under(words: &[u16], first: usize, count: usize, limit: u16) -> bool
+    requires { ⌜ first + count ≤ length (now words) ⌝ }
+    ensures { λ r. ⌜ r ≡ allEntries (λ (at : ℕ). ltb (getD (now (words .entry)) at 0) limit) 1 first count ⌝ }
 {
     let mut good = true;
     let mut at: usize = first;
     let mut i: usize = 0;
     while i < count {
-        good = good & (shape[at] < limit);
+        good = good & (words[at] < limit);
         at += 1;
         i += 1;
     }

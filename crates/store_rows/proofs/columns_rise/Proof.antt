@@ -27,15 +27,15 @@ unfolding rowColumnsRise columnsOfRow
 returns c =
     let after-row-count = c .before in
     let after-falls = after-row-count .before in
-    let after-columns-under = after-falls .before in
-    let after-wide16 = after-columns-under .before .before .before in
+    let after-words-under = after-falls .before in
+    let after-wide16 = after-words-under .before .before .before in
     let after-shared-slice-known2 = after-wide16 .before .before .before in
     let start = after-shared-slice-known2 .before .before in
     λ s ec er es. rw (
       ec,
       er,
       es,
-      after-columns-under .columns-under .ensures,
+      after-words-under .words-under .ensures,
       after-falls .falls .ensures,
       c .start-falls .ensures,
       after-wide16 .wide16 .ensures .0,

@@ -8,10 +8,10 @@ use Rattle.store_shape.proofs.words_under.Statement.{statement}
 use Rattle.store_shape.proofs.words_under.Tie as tie
 
 abbrev Inv-loop : tie.InvT-loop
-Inv-loop shape first count limit good₀ at₀ i₀ good at i = Tested (λ (j : ℕ). ltb (getD shape j 0) limit) 1 first count good at i
+Inv-loop words first count limit good₀ at₀ i₀ good at i = Tested (λ (j : ℕ). ltb (getD words j 0) limit) 1 first count good at i
 
 abbrev μ-loop : tie.MeasureT-loop
-μ-loop shape first count limit good₀ at₀ i₀ good at i = count - i
+μ-loop words first count limit good₀ at₀ i₀ good at i = count - i
 
 loop-holds : tie.Need-loop-holds Inv-loop μ-loop
 loop-holds c =
