@@ -1,19 +1,19 @@
 // The rows of the aggregated nodes (SolverBuilder::create_aggregated_node_constraints of builder.rs).
 ghost use Rattle.std.specs.Prelude.{◌≡◌, List, [], ◌∷◌, map, ℕ, ◌+◌, ◌<◌, ◌≤◌, length};
 ghost use Rattle.std.proofs.lemmas.List.Edits.{sets};
-ghost use Rattle.layout.specs.Layout.{columnCeiling, aggregatesPackedAt, aggregatesMadeAt, wordsLength, numbersLength};
+ghost use Rattle.layout.specs.Layout.{column_ceiling, aggregates_packed_at, aggregates_made_at, words_length, numbers_length};
 ghost use Rattle.pywr.specs.Bytes.{byte, le16};
-ghost use Rattle.pywr.specs.Rows.{Element, columnMap, addNodes, aggregateRow};
+ghost use Rattle.pywr.specs.Rows.{Element, column_map, add_nodes, aggregate_row};
 ghost use Rattle.pywr.specs.VaryingRows.{fresh_row};
 ghost use Rattle.fields.specs.declared.Checked.TheVariants.{Next};
-ghost use Rattle.network_aggregate.specs.AggregatedNode.{setAt, setEnd, aggregateAt, aggregateEnd, checkAggregate, memberPlace};
+ghost use Rattle.network_aggregate.specs.AggregatedNode.{aggregate_set_at, set_end, aggregate_at, aggregate_end, check_aggregate, member_place};
 ghost use Rattle.build_row.specs.RowBuilder.{gathered, Rising};
 ghost use Rattle.build_append.specs.LpBuilder.{RowsHeld, Holding};
 ghost use Rattle.build_join.specs.VariableRow.{AfterVariableRow};
-ghost use Rattle.build_node_row.specs.Tables.{networkOf, EdgeTables};
+ghost use Rattle.build_node_row.specs.Tables.{network_of, EdgeTables};
 ghost use Rattle.build_row.specs.Gathered.{Gathered};
 ghost use Rattle.build_join.specs.JoinedRows.{HoldingVarying, AfterVariableRows};
-ghost use Rattle.build_aggregates.specs.AggregateRows.{aggregateRows, aggregateTable};
+ghost use Rattle.build_aggregates.specs.AggregateRows.{aggregate_rows, aggregate_table};
 ghost use Rattle.layout.specs.WorkRoom.{WorkRoom};
 
 use build_append::{Filled, RowsAdded};
@@ -40,9 +40,9 @@ fn add_nodes(
     n: usize,
 ) -> usize
     requires { EdgeTables s.now c first_in.now next_in.now first_out.now next_out.now edge_to_col.now
-        × (setEnd s.now at ≤ length s.now) × ((k : ℕ) → k < byte s.now at → le16 s.now (memberPlace at k) < c.nodes)
-        × (n ≤ columnCeiling) × (columnCeiling ≤ length elements.old) × Rising columns.old n }
-    ensures { Gathered (addNodes (columnMap (networkOf s.now c)) (setAt s.now at) (gathered columns.old elements.old n))
+        × (set_end s.now at ≤ length s.now) × ((k : ℕ) → k < byte s.now at → le16 s.now (member_place at k) < c.nodes)
+        × (n ≤ column_ceiling) × (column_ceiling ≤ length elements.old) × Rising columns.old n }
+    ensures { Gathered (add_nodes (column_map (network_of s.now c)) (aggregate_set_at s.now at) (gathered columns.old elements.old n))
         columns.new elements.new result }
 {
     let size = network_aggregate::set_size(s, at);
@@ -83,8 +83,8 @@ fn aggregate_row(
     elements: &mut [f64],
 ) -> usize
     requires { EdgeTables s.now c first_in.now next_in.now first_out.now next_out.now edge_to_col.now
-        × (checkAggregate s.now c.nodes at ≡ Next (aggregateEnd s.now at)) × (columnCeiling ≤ length elements.old) }
-    ensures { Gathered (aggregateRow (columnMap (networkOf s.now c)) (aggregateAt s.now at)) columns.new elements.new result }
+        × (check_aggregate s.now c.nodes at ≡ Next (aggregate_end s.now at)) × (column_ceiling ≤ length elements.old) }
+    ensures { Gathered (aggregate_row (column_map (network_of s.now c)) (aggregate_at s.now at)) columns.new elements.new result }
 {
     let sets = network_aggregate::set_count(s, at);
     let mut here = network_aggregate::sets_at(at);
@@ -127,10 +127,10 @@ fn add_aggregate_row(
     f: Filled,
 ) -> VariableRow
     requires { EdgeTables s.now c first_in.now next_in.now first_out.now next_out.now edge_to_col.now
-        × (checkAggregate s.now c.nodes at ≡ Next (aggregateEnd s.now at))
+        × (check_aggregate s.now c.nodes at ≡ Next (aggregate_end s.now at))
         × WorkRoom words.old numbers.old × Holding words.old numbers.old f }
     ensures { (rows : List (List Element)) → RowsHeld (map (fresh_row sentinel) rows) words.old numbers.old f
-        → AfterVariableRow sentinel rows (aggregateRow (columnMap (networkOf s.now c)) (aggregateAt s.now at))
+        → AfterVariableRow sentinel rows (aggregate_row (column_map (network_of s.now c)) (aggregate_at s.now at))
         words.old result words.new numbers.new }
 {
     let from = ELEMENTS_MADE_AT + f.elements;
@@ -151,8 +151,8 @@ fn add_aggregate_row(
 
 // Aggregate i of the table: its row.
 fn put_aggregate(shape: &mut [u16], i: usize, row: u16)
-    requires { aggregatesPackedAt + i < length shape.old }
-    ensures { shape.new ≡ sets shape.old (aggregatesPackedAt + i) (row ∷ []) }
+    requires { aggregates_packed_at + i < length shape.old }
+    ensures { shape.new ≡ sets shape.old (aggregates_packed_at + i) (row ∷ []) }
 {
     shape[AGGREGATES_PACKED_AT + i] = row;
 }
@@ -175,7 +175,7 @@ pub fn create_aggregated_node_constraints(
     requires { EdgeTables s.now c first_in.now next_in.now first_out.now next_out.now edge_to_col.now
         × WorkRoom words.old numbers.old × HoldingVarying sentinel words.old numbers.old f }
     ensures { (rows : List (List Element)) → RowsHeld (map (fresh_row sentinel) rows) words.old numbers.old f
-        → AfterVariableRows sentinel rows (aggregateRows (networkOf s.now c)) aggregatesMadeAt c.aggregates aggregateTable
+        → AfterVariableRows sentinel rows (aggregate_rows (network_of s.now c)) aggregates_made_at c.aggregates aggregate_table
         words.old result words.new numbers.new }
 {
     let mut at = network_edge::edges_end(c.nodes, c.edges);

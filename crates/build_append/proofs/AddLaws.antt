@@ -7,29 +7,29 @@ use mathlib.Core.List.{List, [], ◌∷◌, ◌++◌, map, flat_map}
 use lib.ListN.{length, take, drop, set, length-append, length-drop, length-set}
 use lib.Seq.{sets, length-sets, length-take-le, drop-set-lt}
 use lib.Ieee.{Float}
-use Rattle.layout.specs.Layout.{numbersLength, shapeMadeAt, wordsLength}
+use Rattle.layout.specs.Layout.{numbers_length, shape_made_at, words_length}
 use Rattle.laws.specs.Part.{part}
-use Rattle.laws.proofs.Sets.{part_same, part-before, part-after}
+use Rattle.laws.proofs.Sets.{part_same, part_before, part_after}
 use Rattle.laws.proofs.Runs.{map_snoc}
 use Rattle.pywr.specs.Programme.{Row}
-use Rattle.pywr.specs.Build.{elementCount}
-use Rattle.pywr.specs.Written.{startsFrom, columnsIn, valuesIn, lowerOf, upperOf}
-use Rattle.pywr.proofs.FitLaws.{elements-append}
+use Rattle.pywr.specs.Build.{element_count}
+use Rattle.pywr.specs.Written.{starts_from, columns_in, values_in, lower_of, upper_of}
+use Rattle.pywr.proofs.FitLaws.{elements_append}
 use Rattle.build_row.specs.RowBuilder.{gathered}
-use Rattle.build_append.specs.LpBuilder.{RowsHeld, withinCeilings, AfterRows}
+use Rattle.build_append.specs.LpBuilder.{RowsHeld, within_ceilings, AfterRows}
 use Rattle.build_append.specs.declared.Filled.{Filled}
 use Rattle.build_append.specs.declared.RowsAdded.TheVariants.{Done, Full}
-use Rattle.build_append.proofs.RowLaws.{part-more, drop-sets, flat-snoc, starts-snoc, gathered-length, gathered-columns, gathered-values}
-use Rattle.build_append.proofs.RowsHeldLaws.{held-few, over-rows, over-elements}
+use Rattle.build_append.proofs.RowLaws.{part_more, drop_sets, flat_snoc, starts_snoc, gathered_length, gathered_columns, gathered_values}
+use Rattle.build_append.proofs.RowsHeldLaws.{held_few, over_rows, over_elements}
 
 -- ---- the answer's two cases
 
-rows-full : (rows : List Row) (words : List ℕ) (numbers : List Float) → withinCeilings rows ≡ false → AfterRows rows words Full words numbers
-rows-full rows words numbers over = record { held = λ f e. absurd (let z : ◌≡◌ {A = ℕ} 0 1 = cc in omega arith); full = λ e. over; kept = refl }
+rows_full : (rows : List Row) (words : List ℕ) (numbers : List Float) → within_ceilings rows ≡ false → AfterRows rows words Full words numbers
+rows_full rows words numbers over = record { held = λ f e. absurd (let z : ◌≡◌ {A = ℕ} 0 1 = cc in omega arith); full = λ e. over; kept = refl }
 
-rows-done : (rows : List Row) (words words' : List ℕ) (numbers : List Float) (f : Filled) → RowsHeld rows words' numbers f → drop shapeMadeAt words' ≡ drop shapeMadeAt words
+rows_done : (rows : List Row) (words words' : List ℕ) (numbers : List Float) (f : Filled) → RowsHeld rows words' numbers f → drop shape_made_at words' ≡ drop shape_made_at words
     → AfterRows rows words (Done f) words' numbers
-rows-done rows words words' numbers f held kept =
+rows_done rows words words' numbers f held kept =
     record { held = λ g e. subst (RowsHeld rows words' numbers) (same f g e) held; full = λ e. absurd (let z : ◌≡◌ {A = ℕ} 0 1 = cc in omega arith); kept = kept }
   where
     same : (f g : Filled) → Done f ≡ Done g → f ≡ g
@@ -50,93 +50,93 @@ module _ (rows : List Row) (lower upper : Float) (columns words : List ℕ) (num
   abbrev more : List Row
   more = rows ++ (row ∷ [])
 
-  pub rows-over : 1024 ≤ r → AfterRows more words Full words numbers
-  rows-over h = rows-full more words numbers (over-rows more (omega (arith, length-append rows (row ∷ []), held.rowCount)))
+  pub rows_over : 1024 ≤ r → AfterRows more words Full words numbers
+  rows_over h = rows_full more words numbers (over_rows more (omega (arith, length-append rows (row ∷ []), held.row_count)))
 
-  module _ (longNumbers : numbersLength ≤ length numbers) (longColumns : 640 ≤ length columns) (few : n ≤ 640) where
+  module _ (long_numbers : numbers_length ≤ length numbers) (long_columns : 640 ≤ length columns) (few : n ≤ 640) where
     behind : n ≤ length (drop (2048 + e) numbers)
-    behind = omega (arith, length-drop (2048 + e) numbers, held-few rows words numbers f held)
+    behind = omega (arith, length-drop (2048 + e) numbers, held_few rows words numbers f held)
 
     count : length row.elements ≡ n
-    count = gathered-length columns (drop (2048 + e) numbers) n (omega arith) behind
+    count = gathered_length columns (drop (2048 + e) numbers) n (omega arith) behind
 
-    pub elements-over : 4096 < e + n → AfterRows more words Full words numbers
-    unfolding elementCount
-    elements-over h = rows-full more words numbers (over-elements more (omega (arith, elements-append rows (row ∷ []), held.elementsCount, count)))
+    pub elements_over : 4096 < e + n → AfterRows more words Full words numbers
+    unfolding element_count
+    elements_over h = rows_full more words numbers (over_elements more (omega (arith, elements_append rows (row ∷ []), held.elements_count, count)))
 
-    module _ (longWords : wordsLength ≤ length words) (fewRows : r < 1024) (fits : e + n ≤ 4096) where
+    module _ (long_words : words_length ≤ length words) (few_rows : r < 1024) (fits : e + n ≤ 4096) where
       abbrev cs : List ℕ
       cs = take n columns
 
-      abbrev withColumns : List ℕ
-      withColumns = sets words e cs
+      abbrev with_columns : List ℕ
+      with_columns = sets words e cs
 
       abbrev with_row : List ℕ
-      with_row = set withColumns (4096 + r + 1) (e + n)
+      with_row = set with_columns (4096 + r + 1) (e + n)
 
-      abbrev withLower : List Float
-      withLower = set numbers r lower
+      abbrev with_lower : List Float
+      with_lower = set numbers r lower
 
-      abbrev withBounds : List Float
-      withBounds = set withLower (1024 + r) upper
+      abbrev with_bounds : List Float
+      with_bounds = set with_lower (1024 + r) upper
 
-      cs-length : length cs ≡ n
-      cs-length = length-take-le n columns (omega arith)
+      cs_length : length cs ≡ n
+      cs_length = length-take-le n columns (omega arith)
 
-      columns-are : cs ≡ columnsIn row
-      unfolding columnsIn
-      columns-are = sym (gathered-columns columns (drop (2048 + e) numbers) n (omega arith) behind)
+      columns_are : cs ≡ columns_in row
+      unfolding columns_in
+      columns_are = sym (gathered_columns columns (drop (2048 + e) numbers) n (omega arith) behind)
 
-      values-are : part (2048 + e) n numbers ≡ valuesIn row
-      unfolding valuesIn
-      values-are = sym (gathered-values columns (drop (2048 + e) numbers) n (omega arith) behind)
+      values_are : part (2048 + e) n numbers ≡ values_in row
+      unfolding values_in
+      values_are = sym (gathered_values columns (drop (2048 + e) numbers) n (omega arith) behind)
 
-      row-held : RowsHeld more with_row withBounds (record { rows = r + 1; elements = e + n })
-      unfolding elementCount lowerOf upperOf
-      row-held =
-          let er : r ≡ length rows = held.rowCount in
-          let ee : e ≡ elementCount rows = held.elementsCount in
+      row_held : RowsHeld more with_row with_bounds (record { rows = r + 1; elements = e + n })
+      unfolding element_count lower_of upper_of
+      row_held =
+          let er : r ≡ length rows = held.row_count in
+          let ee : e ≡ element_count rows = held.elements_count in
           let lengths : length rows + 1 ≡ length more = sym (length-append rows (row ∷ [])) in
-          let counts : e + n ≡ elementCount more = omega (arith, elements-append rows (row ∷ []), count) in
+          let counts : e + n ≡ element_count more = omega (arith, elements_append rows (row ∷ []), count) in
           let start : List ℕ = (e + n) ∷ [] in
           record {
-            rowCount = omega arith;
-            elementsCount = counts;
-            fewRows = omega arith;
-            fewElements = omega arith;
+            row_count = omega arith;
+            elements_count = counts;
+            few_rows = omega arith;
+            few_elements = omega arith;
             columns =
-                part-more with_row (flat_map columnsIn rows) cs 0 e e n (elementCount more) (omega arith) counts
-                (part-before withColumns start (4096 + r + 1) 0 e (omega arith) ∙ part-before words cs e 0 e (omega arith) ∙ rw ee held.columns)
-                (part-before withColumns start (4096 + r + 1) e n (omega arith) ∙ part_same words cs e n cs-length (omega arith))
-                ∙ ap (λ (l : List ℕ). flat_map columnsIn rows ++ l) columns-are
-                ∙ sym (flat-snoc columnsIn rows row);
+                part_more with_row (flat_map columns_in rows) cs 0 e e n (element_count more) (omega arith) counts
+                (part_before with_columns start (4096 + r + 1) 0 e (omega arith) ∙ part_before words cs e 0 e (omega arith) ∙ rw ee held.columns)
+                (part_before with_columns start (4096 + r + 1) e n (omega arith) ∙ part_same words cs e n cs_length (omega arith))
+                ∙ ap (λ (l : List ℕ). flat_map columns_in rows ++ l) columns_are
+                ∙ sym (flat_snoc columns_in rows row);
             starts =
-                part-more with_row (startsFrom 0 rows) start 4096 (length rows + 1) (4096 + r + 1) 1 (length more + 1) (omega arith) (omega arith)
-                (part-before withColumns start (4096 + r + 1) 4096 (length rows + 1) (omega arith) ∙ part-after words cs e 4096 (length rows + 1) (omega (arith, cs-length)) ∙ held.starts)
-                (part_same withColumns start (4096 + r + 1) 1 refl (omega (arith, length-sets words e cs)))
-                ∙ (let k : e + n ≡ 0 + elementCount rows + length row.elements = omega (arith, count) in ap (λ (j : ℕ). startsFrom 0 rows ++ (j ∷ [])) k)
-                ∙ sym (starts-snoc 0 rows row);
+                part_more with_row (starts_from 0 rows) start 4096 (length rows + 1) (4096 + r + 1) 1 (length more + 1) (omega arith) (omega arith)
+                (part_before with_columns start (4096 + r + 1) 4096 (length rows + 1) (omega arith) ∙ part_after words cs e 4096 (length rows + 1) (omega (arith, cs_length)) ∙ held.starts)
+                (part_same with_columns start (4096 + r + 1) 1 refl (omega (arith, length-sets words e cs)))
+                ∙ (let k : e + n ≡ 0 + element_count rows + length row.elements = omega (arith, count) in ap (λ (j : ℕ). starts_from 0 rows ++ (j ∷ [])) k)
+                ∙ sym (starts_snoc 0 rows row);
             lowers =
-                part-more withBounds (map lowerOf rows) (lower ∷ []) 0 (length rows) r 1 (length more) (omega arith) lengths
-                (part-before withLower (upper ∷ []) (1024 + r) 0 (length rows) (omega arith) ∙ part-before numbers (lower ∷ []) r 0 (length rows) (omega arith) ∙ held.lowers)
-                (part-before withLower (upper ∷ []) (1024 + r) r 1 (omega arith) ∙ part_same numbers (lower ∷ []) r 1 refl (omega arith))
-                ∙ sym (map_snoc lowerOf rows row);
+                part_more with_bounds (map lower_of rows) (lower ∷ []) 0 (length rows) r 1 (length more) (omega arith) lengths
+                (part_before with_lower (upper ∷ []) (1024 + r) 0 (length rows) (omega arith) ∙ part_before numbers (lower ∷ []) r 0 (length rows) (omega arith) ∙ held.lowers)
+                (part_before with_lower (upper ∷ []) (1024 + r) r 1 (omega arith) ∙ part_same numbers (lower ∷ []) r 1 refl (omega arith))
+                ∙ sym (map_snoc lower_of rows row);
             uppers =
-                part-more withBounds (map upperOf rows) (upper ∷ []) 1024 (length rows) (1024 + r) 1 (length more) (omega arith) lengths
-                (part-before withLower (upper ∷ []) (1024 + r) 1024 (length rows) (omega arith) ∙ part-after numbers (lower ∷ []) r 1024 (length rows) (omega arith) ∙ held.uppers)
-                (part_same withLower (upper ∷ []) (1024 + r) 1 refl (omega (arith, length-set numbers r lower)))
-                ∙ sym (map_snoc upperOf rows row);
+                part_more with_bounds (map upper_of rows) (upper ∷ []) 1024 (length rows) (1024 + r) 1 (length more) (omega arith) lengths
+                (part_before with_lower (upper ∷ []) (1024 + r) 1024 (length rows) (omega arith) ∙ part_after numbers (lower ∷ []) r 1024 (length rows) (omega arith) ∙ held.uppers)
+                (part_same with_lower (upper ∷ []) (1024 + r) 1 refl (omega (arith, length-set numbers r lower)))
+                ∙ sym (map_snoc upper_of rows row);
             elements =
-                part-more withBounds (flat_map valuesIn rows) (valuesIn row) 2048 e (2048 + e) n (elementCount more) refl counts
-                (part-after withLower (upper ∷ []) (1024 + r) 2048 e (omega arith) ∙ part-after numbers (lower ∷ []) r 2048 e (omega arith) ∙ rw ee held.elements)
-                (part-after withLower (upper ∷ []) (1024 + r) (2048 + e) n (omega arith) ∙ part-after numbers (lower ∷ []) r (2048 + e) n (omega arith) ∙ values-are)
-                ∙ sym (flat-snoc valuesIn rows row);
+                part_more with_bounds (flat_map values_in rows) (values_in row) 2048 e (2048 + e) n (element_count more) refl counts
+                (part_after with_lower (upper ∷ []) (1024 + r) 2048 e (omega arith) ∙ part_after numbers (lower ∷ []) r 2048 e (omega arith) ∙ rw ee held.elements)
+                (part_after with_lower (upper ∷ []) (1024 + r) (2048 + e) n (omega arith) ∙ part_after numbers (lower ∷ []) r (2048 + e) n (omega arith) ∙ values_are)
+                ∙ sym (flat_snoc values_in rows row);
           }
 
       -- the columns put, the next start and the two bounds written
-      pub row-added : (words' : List ℕ) (next : ℕ) → words' ≡ withColumns → next ≡ e + n
-          → AfterRows more words (Done (record { rows = r + 1; elements = e + n })) (set words' (4096 + r + 1) next) withBounds
-      row-added words' next ew en =
+      pub row_added : (words' : List ℕ) (next : ℕ) → words' ≡ with_columns → next ≡ e + n
+          → AfterRows more words (Done (record { rows = r + 1; elements = e + n })) (set words' (4096 + r + 1) next) with_bounds
+      row_added words' next ew en =
           rw (ew, en)
-          (rows-done more words with_row withBounds (record { rows = r + 1; elements = e + n }) row-held
-          (drop-set-lt shapeMadeAt withColumns (4096 + r + 1) (e + n) (omega arith) ∙ drop-sets words cs e shapeMadeAt (omega (arith, cs-length))))
+          (rows_done more words with_row with_bounds (record { rows = r + 1; elements = e + n }) row_held
+          (drop-set-lt shape_made_at with_columns (4096 + r + 1) (e + n) (omega arith) ∙ drop_sets words cs e shape_made_at (omega (arith, cs_length))))

@@ -6,27 +6,27 @@ use mathlib.Core.Bool.{false}
 use mathlib.Core.List.{List, [], ◌∷◌, ◌++◌, append_assoc, append-nil}
 use lib.ListN.{drop}
 use lib.Ieee.{Float}
-use Rattle.layout.specs.Layout.{shapeMadeAt}
+use Rattle.layout.specs.Layout.{shape_made_at}
 use Rattle.pywr.specs.Programme.{Row}
-use Rattle.build_append.specs.LpBuilder.{RowsHeld, Holding, withinCeilings, AfterRows}
+use Rattle.build_append.specs.LpBuilder.{RowsHeld, Holding, within_ceilings, AfterRows}
 use Rattle.build_append.specs.declared.Filled.{Filled}
 use Rattle.build_append.specs.declared.RowsAdded.{RowsAdded}
 use Rattle.build_append.specs.declared.RowsAdded.TheVariants.{Done, Full}
-use Rattle.build_append.proofs.RowsHeldLaws.{over-more}
+use Rattle.build_append.proofs.RowsHeldLaws.{over_more}
 
 -- of the whole list of rows all but the rest are held
 pub record Adding (whole rest : List Row) (words₀ words : List ℕ) (numbers : List Float) (f : Filled) : Type 0 where
   pub rows : List Row
   pub whole_is : whole ≡ rows ++ rest
   pub held : RowsHeld rows words numbers f
-  pub kept : drop shapeMadeAt words ≡ drop shapeMadeAt words₀
+  pub kept : drop shape_made_at words ≡ drop shape_made_at words₀
 
 -- what adding these rows promises, whatever rows are held
 abbrev pub Adds : List Row → List ℕ → List Float → Filled → RowsAdded → List ℕ → List Float → Type 0
 Adds new words numbers f r words' numbers' = (rows : List Row) → RowsHeld rows words numbers f → AfterRows (rows ++ new) words r words' numbers'
 
-pub adding-first : (rows all : List Row) (words : List ℕ) (numbers : List Float) (f : Filled) → RowsHeld rows words numbers f → Adding (rows ++ all) all words words numbers f
-adding-first rows all words numbers f h = record { rows = rows; whole_is = refl; held = h; kept = refl }
+pub adding_first : (rows all : List Row) (words : List ℕ) (numbers : List Float) (f : Filled) → RowsHeld rows words numbers f → Adding (rows ++ all) all words words numbers f
+adding_first rows all words numbers f h = record { rows = rows; whole_is = refl; held = h; kept = refl }
 
 -- no row more
 pub adds_none : (words : List ℕ) (numbers : List Float) (f : Filled) → Adds [] words numbers f (Done f) words numbers
@@ -45,26 +45,26 @@ module _ (whole new rest : List Row) (words₀ words : List ℕ) (numbers : List
   is : whole ≡ (h.rows ++ new) ++ rest
   is = h.whole_is ∙ sym (append_assoc h.rows new rest)
 
-  pub adding-more : (g : Filled) → r ≡ Done g → Adding whole rest words₀ words' numbers' g
-  adding-more g e = record { rows = h.rows ++ new; whole_is = is; held = after.held g e; kept = after.kept ∙ h.kept }
+  pub adding_more : (g : Filled) → r ≡ Done g → Adding whole rest words₀ words' numbers' g
+  adding_more g e = record { rows = h.rows ++ new; whole_is = is; held = after.held g e; kept = after.kept ∙ h.kept }
 
-  pub adding-over : r ≡ Full → AfterRows whole words₀ Full words' numbers'
-  adding-over e =
+  pub adding_over : r ≡ Full → AfterRows whole words₀ Full words' numbers'
+  adding_over e =
       record {
         held = λ g q. absurd (let z : ◌≡◌ {A = ℕ} 0 1 = cc in omega arith);
-        full = λ q. ap withinCeilings is ∙ over-more (h.rows ++ new) rest (after.full e);
+        full = λ q. ap within_ceilings is ∙ over_more (h.rows ++ new) rest (after.full e);
         kept = after.kept ∙ h.kept;
       }
 
 -- the last rows
 module _ (whole new : List Row) (words₀ words : List ℕ) (numbers : List Float) (f : Filled) (h : Adding whole new words₀ words numbers f) where
-  pub adding-last : (r : RowsAdded) (words' : List ℕ) (numbers' : List Float) → Adds new words numbers f r words' numbers' → AfterRows whole words₀ r words' numbers'
-  adding-last r words' numbers' added =
+  pub adding_last : (r : RowsAdded) (words' : List ℕ) (numbers' : List Float) → Adds new words numbers f r words' numbers' → AfterRows whole words₀ r words' numbers'
+  adding_last r words' numbers' added =
       let a : AfterRows whole words r words' numbers' = rw h.whole_is (added h.rows h.held) in
       record { held = a.held; full = a.full; kept = a.kept ∙ h.kept }
 
-  pub adding-done : new ≡ [] → AfterRows whole words₀ (Done f) words numbers
-  adding-done e = adding-last (Done f) words numbers (rw e (adds_none words numbers f))
+  pub adding_done : new ≡ [] → AfterRows whole words₀ (Done f) words numbers
+  adding_done e = adding_last (Done f) words numbers (rw e (adds_none words numbers f))
 
-  pub adding-holding : Holding words numbers f
-  adding-holding = record { rows = h.rows; held = h.held }
+  pub adding_holding : Holding words numbers f
+  adding_holding = record { rows = h.rows; held = h.held }

@@ -2,30 +2,30 @@
 -- in `numbers` the lower bounds. Assumes nothing.
 use Rattle.std.specs.Prelude.{◌≡◌, ℕ, ◌+◌, ◌≤◌, Bool, false, ◌&&◌, length, drop, leb, Float}
 use mathlib.Core.List.{List, map, flat_map}
-use Rattle.layout.specs.Layout.{rowCeiling, elementCeiling, startsMadeAt, shapeMadeAt, uppersMadeAt, elementsMadeAt}
+use Rattle.layout.specs.Layout.{row_ceiling, element_ceiling, starts_made_at, shape_made_at, uppers_made_at, elements_made_at}
 use Rattle.laws.specs.Part.{part}
 use Rattle.pywr.specs.Rows.{Element}
 use Rattle.pywr.specs.Programme.{Row}
-use Rattle.pywr.specs.Build.{elementCount}
-use Rattle.pywr.specs.Written.{startsFrom, columnsIn, valuesIn, lowerOf, upperOf}
+use Rattle.pywr.specs.Build.{element_count}
+use Rattle.pywr.specs.Written.{starts_from, columns_in, values_in, lower_of, upper_of}
 use Rattle.build_append.specs.declared.Filled.{Filled}
 use Rattle.build_append.specs.declared.RowsAdded.{RowsAdded}
 use Rattle.build_append.specs.declared.RowsAdded.TheVariants.{Done, Full}
 
 -- the elements of each row
-abbrev pub elementLists : List Row → List (List Element)
-elementLists rows = map (λ (row : Row). row.elements) rows
+abbrev pub element_lists : List Row → List (List Element)
+element_lists rows = map (λ (row : Row). row.elements) rows
 
 pub record RowsHeld (rows : List Row) (words : List ℕ) (numbers : List Float) (f : Filled) : Type 0 where
-  pub rowCount : f.rows ≡ length rows
-  pub elementsCount : f.elements ≡ elementCount rows
-  pub fewRows : length rows ≤ rowCeiling
-  pub fewElements : elementCount rows ≤ elementCeiling
-  pub columns : part 0 (elementCount rows) words ≡ flat_map columnsIn rows
-  pub starts : part startsMadeAt (length rows + 1) words ≡ startsFrom 0 rows
-  pub lowers : part 0 (length rows) numbers ≡ map lowerOf rows
-  pub uppers : part uppersMadeAt (length rows) numbers ≡ map upperOf rows
-  pub elements : part elementsMadeAt (elementCount rows) numbers ≡ flat_map valuesIn rows
+  pub row_count : f.rows ≡ length rows
+  pub elements_count : f.elements ≡ element_count rows
+  pub few_rows : length rows ≤ row_ceiling
+  pub few_elements : element_count rows ≤ element_ceiling
+  pub columns : part 0 (element_count rows) words ≡ flat_map columns_in rows
+  pub starts : part starts_made_at (length rows + 1) words ≡ starts_from 0 rows
+  pub lowers : part 0 (length rows) numbers ≡ map lower_of rows
+  pub uppers : part uppers_made_at (length rows) numbers ≡ map upper_of rows
+  pub elements : part elements_made_at (element_count rows) numbers ≡ flat_map values_in rows
 
 -- some rows are held
 pub record Holding (words : List ℕ) (numbers : List Float) (f : Filled) : Type 0 where
@@ -33,11 +33,11 @@ pub record Holding (words : List ℕ) (numbers : List Float) (f : Filled) : Type
   pub held : RowsHeld rows words numbers f
 
 -- "at most .. 1,024 rows, 4,096 elements"
-unfoldable pub withinCeilings : List Row → Bool
-withinCeilings rows = leb (length rows) rowCeiling && leb (elementCount rows) elementCeiling
+unfoldable pub within_ceilings : List Row → Bool
+within_ceilings rows = leb (length rows) row_ceiling && leb (element_count rows) element_ceiling
 
 -- the work runs hold these rows, or the rows are over the ceilings; the shape run's words stay
 pub record AfterRows (rows : List Row) (words : List ℕ) (r : RowsAdded) (words' : List ℕ) (numbers' : List Float) : Type 0 where
   pub held : (f : Filled) → r ≡ Done f → RowsHeld rows words' numbers' f
-  pub full : r ≡ Full → withinCeilings rows ≡ false
-  pub kept : drop shapeMadeAt words' ≡ drop shapeMadeAt words
+  pub full : r ≡ Full → within_ceilings rows ≡ false
+  pub kept : drop shape_made_at words' ≡ drop shape_made_at words

@@ -1,7 +1,7 @@
 // The rows of a programme in the making (LpBuilder of builder.rs): a row becomes the last row. In proofs/ also rows that are appended in turn.
 ghost use Rattle.std.specs.Prelude.{◌≡◌, List, [], ◌∷◌, ◌++◌, ◌+◌, ◌<◌, ◌≤◌, length, take, drop, Float};
 ghost use Rattle.std.proofs.lemmas.List.Edits.{sets};
-ghost use Rattle.layout.specs.Layout.{columnCeiling, rowCeiling, elementCeiling, shapeMadeAt, wordsLength, elementsMadeAt, numbersLength};
+ghost use Rattle.layout.specs.Layout.{column_ceiling, row_ceiling, element_ceiling, shape_made_at, words_length, elements_made_at, numbers_length};
 ghost use Rattle.pywr.specs.Programme.{Row};
 ghost use Rattle.build_row.specs.RowBuilder.{gathered, Rising};
 ghost use Rattle.build_append.specs.LpBuilder.{RowsHeld, AfterRows};
@@ -26,9 +26,9 @@ pub enum RowsAdded {
 
 // No rows yet.
 pub fn start_rows(words: &mut [u16])
-    requires { wordsLength ≤ length words.old }
+    requires { words_length ≤ length words.old }
     ensures { ((numbers : List Float) → RowsHeld [] words.new numbers (record { rows = 0; elements = 0 }))
-        × (drop shapeMadeAt words.new ≡ drop shapeMadeAt words.old) }
+        × (drop shape_made_at words.new ≡ drop shape_made_at words.old) }
 {
     words[STARTS_MADE_AT] = 0;
 }
@@ -50,9 +50,9 @@ pub fn add_fixed_row(
     f: Filled,
     bounds: pywr::Interval,
 ) -> RowsAdded
-    requires { WorkRoom words.old numbers.old × (n ≤ columnCeiling) × (f.rows ≤ rowCeiling) × (f.elements ≤ elementCeiling) × Rising columns.now n }
+    requires { WorkRoom words.old numbers.old × (n ≤ column_ceiling) × (f.rows ≤ row_ceiling) × (f.elements ≤ element_ceiling) × Rising columns.now n }
     ensures { (rows : List Row) → RowsHeld rows words.old numbers.old f
-        → AfterRows (rows ++ (record { lower = bounds.lower; upper = bounds.upper; elements = gathered columns.now (drop (elementsMadeAt + f.elements) numbers.old) n } ∷ []))
+        → AfterRows (rows ++ (record { lower = bounds.lower; upper = bounds.upper; elements = gathered columns.now (drop (elements_made_at + f.elements) numbers.old) n } ∷ []))
         words.old result words.new numbers.new }
 {
     // a slice's length is known to the proof

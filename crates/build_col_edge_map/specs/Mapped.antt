@@ -11,7 +11,7 @@ code (some n) = suc n
 -- the table and the count hold the columns c
 pub record Mapped (c : Columns) (table : List ℕ) (count : ℕ) : Type 0 where
   pub table_is : take (length c.of) table ≡ map code c.of
-  pub count-is : count ≡ c.count
+  pub count_is : count ≡ c.count
 
 -- the one number of a list
 abbrev pub only : List ℕ → Option ℕ
@@ -19,6 +19,6 @@ only [] = none
 only (j ∷ []) = some j
 only (j ∷ k ∷ js) = none
 
--- `sharesWith` of an edge that leaves a node of this kind, with these edges in and out
-abbrev pub sharesAcross : ℕ → List ℕ → List ℕ → Option ℕ
-sharesAcross kind into out = cond (eqb kind link) (single into out) none
+-- `shares_with` of an edge that leaves a node of this kind, with these edges in and out
+abbrev pub shares_across : ℕ → List ℕ → List ℕ → Option ℕ
+shares_across kind into out = cond (eqb kind link) (single into out) none

@@ -1,15 +1,15 @@
 // The columns of the edges: edges that a link with one edge in and one out joins share a column.
 ghost use Rattle.std.specs.Prelude.{◌≡◌, ℕ, suc, ◌+◌, ◌<◌, ◌≤◌, List, length, get_or};
-ghost use Rattle.layout.specs.Layout.{nodeCeiling, edgeCeiling};
+ghost use Rattle.layout.specs.Layout.{node_ceiling, edge_ceiling};
 ghost use Rattle.pywr.specs.Bytes.{byte, le16};
 ghost use Rattle.pywr.specs.Network.{source, target};
-ghost use Rattle.pywr.specs.ColEdgeMap.{Columns, columns, columnAt, addSimpleEdge, united, uniteUnder, unite, addEqualEdges};
-ghost use Rattle.network_laws.specs.NetworkAt.{networkAt};
+ghost use Rattle.pywr.specs.ColEdgeMap.{Columns, columns, column_at, add_simple_edge, united, unite_under, unite, add_equal_edges};
+ghost use Rattle.network_laws.specs.NetworkAt.{network_at};
 ghost use Rattle.laws.specs.Linked.{Linked};
-ghost use Rattle.network_node.specs.Node.{nodeLength, kindOffset, nodePlace};
-ghost use Rattle.network_edge.specs.Edge.{fromOffset, edgePlace};
+ghost use Rattle.network_node.specs.Node.{node_length, kind_offset, node_place};
+ghost use Rattle.network_edge.specs.Edge.{from_offset, edge_place};
 ghost use Rattle.build_incident_edges.specs.IncidentEdges.{EdgesListed};
-ghost use Rattle.build_col_edge_map.specs.Mapped.{code, Mapped, only, sharesAcross};
+ghost use Rattle.build_col_edge_map.specs.Mapped.{code, Mapped, only, shares_across};
 
 use layout::{EDGE_CEILING, NODE_CEILING};
 use pywr::{EdgeIndex, NodeIndex};
@@ -20,9 +20,9 @@ pub fn add_simple_edge(
     count: usize,
     edge: EdgeIndex,
 ) -> usize
-    requires { (edge.0 < edgeCeiling) × (count < edgeCeiling) }
+    requires { (edge.0 < edge_ceiling) × (count < edge_ceiling) }
     ensures { (result ≤ count + 1) × ((c : Columns) → Mapped c edge_to_col.old count → edge.0 < length c.of
-        → Mapped (addSimpleEdge (columnAt c edge.0) edge.0 c) edge_to_col.new result) }
+        → Mapped (add_simple_edge (column_at c edge.0) edge.0 c) edge_to_col.new result) }
 {
     let e = widths::wide16(edge.0);
     if edge_to_col[e] == 0 {
@@ -53,9 +53,9 @@ fn unite_under(
     low: u16,
     high: u16,
 ) -> usize
-    requires { (edges ≤ edgeCeiling) × (1 ≤ count) }
+    requires { (edges ≤ edge_ceiling) × (1 ≤ count) }
     ensures { (result ≤ count) × ((c : Columns) (a b : ℕ) → Mapped c edge_to_col.old count → length c.of ≡ edges → low ≡ suc a → high ≡ suc b
-        → Mapped (uniteUnder a b c) edge_to_col.new result) }
+        → Mapped (unite_under a b c) edge_to_col.new result) }
 {
     let mut e: usize = 0;
     while e < edges {
@@ -73,7 +73,7 @@ fn unite(
     column: u16,
     other: u16,
 ) -> usize
-    requires { (edges ≤ edgeCeiling) × (1 ≤ count) }
+    requires { (edges ≤ edge_ceiling) × (1 ≤ count) }
     ensures { (result ≤ count) × ((c : Columns) (a b : ℕ) → Mapped c edge_to_col.old count → length c.of ≡ edges → column ≡ suc a → other ≡ suc b
         → Mapped (unite a b c) edge_to_col.new result) }
 {
@@ -94,9 +94,9 @@ pub fn add_equal_edges(
     edge: EdgeIndex,
     before: EdgeIndex,
 ) -> usize
-    requires { (edge.0 < edges) × (before.0 < edges) × (edges ≤ edgeCeiling) × (count < edgeCeiling) × (get_or edge_to_col.old edge.0 0 ≤ count) }
+    requires { (edge.0 < edges) × (before.0 < edges) × (edges ≤ edge_ceiling) × (count < edge_ceiling) × (get_or edge_to_col.old edge.0 0 ≤ count) }
     ensures { (result ≤ count + 1) × ((c : Columns) → Mapped c edge_to_col.old count → length c.of ≡ edges
-        → Mapped (addEqualEdges (columnAt c edge.0) (columnAt c before.0) edge.0 before.0 c) edge_to_col.new result) }
+        → Mapped (add_equal_edges (column_at c edge.0) (column_at c before.0) edge.0 before.0 c) edge_to_col.new result) }
 {
     let e = widths::wide16(edge.0);
     let b = widths::wide16(before.0);
@@ -121,7 +121,7 @@ pub fn add_equal_edges(
 
 // The one edge of a node's list plus 1, or 0 where it has no edge or several.
 fn only_edge(first: &[u16; NODE_CEILING], next: &[u16; EDGE_CEILING], node: NodeIndex) -> u16
-    requires { (node.0 < nodeCeiling) × (get_or first.now node.0 0 ≤ edgeCeiling) }
+    requires { (node.0 < node_ceiling) × (get_or first.now node.0 0 ≤ edge_ceiling) }
     ensures { (size : ℕ) (js : List ℕ) → Linked size next.now (get_or first.now node.0 0) js → result ≡ code (only js) }
 {
     let k = widths::wide16(node.0);
@@ -145,11 +145,11 @@ pub fn shares_with(
     next_out: &[u16; EDGE_CEILING],
     from: NodeIndex,
 ) -> u16
-    requires { (from.0 < nodeCeiling) × (nodePlace from.0 + nodeLength ≤ length s.now) × (get_or first_in.now from.0 0 ≤ edgeCeiling)
-        × (get_or first_out.now from.0 0 ≤ edgeCeiling) }
+    requires { (from.0 < node_ceiling) × (node_place from.0 + node_length ≤ length s.now) × (get_or first_in.now from.0 0 ≤ edge_ceiling)
+        × (get_or first_out.now from.0 0 ≤ edge_ceiling) }
     ensures { (size : ℕ) (into out : List ℕ) → Linked size next_in.now (get_or first_in.now from.0 0) into
         → Linked size next_out.now (get_or first_out.now from.0 0) out
-        → result ≡ code (sharesAcross (byte s.now (nodePlace from.0 + kindOffset)) into out) }
+        → result ≡ code (shares_across (byte s.now (node_place from.0 + kind_offset)) into out) }
 {
     if network_node::kind(s, from) != 2 {
         return 0;
@@ -171,10 +171,10 @@ pub fn map_edges(
     next_out: &[u16; EDGE_CEILING],
     edge_to_col: &mut [u16; EDGE_CEILING],
 ) -> usize
-    requires { (nodes ≤ nodeCeiling) × (edges ≤ edgeCeiling) × (edgePlace nodes edges ≤ length s.now)
-        × ((e : ℕ) → e < edges → le16 s.now (edgePlace nodes e + fromOffset) < nodes)
+    requires { (nodes ≤ node_ceiling) × (edges ≤ edge_ceiling) × (edge_place nodes edges ≤ length s.now)
+        × ((e : ℕ) → e < edges → le16 s.now (edge_place nodes e + from_offset) < nodes)
         × EdgesListed target s.now nodes edges first_in.now next_in.now × EdgesListed source s.now nodes edges first_out.now next_out.now }
-    ensures { (a v : ℕ) → Mapped (columns (networkAt s.now nodes edges a v)) edge_to_col.new result }
+    ensures { (a v : ℕ) → Mapped (columns (network_at s.now nodes edges a v)) edge_to_col.new result }
 {
     *edge_to_col = [0; EDGE_CEILING];
     let mut count: usize = 0;

@@ -1,15 +1,15 @@
 // The rows of the constant nodes (SolverBuilder::create_node_constraints of builder.rs).
 ghost use Rattle.std.specs.Prelude.{◌≡◌, ◌<◌, List, [], ◌∷◌, ◌++◌};
-ghost use Rattle.pywr.specs.ExclusiveSets.{setsWithNode};
-ghost use Rattle.pywr.specs.Rows.{columnMap, nodeRow};
-ghost use Rattle.pywr.specs.FixedRows.{exclusiveRows, constantRowsFrom};
+ghost use Rattle.pywr.specs.ExclusiveSets.{sets_with_node};
+ghost use Rattle.pywr.specs.Rows.{column_map, node_row};
+ghost use Rattle.pywr.specs.FixedRows.{exclusive_rows, constant_rows_from};
 ghost use Rattle.pywr.specs.Programme.{Row, Maker};
-ghost use Rattle.pywr.specs.Makers.{constantMakers};
-ghost use Rattle.network_node.specs.Node.{nodeAt, nodePlace};
+ghost use Rattle.pywr.specs.Makers.{constant_makers};
+ghost use Rattle.network_node.specs.Node.{node_at, node_place};
 ghost use Rattle.build_append.specs.LpBuilder.{RowsHeld, Holding, AfterRows};
 ghost use Rattle.build_makers.specs.MadeRows.{MadeHeld, MadeHolding, AfterMade};
-ghost use Rattle.build_node_row.specs.Tables.{networkOf, EdgeTables, MembershipTables};
-ghost use Rattle.build_node_row.specs.EdgeColumns.{edgeColumns};
+ghost use Rattle.build_node_row.specs.Tables.{network_of, EdgeTables, MembershipTables};
+ghost use Rattle.build_node_row.specs.EdgeColumns.{edge_columns_of};
 ghost use Rattle.layout.specs.WorkRoom.{WorkRoom};
 
 use build_append::{Filled, RowsAdded};
@@ -39,9 +39,9 @@ fn add_node_row(
         × WorkRoom words.old numbers.old × Holding words.old numbers.old f }
     ensures { (rows : List Row) → RowsHeld rows words.old numbers.old f
         → AfterRows (rows ++ (record {
-          lower = (nodeAt s.now (nodePlace node.0)).min;
-          upper = (nodeAt s.now (nodePlace node.0)).max;
-          elements = nodeRow (columnMap (networkOf s.now c)) node.0;
+          lower = (node_at s.now (node_place node.0)).min;
+          upper = (node_at s.now (node_place node.0)).max;
+          elements = node_row (column_map (network_of s.now c)) node.0;
         } ∷ []))
         words.old result words.new numbers.new }
 {
@@ -93,11 +93,11 @@ fn add_exclusive_rows(
     f: Filled,
 ) -> RowsAdded
     requires { EdgeTables s.now c first_in.now next_in.now first_out.now next_out.now edge_to_col.now × (node.0 < c.nodes)
-        × (edge_columns ≡ edgeColumns s.now c) × MembershipTables s.now c first_membership.now next_membership.now
+        × (edge_columns ≡ edge_columns_of s.now c) × MembershipTables s.now c first_membership.now next_membership.now
         × WorkRoom words.old numbers.old × Holding words.old numbers.old f }
     ensures { (rows : List Row) → RowsHeld rows words.old numbers.old f
-        → AfterRows (rows ++ exclusiveRows sentinel (columnMap (networkOf s.now c)) node.0 (nodeAt s.now (nodePlace node.0))
-        (setsWithNode node.0 0 (columnMap (networkOf s.now c)).sets))
+        → AfterRows (rows ++ exclusive_rows sentinel (column_map (network_of s.now c)) node.0 (node_at s.now (node_place node.0))
+        (sets_with_node node.0 0 (column_map (network_of s.now c)).sets))
         words.old result words.new numbers.new }
 {
     let k = widths::wide16(node.0);
@@ -155,10 +155,10 @@ fn add_constant_rows(
     f: Filled,
 ) -> RowsAdded
     requires { EdgeTables s.now c first_in.now next_in.now first_out.now next_out.now edge_to_col.now × (node.0 < c.nodes)
-        × (edge_columns ≡ edgeColumns s.now c) × MembershipTables s.now c first_membership.now next_membership.now
+        × (edge_columns ≡ edge_columns_of s.now c) × MembershipTables s.now c first_membership.now next_membership.now
         × WorkRoom words.old numbers.old × Holding words.old numbers.old f }
     ensures { (rows : List Row) → RowsHeld rows words.old numbers.old f
-        → AfterRows (rows ++ constantRowsFrom sentinel (columnMap (networkOf s.now c)) node.0 (nodeAt s.now (nodePlace node.0) ∷ []))
+        → AfterRows (rows ++ constant_rows_from sentinel (column_map (network_of s.now c)) node.0 (node_at s.now (node_place node.0) ∷ []))
         words.old result words.new numbers.new }
 {
     if !network_node::is_constant(s, node) {
@@ -220,11 +220,11 @@ pub fn create_constant_constraints(
     f: Filled,
 ) -> RowsAdded
     requires { EdgeTables s.now c first_in.now next_in.now first_out.now next_out.now edge_to_col.now
-        × (edge_columns ≡ edgeColumns s.now c) × MembershipTables s.now c first_membership.now next_membership.now
+        × (edge_columns ≡ edge_columns_of s.now c) × MembershipTables s.now c first_membership.now next_membership.now
         × WorkRoom words.old numbers.old × MadeHolding words.old numbers.old f }
     ensures { (rows : List Row) (makers : List Maker) → MadeHeld rows makers words.old numbers.old f
-        → AfterMade (rows ++ constantRowsFrom sentinel (columnMap (networkOf s.now c)) 0 (networkOf s.now c).nodes)
-        (makers ++ constantMakers sentinel (columnMap (networkOf s.now c)) 0 (networkOf s.now c).nodes)
+        → AfterMade (rows ++ constant_rows_from sentinel (column_map (network_of s.now c)) 0 (network_of s.now c).nodes)
+        (makers ++ constant_makers sentinel (column_map (network_of s.now c)) 0 (network_of s.now c).nodes)
         words.old result words.new numbers.new }
 {
     let nodes = c.nodes;

@@ -1,11 +1,11 @@
 // The rows that a node asks for where exclusive sets list it: an upper and a lower one for each membership.
 ghost use Rattle.std.specs.Prelude.{◌≡◌, List, [], ◌∷◌, ◌++◌, ◌+◌, ◌<◌, ◌≤◌, length};
-ghost use Rattle.layout.specs.Layout.{setCeiling, nodeRowCeiling, wordsLength, numbersLength};
-ghost use Rattle.pywr.specs.Rows.{columnMap};
-ghost use Rattle.pywr.specs.VaryingRows.{RowRequest, exclusiveRequests};
-ghost use Rattle.build_node_row.specs.Tables.{networkOf, EdgeTables, MembershipTables};
-ghost use Rattle.build_node_row.specs.EdgeColumns.{edgeColumns};
-ghost use Rattle.build_node_table.specs.NodeTable.{NodeRowsHeld, NodeRowsHolding, AfterRequests, requestsBefore, listedRequests};
+ghost use Rattle.layout.specs.Layout.{set_ceiling, node_row_ceiling, words_length, numbers_length};
+ghost use Rattle.pywr.specs.Rows.{column_map};
+ghost use Rattle.pywr.specs.VaryingRows.{RowRequest, exclusive_requests};
+ghost use Rattle.build_node_row.specs.Tables.{network_of, EdgeTables, MembershipTables};
+ghost use Rattle.build_node_row.specs.EdgeColumns.{edge_columns_of};
+ghost use Rattle.build_node_table.specs.NodeTable.{NodeRowsHeld, NodeRowsHolding, AfterRequests, requests_before, listed_requests};
 ghost use Rattle.layout.specs.WorkRoom.{WorkRoom};
 
 use build_node_table::{NodeRows, NodeRowsAdded};
@@ -40,10 +40,10 @@ fn request_bounded_rows(
     rows: NodeRows,
 ) -> NodeRowsAdded
     requires { EdgeTables s.now c first_in.now next_in.now first_out.now next_out.now edge_to_col.now × (node.0 < c.nodes)
-        × (edge_columns ≡ edgeColumns s.now c) × (set < setCeiling)
-        × WorkRoom words.old numbers.old × NodeRowsHolding sentinel words.old numbers.old rows × (rows.count + 2 ≤ nodeRowCeiling) }
+        × (edge_columns ≡ edge_columns_of s.now c) × (set < set_ceiling)
+        × WorkRoom words.old numbers.old × NodeRowsHolding sentinel words.old numbers.old rows × (rows.count + 2 ≤ node_row_ceiling) }
     ensures { (asks : List RowRequest) → NodeRowsHeld sentinel asks words.old numbers.old rows
-        → AfterRequests sentinel (asks ++ exclusiveRequests (columnMap (networkOf s.now c)) node.0 (set ∷ [])) result words.new numbers.new }
+        → AfterRequests sentinel (asks ++ exclusive_requests (column_map (network_of s.now c)) node.0 (set ∷ [])) result words.new numbers.new }
 {
     let column = ColumnIndex(widths::narrow16(edge_columns + widths::wide16(set)));
     let r = build_node_request::request_bounded_row(
@@ -111,11 +111,11 @@ pub fn request_exclusive_rows(
     rows: NodeRows,
 ) -> NodeRowsAdded
     requires { EdgeTables s.now c first_in.now next_in.now first_out.now next_out.now edge_to_col.now × (node.0 < c.nodes)
-        × (edge_columns ≡ edgeColumns s.now c) × MembershipTables s.now c first_membership.now next_membership.now
+        × (edge_columns ≡ edge_columns_of s.now c) × MembershipTables s.now c first_membership.now next_membership.now
         × WorkRoom words.old numbers.old
-        × NodeRowsHeld sentinel (requestsBefore (columnMap (networkOf s.now c)) node.0) words.old numbers.old rows
-        × (length (requestsBefore (columnMap (networkOf s.now c)) node.0 ++ listedRequests (columnMap (networkOf s.now c)) node.0) ≤ nodeRowCeiling) }
-    ensures { AfterRequests sentinel (requestsBefore (columnMap (networkOf s.now c)) node.0 ++ listedRequests (columnMap (networkOf s.now c)) node.0)
+        × NodeRowsHeld sentinel (requests_before (column_map (network_of s.now c)) node.0) words.old numbers.old rows
+        × (length (requests_before (column_map (network_of s.now c)) node.0 ++ listed_requests (column_map (network_of s.now c)) node.0) ≤ node_row_ceiling) }
+    ensures { AfterRequests sentinel (requests_before (column_map (network_of s.now c)) node.0 ++ listed_requests (column_map (network_of s.now c)) node.0)
         result words.new numbers.new }
 {
     let k = widths::wide16(node.0);

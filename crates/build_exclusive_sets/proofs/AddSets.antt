@@ -11,61 +11,61 @@ use lib.ListN.{length, get_or, take, set, length-append, length-set}
 use lib.Seq.{take-suc-set, get_or-set_same, get_or-set_other}
 use Rattle.laws.proofs.Runs.{map_snoc}
 use Rattle.pywr.specs.Bytes.{byte}
-use Rattle.pywr.specs.ExclusiveSets.{sameSet, hasSet, addSets, setNumber}
-use Rattle.fields.specs.Records.{recordsAt, recordsEnd}
-use Rattle.network_aggregate.specs.AggregatedNode.{setAt, setEnd}
+use Rattle.pywr.specs.ExclusiveSets.{same_set, has_set, add_sets, set_number}
+use Rattle.fields.specs.Records.{records_at, records_end}
+use Rattle.network_aggregate.specs.AggregatedNode.{aggregate_set_at, set_end}
 use Rattle.network_laws.specs.Passed.{SetPassed}
-use Rattle.fields.proofs.RecordLaws.{end_more, records-left, records-over}
-use Rattle.build_exclusive_sets.specs.Sets.{SetsFit, setsAt, Collected}
+use Rattle.fields.proofs.RecordLaws.{end_more, records_left, records_over}
+use Rattle.build_exclusive_sets.specs.Sets.{SetsFit, sets_at, Collected}
 use Rattle.build_exclusive_sets.specs.declared.Sets.{Sets}
-use Rattle.build_exclusive_sets.proofs.SetNumber.{sets-length}
+use Rattle.build_exclusive_sets.proofs.SetNumber.{sets_length}
 
 -- ---- one set more
 
-number-known : (s : List ℕ) (known : List (List ℕ)) → setNumber s known < length known → hasSet s known ≡ true
-unfolding setNumber hasSet
-number-known s [] h = absurd (omega arith)
-number-known s (t ∷ ts) h = go (sameSet t s) (λ l. number-known s ts l) h
+number_known : (s : List ℕ) (known : List (List ℕ)) → set_number s known < length known → has_set s known ≡ true
+unfolding set_number has_set
+number_known s [] h = absurd (omega arith)
+number_known s (t ∷ ts) h = go (same_set t s) (λ l. number_known s ts l) h
   where
-    go : (b : Bool) → (setNumber s ts < length ts → hasSet s ts ≡ true) → cond b 0 (suc (setNumber s ts)) < suc (length ts) → (b || hasSet s ts) ≡ true
+    go : (b : Bool) → (set_number s ts < length ts → has_set s ts ≡ true) → cond b 0 (suc (set_number s ts)) < suc (length ts) → (b || has_set s ts) ≡ true
     go true ih l = refl
     go false ih l = ih (omega arith)
 
-number-new : (s : List ℕ) (known : List (List ℕ)) → length known ≤ setNumber s known → hasSet s known ≡ false
-unfolding setNumber hasSet
-number-new s [] h = refl
-number-new s (t ∷ ts) h = go (sameSet t s) (λ l. number-new s ts l) h
+number_new : (s : List ℕ) (known : List (List ℕ)) → length known ≤ set_number s known → has_set s known ≡ false
+unfolding set_number has_set
+number_new s [] h = refl
+number_new s (t ∷ ts) h = go (same_set t s) (λ l. number_new s ts l) h
   where
-    go : (b : Bool) → (length ts ≤ setNumber s ts → hasSet s ts ≡ false) → suc (length ts) ≤ cond b 0 (suc (setNumber s ts)) → (b || hasSet s ts) ≡ false
+    go : (b : Bool) → (length ts ≤ set_number s ts → has_set s ts ≡ false) → suc (length ts) ≤ cond b 0 (suc (set_number s ts)) → (b || has_set s ts) ≡ false
     go true ih l = absurd (omega arith)
     go false ih l = ih (omega arith)
 
 module _ (s : List ℕ) (ss known : List (List ℕ)) where
-  add-known : setNumber s known < length known → addSets known (s ∷ ss) ≡ addSets known ss
-  unfolding addSets
-  add-known h = rw (number-known s known h)
+  add_known : set_number s known < length known → add_sets known (s ∷ ss) ≡ add_sets known ss
+  unfolding add_sets
+  add_known h = rw (number_known s known h)
 
-  add-new : length known ≤ setNumber s known → addSets known (s ∷ ss) ≡ addSets (known ++ (s ∷ [])) ss
-  unfolding addSets
-  add-new h = rw (number-new s known h)
+  add_new : length known ≤ set_number s known → add_sets known (s ∷ ss) ≡ add_sets (known ++ (s ∷ [])) ss
+  unfolding add_sets
+  add_new h = rw (number_new s known h)
 
-pub adds-longer : (ss known : List (List ℕ)) → length known ≤ length (addSets known ss)
-unfolding addSets
-adds-longer [] known = omega arith
-adds-longer (s ∷ ss) known = go (hasSet s known) (λ k. adds-longer ss k)
+pub adds_longer : (ss known : List (List ℕ)) → length known ≤ length (add_sets known ss)
+unfolding add_sets
+adds_longer [] known = omega arith
+adds_longer (s ∷ ss) known = go (has_set s known) (λ k. adds_longer ss k)
   where
-    go : (b : Bool) → ((k : List (List ℕ)) → length k ≤ length (addSets k ss)) → length known ≤ length (addSets (cond b known (known ++ (s ∷ []))) ss)
+    go : (b : Bool) → ((k : List (List ℕ)) → length k ≤ length (add_sets k ss)) → length known ≤ length (add_sets (cond b known (known ++ (s ∷ []))) ss)
     go true ih = ih known
     go false ih = let a = length-append known (s ∷ []) in let b = ih (known ++ (s ∷ [])) in omega arith
 
 -- ---- one offset more
 
 module _ (file places : List ℕ) (count at : ℕ) where
-  sets-snoc : count < length places → setsAt file (set places count at) (count + 1) ≡ setsAt file places count ++ (setAt file at ∷ [])
-  sets-snoc h = rw (add-one count, take-suc-set places count at h, map_snoc (setAt file) (take count places) at)
+  sets_snoc : count < length places → sets_at file (set places count at) (count + 1) ≡ sets_at file places count ++ (aggregate_set_at file at ∷ [])
+  sets_snoc h = rw (add-one count, take-suc-set places count at h, map_snoc (aggregate_set_at file) (take count places) at)
 
-  fit-more : SetsFit file places count → count < 128 → SetPassed file 256 at → SetsFit file (set places count at) (count + 1)
-  fit-more h l f = record {
+  fit_more : SetsFit file places count → count < 128 → SetPassed file 256 at → SetsFit file (set places count at) (count + 1)
+  fit_more h l f = record {
     long = length-set places count at ∙ h.long;
     few = omega arith;
     fit = λ k m. ⊎_elim
@@ -80,71 +80,71 @@ module _ (file places : List ℕ) (count at : ℕ) where
 pub record Adding (file : List ℕ) (at : ℕ) (places₀ : List ℕ) (known sets : ℕ) (places : List ℕ) (count here i : ℕ) : Type 0 where
   pub within : i ≤ sets
   pub size : sets ≡ byte file (at + 3)
-  pub stands : here ≡ recordsEnd (setEnd file) i (at + 12)
+  pub stands : here ≡ records_end (set_end file) i (at + 12)
   pub fit : SetsFit file places count
-  pub from : addSets (setsAt file places₀ known) (recordsAt (setAt file) (setEnd file) (byte file (at + 3)) (at + 12))
-      ≡ addSets (setsAt file places count) (recordsAt (setAt file) (setEnd file) (sets - i) here)
+  pub from : add_sets (sets_at file places₀ known) (records_at (aggregate_set_at file) (set_end file) (byte file (at + 3)) (at + 12))
+      ≡ add_sets (sets_at file places count) (records_at (aggregate_set_at file) (set_end file) (sets - i) here)
 
 module _ (file : List ℕ) (at : ℕ) (places₀ : List ℕ) (known sets : ℕ) where
   abbrev all : List (List ℕ)
-  all = addSets (setsAt file places₀ known) (recordsAt (setAt file) (setEnd file) (byte file (at + 3)) (at + 12))
+  all = add_sets (sets_at file places₀ known) (records_at (aggregate_set_at file) (set_end file) (byte file (at + 3)) (at + 12))
 
-  pub adding-first : sets ≡ byte file (at + 3) → SetsFit file places₀ known → Adding file at places₀ known sets places₀ known (at + 12) 0
-  unfolding recordsEnd
-  adding-first e h = record {
+  pub adding_first : sets ≡ byte file (at + 3) → SetsFit file places₀ known → Adding file at places₀ known sets places₀ known (at + 12) 0
+  unfolding records_end
+  adding_first e h = record {
     within = omega arith;
     size = e;
     stands = refl;
     fit = h;
-    from = let q : byte file (at + 3) ≡ sets - 0 = omega arith in ap (λ (n : ℕ). addSets (setsAt file places₀ known) (recordsAt (setAt file) (setEnd file) n (at + 12))) q;
+    from = let q : byte file (at + 3) ≡ sets - 0 = omega arith in ap (λ (n : ℕ). add_sets (sets_at file places₀ known) (records_at (aggregate_set_at file) (set_end file) n (at + 12))) q;
   }
 
   module _ (places : List ℕ) (count here i : ℕ) (h : Adding file at places₀ known sets places count here i) where
     abbrev rest : List (List ℕ)
-    rest = recordsAt (setAt file) (setEnd file) (sets - (i + 1)) (setEnd file here)
+    rest = records_at (aggregate_set_at file) (set_end file) (sets - (i + 1)) (set_end file here)
 
-    counted : length (setsAt file places count) ≡ count
-    counted = sets-length file places count (omega (arith, h.fit.long, h.fit.few))
+    counted : length (sets_at file places count) ≡ count
+    counted = sets_length file places count (omega (arith, h.fit.long, h.fit.few))
 
-    next-stands : setEnd file here ≡ recordsEnd (setEnd file) (i + 1) (at + 12)
-    next-stands = ap (setEnd file) h.stands ∙ sym (end_more (setEnd file) i (at + 12))
+    next_stands : set_end file here ≡ records_end (set_end file) (i + 1) (at + 12)
+    next_stands = ap (set_end file) h.stands ∙ sym (end_more (set_end file) i (at + 12))
 
     module _ (lt : i < sets) where
-      pub adding-known : setNumber (setAt file here) (setsAt file places count) < count → Adding file at places₀ known sets places count (setEnd file here) (i + 1)
-      adding-known l = record {
+      pub adding_known : set_number (aggregate_set_at file here) (sets_at file places count) < count → Adding file at places₀ known sets places count (set_end file here) (i + 1)
+      adding_known l = record {
         within = omega arith;
         size = h.size;
-        stands = next-stands;
+        stands = next_stands;
         fit = h.fit;
-        from = h.from ∙ rw (records-left (setEnd file) sets i here lt (setAt file)) (add-known (setAt file here) rest (setsAt file places count) (omega (arith, counted)));
+        from = h.from ∙ rw (records_left (set_end file) sets i here lt (aggregate_set_at file)) (add_known (aggregate_set_at file here) rest (sets_at file places count) (omega (arith, counted)));
       }
 
-      added : count ≤ setNumber (setAt file here) (setsAt file places count) → all ≡ addSets (setsAt file places count ++ (setAt file here ∷ [])) rest
-      added l = h.from ∙ rw (records-left (setEnd file) sets i here lt (setAt file)) (add-new (setAt file here) rest (setsAt file places count) (omega (arith, counted)))
+      added : count ≤ set_number (aggregate_set_at file here) (sets_at file places count) → all ≡ add_sets (sets_at file places count ++ (aggregate_set_at file here ∷ [])) rest
+      added l = h.from ∙ rw (records_left (set_end file) sets i here lt (aggregate_set_at file)) (add_new (aggregate_set_at file here) rest (sets_at file places count) (omega (arith, counted)))
 
-      pub adding-new : count ≤ setNumber (setAt file here) (setsAt file places count) → (count ≡ 128 → ⊥) → SetPassed file 256 here
-          → Adding file at places₀ known sets (set places count here) (count + 1) (setEnd file here) (i + 1)
-      adding-new l ne f =
+      pub adding_new : count ≤ set_number (aggregate_set_at file here) (sets_at file places count) → (count ≡ 128 → ⊥) → SetPassed file 256 here
+          → Adding file at places₀ known sets (set places count here) (count + 1) (set_end file here) (i + 1)
+      adding_new l ne f =
           let few : count < 128 = omega (arith, h.fit.few) in
           record {
             within = omega arith;
             size = h.size;
-            stands = next-stands;
-            fit = fit-more file places count here h.fit few f;
-            from = added l ∙ rw (← (sets-snoc file places count here (omega (arith, h.fit.long))));
+            stands = next_stands;
+            fit = fit_more file places count here h.fit few f;
+            from = added l ∙ rw (← (sets_snoc file places count here (omega (arith, h.fit.long))));
           }
 
-      pub adding-over : count ≤ setNumber (setAt file here) (setsAt file places count) → count ≡ 128 → (places' : List ℕ) → Collected file all Sets.TooMany places'
-      adding-over l e places' = record {
+      pub adding_over : count ≤ set_number (aggregate_set_at file here) (sets_at file places count) → count ≡ 128 → (places' : List ℕ) → Collected file all Sets.TooMany places'
+      adding_over l e places' = record {
         held = λ k q. absurd (let z : ◌≡◌ {A = ℕ} 0 1 = cc in omega arith);
-        over = λ q. rw (added l) (let a = adds-longer rest (setsAt file places count ++ (setAt file here ∷ [])) in let b = length-append
-            (setsAt file places count) (setAt file here ∷ []) in omega (arith, counted));
+        over = λ q. rw (added l) (let a = adds_longer rest (sets_at file places count ++ (aggregate_set_at file here ∷ [])) in let b = length-append
+            (sets_at file places count) (aggregate_set_at file here ∷ []) in omega (arith, counted));
       }
 
-    pub adding-done : sets ≤ i → Collected file all (Sets.Count count) places
-    unfolding addSets
-    adding-done l =
-        let e : all ≡ setsAt file places count = h.from ∙ rw (records-over (setEnd file) sets i here l (setAt file)) in
+    pub adding_done : sets ≤ i → Collected file all (Sets.Count count) places
+    unfolding add_sets
+    adding_done l =
+        let e : all ≡ sets_at file places count = h.from ∙ rw (records_over (set_end file) sets i here l (aggregate_set_at file)) in
         record {
           held = λ k q. let w : count ≡ k = cc in rw (← w) (sym e, h.fit);
           over = λ q. absurd (let z : ◌≡◌ {A = ℕ} 0 1 = cc in omega arith);

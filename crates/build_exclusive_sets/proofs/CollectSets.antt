@@ -7,39 +7,39 @@ use native.Mathlib.Omega.{arith}
 use native.Mathlib.Nat.{sub-zero}
 use lib.ListN.{length}
 use Rattle.pywr.specs.Network.{Aggregate}
-use Rattle.pywr.specs.ExclusiveSets.{addSets, setsFrom, exclusiveSets}
-use Rattle.fields.specs.Records.{recordsAt, recordsEnd}
-use Rattle.fields.proofs.RecordLaws.{end_more, records-left, records-over}
-use Rattle.network_aggregate.specs.AggregatedNode.{aggregateAt, aggregateEnd}
-use Rattle.network_laws.specs.NetworkAt.{networkAt}
-use Rattle.build_exclusive_sets.specs.Sets.{SetsFit, setsAt, Collected}
+use Rattle.pywr.specs.ExclusiveSets.{add_sets, sets_from, exclusive_sets}
+use Rattle.fields.specs.Records.{records_at, records_end}
+use Rattle.fields.proofs.RecordLaws.{end_more, records_left, records_over}
+use Rattle.network_aggregate.specs.AggregatedNode.{aggregate_at, aggregate_end}
+use Rattle.network_laws.specs.NetworkAt.{network_at}
+use Rattle.build_exclusive_sets.specs.Sets.{SetsFit, sets_at, Collected}
 use Rattle.build_exclusive_sets.specs.declared.Sets.{Sets}
-use Rattle.build_exclusive_sets.proofs.AddSets.{adds-longer}
+use Rattle.build_exclusive_sets.proofs.AddSets.{adds_longer}
 
-froms-longer : (ags : List Aggregate) (known : List (List ℕ)) → length known ≤ length (setsFrom known ags)
-unfolding setsFrom
-froms-longer [] known = omega arith
-froms-longer (a ∷ ags) known = go a.exclusive (λ k. froms-longer ags k)
+froms_longer : (ags : List Aggregate) (known : List (List ℕ)) → length known ≤ length (sets_from known ags)
+unfolding sets_from
+froms_longer [] known = omega arith
+froms_longer (a ∷ ags) known = go a.exclusive (λ k. froms_longer ags k)
   where
-    go : (b : Bool) → ((k : List (List ℕ)) → length k ≤ length (setsFrom k ags)) → length known ≤ length (setsFrom (cond b (addSets known a.sets) known) ags)
-    go true ih = let l = ih (addSets known a.sets) in let m = adds-longer a.sets known in omega arith
+    go : (b : Bool) → ((k : List (List ℕ)) → length k ≤ length (sets_from k ags)) → length known ≤ length (sets_from (cond b (add_sets known a.sets) known) ags)
+    go true ih = let l = ih (add_sets known a.sets) in let m = adds_longer a.sets known in omega arith
     go false ih = ih known
 
 -- the first i of `count` aggregates, which stand from `start`, were gone over
 pub record Collecting (file : List ℕ) (start count : ℕ) (places : List ℕ) (known at i : ℕ) : Type 0 where
   pub within : i ≤ count
-  pub stands : at ≡ recordsEnd (aggregateEnd file) i start
+  pub stands : at ≡ records_end (aggregate_end file) i start
   pub fit : SetsFit file places known
-  pub from : setsFrom [] (recordsAt (aggregateAt file) (aggregateEnd file) count start)
-      ≡ setsFrom (setsAt file places known) (recordsAt (aggregateAt file) (aggregateEnd file) (count - i) at)
+  pub from : sets_from [] (records_at (aggregate_at file) (aggregate_end file) count start)
+      ≡ sets_from (sets_at file places known) (records_at (aggregate_at file) (aggregate_end file) (count - i) at)
 
 module _ (file : List ℕ) (start count : ℕ) where
   abbrev all : List (List ℕ)
-  all = setsFrom [] (recordsAt (aggregateAt file) (aggregateEnd file) count start)
+  all = sets_from [] (records_at (aggregate_at file) (aggregate_end file) count start)
 
-  pub collecting-first : (places : List ℕ) → length places ≡ 128 → Collecting file start count places 0 start 0
-  unfolding recordsEnd
-  collecting-first places l = record {
+  pub collecting_first : (places : List ℕ) → length places ≡ 128 → Collecting file start count places 0 start 0
+  unfolding records_end
+  collecting_first places l = record {
     within = omega arith;
     stands = refl;
     fit = record { long = l; few = omega arith; fit = λ k m. absurd (omega arith) };
@@ -48,56 +48,56 @@ module _ (file : List ℕ) (start count : ℕ) where
 
   module _ (places : List ℕ) (known at i : ℕ) (h : Collecting file start count places known at i) where
     abbrev rest : List Aggregate
-    rest = recordsAt (aggregateAt file) (aggregateEnd file) (count - (i + 1)) (aggregateEnd file at)
+    rest = records_at (aggregate_at file) (aggregate_end file) (count - (i + 1)) (aggregate_end file at)
 
     abbrev added : List (List ℕ)
-    added = addSets (setsAt file places known) (aggregateAt file at).sets
+    added = add_sets (sets_at file places known) (aggregate_at file at).sets
 
-    next-stands : aggregateEnd file at ≡ recordsEnd (aggregateEnd file) (i + 1) start
-    next-stands = ap (aggregateEnd file) h.stands ∙ sym (end_more (aggregateEnd file) i start)
+    next_stands : aggregate_end file at ≡ records_end (aggregate_end file) (i + 1) start
+    next_stands = ap (aggregate_end file) h.stands ∙ sym (end_more (aggregate_end file) i start)
 
     module _ (lt : i < count) where
-      pub collecting-plain : (aggregateAt file at).exclusive ≡ false → Collecting file start count places known (aggregateEnd file at) (i + 1)
-      unfolding setsFrom
-      collecting-plain q = record {
+      pub collecting_plain : (aggregate_at file at).exclusive ≡ false → Collecting file start count places known (aggregate_end file at) (i + 1)
+      unfolding sets_from
+      collecting_plain q = record {
         within = omega arith;
-        stands = next-stands;
+        stands = next_stands;
         fit = h.fit;
-        from = h.from ∙ rw (records-left (aggregateEnd file) count i at lt (aggregateAt file), q);
+        from = h.from ∙ rw (records_left (aggregate_end file) count i at lt (aggregate_at file), q);
       }
 
-      exclusive : (aggregateAt file at).exclusive ≡ true → all ≡ setsFrom added rest
-      unfolding setsFrom
-      exclusive q = h.from ∙ rw (records-left (aggregateEnd file) count i at lt (aggregateAt file), q)
+      exclusive : (aggregate_at file at).exclusive ≡ true → all ≡ sets_from added rest
+      unfolding sets_from
+      exclusive q = h.from ∙ rw (records_left (aggregate_end file) count i at lt (aggregate_at file), q)
 
-      module _ (q : (aggregateAt file at).exclusive ≡ true) (r : Sets) (places' : List ℕ) (c : Collected file added r places') where
-        pub collecting-more : (k : ℕ) → r ≡ Sets.Count k → Collecting file start count places' k (aggregateEnd file at) (i + 1)
-        collecting-more k w =
+      module _ (q : (aggregate_at file at).exclusive ≡ true) (r : Sets) (places' : List ℕ) (c : Collected file added r places') where
+        pub collecting_more : (k : ℕ) → r ≡ Sets.Count k → Collecting file start count places' k (aggregate_end file at) (i + 1)
+        collecting_more k w =
             let g = c.held k w in
             record {
               within = omega arith;
-              stands = next-stands;
+              stands = next_stands;
               fit = g.1;
               from = exclusive q ∙ rw (← g.0);
             }
 
-        pub collecting-over : r ≡ Sets.TooMany → Collected file all Sets.TooMany places'
-        collecting-over w = record {
+        pub collecting_over : r ≡ Sets.TooMany → Collected file all Sets.TooMany places'
+        collecting_over w = record {
           held = λ k z. absurd (let y : ◌≡◌ {A = ℕ} 0 1 = cc in omega arith);
-          over = λ z. rw (exclusive q) (let l = c.over w in let m = froms-longer rest added in omega arith);
+          over = λ z. rw (exclusive q) (let l = c.over w in let m = froms_longer rest added in omega arith);
         }
 
-    pub collecting-done : count ≤ i → Collected file all (Sets.Count known) places
-    unfolding setsFrom
-    collecting-done l =
-        let w : all ≡ setsAt file places known = h.from ∙ rw (records-over (aggregateEnd file) count i at l (aggregateAt file)) in
+    pub collecting_done : count ≤ i → Collected file all (Sets.Count known) places
+    unfolding sets_from
+    collecting_done l =
+        let w : all ≡ sets_at file places known = h.from ∙ rw (records_over (aggregate_end file) count i at l (aggregate_at file)) in
         record {
           held = λ k z. let y : known ≡ k = cc in rw (← y) (sym w, h.fit);
           over = λ z. absurd (let y : ◌≡◌ {A = ℕ} 0 1 = cc in omega arith);
         }
 
 -- the aggregates of the whole file
-pub of-network : (file : List ℕ) (n e a v : ℕ) (r : Sets) (places : List ℕ)
-    → Collected file (setsFrom [] (recordsAt (aggregateAt file) (aggregateEnd file) a (20 * n + 6 * e))) r places → Collected file (exclusiveSets (networkAt file n e a v)) r places
-unfolding exclusiveSets networkAt
-of-network file n e a v r places c = c
+pub of_network_lem : (file : List ℕ) (n e a v : ℕ) (r : Sets) (places : List ℕ)
+    → Collected file (sets_from [] (records_at (aggregate_at file) (aggregate_end file) a (20 * n + 6 * e))) r places → Collected file (exclusive_sets (network_at file n e a v)) r places
+unfolding exclusive_sets network_at
+of_network_lem file n e a v r places c = c

@@ -1,13 +1,13 @@
 // The distinct exclusive sets of a network file, in order of first appearance, and the sets that list each node: the second half of
 // `create_columns`, and `node_bin_col_map`.
 ghost use Rattle.std.specs.Prelude.{◌≡◌, ℕ, ◌+◌, ◌*◌, ◌<◌, ◌≤◌, List, ◌++◌, length, get_or};
-ghost use Rattle.layout.specs.Layout.{nodeCeiling, setCeiling, setSizeCeiling, membershipCeiling};
-ghost use Rattle.pywr.specs.ExclusiveSets.{sameSet, setNumber, addSets, exclusiveSets};
-ghost use Rattle.network_aggregate.specs.AggregatedNode.{setAt, setEnd, aggregateAt};
+ghost use Rattle.layout.specs.Layout.{node_ceiling, set_ceiling, set_size_ceiling, membership_ceiling};
+ghost use Rattle.pywr.specs.ExclusiveSets.{same_set, set_number, add_sets, exclusive_sets};
+ghost use Rattle.network_aggregate.specs.AggregatedNode.{aggregate_set_at, set_end, aggregate_at};
 ghost use Rattle.network_laws.specs.Passed.{SetPassed, AggregatePassed};
-ghost use Rattle.network_record.specs.Counts.{networkOf, SectionsOf};
+ghost use Rattle.network_record.specs.Counts.{network_of, SectionsOf};
 ghost use Rattle.laws.specs.Linked.{Linked};
-ghost use Rattle.build_exclusive_sets.specs.Sets.{setsAt, SetsFit, Collected, placesIn, membershipsOf, Memberships};
+ghost use Rattle.build_exclusive_sets.specs.Sets.{sets_at, SetsFit, Collected, places_in, memberships_of, Memberships};
 
 use layout::{MEMBERSHIP_CEILING, NODE_CEILING, SET_CEILING, SET_SIZE_CEILING};
 use network_record::Counts;
@@ -21,8 +21,8 @@ pub enum Sets {
 
 // Sets are equal as ordered lists.
 pub fn same_set(s: &[u8], a: usize, b: usize) -> bool
-    requires { (setEnd s.now a ≤ length s.now) × (setEnd s.now b ≤ length s.now) }
-    ensures { result ≡ sameSet (setAt s.now a) (setAt s.now b) }
+    requires { (set_end s.now a ≤ length s.now) × (set_end s.now b ≤ length s.now) }
+    ensures { result ≡ same_set (aggregate_set_at s.now a) (aggregate_set_at s.now b) }
 {
     let size = network_aggregate::set_size(s, a);
     if size != network_aggregate::set_size(s, b) {
@@ -42,8 +42,8 @@ pub fn same_set(s: &[u8], a: usize, b: usize) -> bool
 
 // The number of the set at `at` among the first `count`, or `count`.
 pub fn set_number(s: &[u8], set_at: &[u16; SET_CEILING], count: usize, at: usize) -> usize
-    requires { SetsFit s.now set_at.now count × (setEnd s.now at ≤ length s.now) }
-    ensures { result ≡ setNumber (setAt s.now at) (setsAt s.now set_at.now count) }
+    requires { SetsFit s.now set_at.now count × (set_end s.now at ≤ length s.now) }
+    ensures { result ≡ set_number (aggregate_set_at s.now at) (sets_at s.now set_at.now count) }
 {
     let mut k: usize = 0;
     while k < count {
@@ -57,8 +57,8 @@ pub fn set_number(s: &[u8], set_at: &[u16; SET_CEILING], count: usize, at: usize
 
 // The sets of the aggregate at `at`, each added to the first `known` if it is not there yet.
 fn add_sets(s: &[u8], at: usize, known: usize, set_at: &mut [u16; SET_CEILING]) -> Sets
-    requires { AggregatePassed s.now nodeCeiling at × SetsFit s.now set_at.old known × (length s.now ≤ 65536) }
-    ensures { Collected s.now (addSets (setsAt s.now set_at.old known) (aggregateAt s.now at).sets) result set_at.new }
+    requires { AggregatePassed s.now node_ceiling at × SetsFit s.now set_at.old known × (length s.now ≤ 65536) }
+    ensures { Collected s.now (add_sets (sets_at s.now set_at.old known) (aggregate_at s.now at).sets) result set_at.new }
 {
     let sets = network_aggregate::set_count(s, at);
     let mut count = known;
@@ -83,8 +83,8 @@ fn add_sets(s: &[u8], at: usize, known: usize, set_at: &mut [u16; SET_CEILING]) 
 
 // The distinct sets of the exclusive aggregates: the offset of each, where it first appears.
 pub fn collect_sets(s: &[u8], c: Counts, set_at: &mut [u16; SET_CEILING]) -> Sets
-    requires { SectionsOf s.now c × (length set_at.old ≡ setCeiling) }
-    ensures { Collected s.now (exclusiveSets (networkOf s.now c)) result set_at.new }
+    requires { SectionsOf s.now c × (length set_at.old ≡ set_ceiling) }
+    ensures { Collected s.now (exclusive_sets (network_of s.now c)) result set_at.new }
 {
     let aggregates = c.aggregates;
     let mut count: usize = 0;
@@ -119,9 +119,9 @@ fn list_set(
     first: &mut [u16; NODE_CEILING],
     next: &mut [u16; MEMBERSHIP_CEILING],
 )
-    requires { (k < setCeiling) × SetPassed s.now nodeCeiling at }
-    ensures { (of : ℕ → List ℕ) → Memberships (setSizeCeiling * k + setSizeCeiling) first.old next.old of
-        → Memberships (setSizeCeiling * k) first.new next.new (λ n. placesIn n (setSizeCeiling * k) (setAt s.now at) ++ of n) }
+    requires { (k < set_ceiling) × SetPassed s.now node_ceiling at }
+    ensures { (of : ℕ → List ℕ) → Memberships (set_size_ceiling * k + set_size_ceiling) first.old next.old of
+        → Memberships (set_size_ceiling * k) first.new next.new (λ n. places_in n (set_size_ceiling * k) (aggregate_set_at s.now at) ++ of n) }
 {
     let mut i = network_aggregate::set_size(s, at);
     while 0 < i {
@@ -141,9 +141,9 @@ pub fn list_members(
     first: &mut [u16; NODE_CEILING],
     next: &mut [u16; MEMBERSHIP_CEILING],
 )
-    requires { SetsFit s.now set_at.now sets × (length next.old ≡ membershipCeiling) }
-    ensures { (n : ℕ) → n < nodeCeiling → Linked membershipCeiling next.new (get_or first.new n 0)
-        (membershipsOf n 0 (setsAt s.now set_at.now sets)) }
+    requires { SetsFit s.now set_at.now sets × (length next.old ≡ membership_ceiling) }
+    ensures { (n : ℕ) → n < node_ceiling → Linked membership_ceiling next.new (get_or first.new n 0)
+        (memberships_of n 0 (sets_at s.now set_at.now sets)) }
 {
     *first = [0u16; NODE_CEILING];
     let mut k = sets;

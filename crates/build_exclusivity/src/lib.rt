@@ -1,18 +1,18 @@
 // The exclusivity rows of the exclusive aggregates (SolverBuilder::create_mutual_exclusivity_constraints of builder.rs).
 ghost use Rattle.std.specs.Prelude.{◌≡◌, ◌+◌, ◌≤◌, true, List, [], ◌∷◌, ◌++◌, length};
-ghost use Rattle.layout.specs.Layout.{edgeCeiling, columnCeiling};
+ghost use Rattle.layout.specs.Layout.{edge_ceiling, column_ceiling};
 ghost use Rattle.pywr.specs.ColEdgeMap as ColEdgeMap;
-ghost use Rattle.pywr.specs.ExclusiveSets.{exclusiveSets};
-ghost use Rattle.pywr.specs.Rows.{ColumnMap, columnMap};
-ghost use Rattle.pywr.specs.FixedRows.{exclusivityRows};
+ghost use Rattle.pywr.specs.ExclusiveSets.{exclusive_sets};
+ghost use Rattle.pywr.specs.Rows.{ColumnMap, column_map};
+ghost use Rattle.pywr.specs.FixedRows.{exclusivity_rows};
 ghost use Rattle.pywr.specs.Programme.{Row, Maker};
-ghost use Rattle.pywr.specs.Makers.{exclusivityMakers};
-ghost use Rattle.network_aggregate.specs.AggregatedNode.{aggregateAt, setsOffset};
+ghost use Rattle.pywr.specs.Makers.{exclusivity_makers};
+ghost use Rattle.network_aggregate.specs.AggregatedNode.{aggregate_at, sets_offset};
 ghost use Rattle.network_laws.specs.Sections.{Sections};
-ghost use Rattle.build_exclusive_sets.specs.Sets.{setsAt, SetsFit};
+ghost use Rattle.build_exclusive_sets.specs.Sets.{sets_at, SetsFit};
 ghost use Rattle.build_append.specs.LpBuilder.{RowsHeld, Holding, AfterRows};
 ghost use Rattle.build_makers.specs.MadeRows.{MadeHeld, MadeHolding, AfterMade};
-ghost use Rattle.build_node_row.specs.Tables.{networkOf};
+ghost use Rattle.build_node_row.specs.Tables.{network_of};
 ghost use Rattle.build_exclusivity.specs.ExclusivityRow.{KnownSets, MapOf, ExclusivityRow};
 ghost use Rattle.layout.specs.WorkRoom.{WorkRoom};
 
@@ -31,8 +31,8 @@ fn exclusivity_row(
     columns: &mut [ColumnNumber; COLUMN_CEILING],
     elements: &mut [f64],
 ) -> usize
-    requires { SetsFit s.now set_at.now sets × (edge_columns ≤ edgeCeiling) × (at + setsOffset ≤ length s.now) × KnownSets s.now set_at.now sets at
-        × (columnCeiling ≤ length elements.old) }
+    requires { SetsFit s.now set_at.now sets × (edge_columns ≤ edge_ceiling) × (at + sets_offset ≤ length s.now) × KnownSets s.now set_at.now sets at
+        × (column_ceiling ≤ length elements.old) }
     ensures { ExclusivityRow s.now set_at.now sets edge_columns at columns.new elements.new result }
 {
     let count = network_aggregate::set_count(s, at);
@@ -61,12 +61,12 @@ fn add_exclusivity_row(
     columns: &mut [ColumnNumber; COLUMN_CEILING],
     f: Filled,
 ) -> RowsAdded
-    requires { SetsFit s.now set_at.now sets × (edge_columns ≤ edgeCeiling) × (at + setsOffset ≤ length s.now)
-        × ((aggregateAt s.now at).exclusive ≡ true → KnownSets s.now set_at.now sets at)
+    requires { SetsFit s.now set_at.now sets × (edge_columns ≤ edge_ceiling) × (at + sets_offset ≤ length s.now)
+        × ((aggregate_at s.now at).exclusive ≡ true → KnownSets s.now set_at.now sets at)
         × WorkRoom words.old numbers.old × Holding words.old numbers.old f }
     ensures { (map : ColumnMap) → MapOf s.now set_at.now sets edge_columns map
         → (rows : List Row) → RowsHeld rows words.old numbers.old f
-        → AfterRows (rows ++ exclusivityRows map (aggregateAt s.now at ∷ [])) words.old result words.new numbers.new }
+        → AfterRows (rows ++ exclusivity_rows map (aggregate_at s.now at ∷ [])) words.old result words.new numbers.new }
 {
     if network_aggregate::is_exclusive(s, at) {
         let lower = widths::u32_to_f64(network_aggregate::min_active(s, at));
@@ -106,12 +106,12 @@ pub fn create_mutual_exclusivity_constraints(
     f: Filled,
 ) -> RowsAdded
     requires { Sections s.now c.nodes c.edges c.aggregates c.virtual_storages c.virtual_storages_at
-        × SetsFit s.now set_at.now sets × (setsAt s.now set_at.now sets ≡ exclusiveSets (networkOf s.now c))
-        × (edge_columns ≡ (ColEdgeMap.columns (networkOf s.now c)).count) × (edge_columns ≤ edgeCeiling)
+        × SetsFit s.now set_at.now sets × (sets_at s.now set_at.now sets ≡ exclusive_sets (network_of s.now c))
+        × (edge_columns ≡ (ColEdgeMap.columns (network_of s.now c)).count) × (edge_columns ≤ edge_ceiling)
         × WorkRoom words.old numbers.old × MadeHolding words.old numbers.old f }
     ensures { (rows : List Row) (makers : List Maker) → MadeHeld rows makers words.old numbers.old f
-        → AfterMade (rows ++ exclusivityRows (columnMap (networkOf s.now c)) (networkOf s.now c).aggregates)
-        (makers ++ exclusivityMakers (columnMap (networkOf s.now c)) 0 (networkOf s.now c).aggregates)
+        → AfterMade (rows ++ exclusivity_rows (column_map (network_of s.now c)) (network_of s.now c).aggregates)
+        (makers ++ exclusivity_makers (column_map (network_of s.now c)) 0 (network_of s.now c).aggregates)
         words.old result words.new numbers.new }
 {
     let aggregates = c.aggregates;

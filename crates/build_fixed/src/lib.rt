@@ -1,11 +1,11 @@
 // The fixed rows of a programme: mass balances, constant bounds, mutual exclusivity.
 ghost use Rattle.std.specs.Prelude.{◌≡◌, List, ◌++◌};
-ghost use Rattle.pywr.specs.Rows.{columnMap};
+ghost use Rattle.pywr.specs.Rows.{column_map};
 ghost use Rattle.pywr.specs.Programme.{Row, Maker};
-ghost use Rattle.pywr.specs.Makers.{fixedMakers};
-ghost use Rattle.pywr.specs.Build.{programmeOf};
-ghost use Rattle.build_node_row.specs.EdgeColumns.{edgeColumns};
-ghost use Rattle.build_node_row.specs.Tables.{networkOf, EdgeTables, SetTables};
+ghost use Rattle.pywr.specs.Makers.{fixed_makers};
+ghost use Rattle.pywr.specs.Build.{programme_of};
+ghost use Rattle.build_node_row.specs.EdgeColumns.{edge_columns_of};
+ghost use Rattle.build_node_row.specs.Tables.{network_of, EdgeTables, SetTables};
 ghost use Rattle.build_makers.specs.MadeRows.{MadeHeld, MadeHolding, AfterMade};
 ghost use Rattle.layout.specs.WorkRoom.{WorkRoom};
 
@@ -35,11 +35,11 @@ pub fn add_fixed_rows(
     f: Filled,
 ) -> RowsAdded
     requires { EdgeTables s.now c first_in.now next_in.now first_out.now next_out.now edge_to_col.now
-        × SetTables s.now c set_at.now sets first_membership.now next_membership.now × (edge_columns ≡ edgeColumns s.now c)
+        × SetTables s.now c set_at.now sets first_membership.now next_membership.now × (edge_columns ≡ edge_columns_of s.now c)
         × WorkRoom words.old numbers.old × MadeHolding words.old numbers.old f }
     ensures { (rows : List Row) (makers : List Maker) → MadeHeld rows makers words.old numbers.old f
-        → AfterMade (rows ++ (programmeOf sentinel (networkOf s.now c)).programme.fixed)
-        (makers ++ fixedMakers sentinel (columnMap (networkOf s.now c)) (networkOf s.now c))
+        → AfterMade (rows ++ (programme_of sentinel (network_of s.now c)).programme.fixed)
+        (makers ++ fixed_makers sentinel (column_map (network_of s.now c)) (network_of s.now c))
         words.old result words.new numbers.new }
 {
     let m = build_mass::create_mass_balance_constraints(

@@ -7,33 +7,33 @@ use mathlib.Core.Bool.{Bool, true, false}
 use mathlib.Core.Option.{Option, none, some}
 use native.Mathlib.Omega.{arith}
 use lib.ListN.{length, get_or, set, length-set}
-use Rattle.layout.specs.Layout.{flowOrderPackedAt}
+use Rattle.layout.specs.Layout.{flow_order_packed_at}
 use Rattle.laws.specs.Linked.{Linked}
 use Rattle.pywr.specs.Bytes.{byte, le16}
 use Rattle.pywr.specs.Network.{Network, listed}
-use Rattle.pywr.specs.FlowOrder.{nextEdge, edgeNumbered, follow}
-use Rattle.network_laws.specs.NetworkAt.{networkAt}
-use Rattle.build_col_edge_map.specs.Mapped.{code, sharesAcross}
-use Rattle.build_col_edge_map.proofs.Turn.{code-none, code-some}
+use Rattle.pywr.specs.FlowOrder.{next_edge, edge_numbered, follow}
+use Rattle.network_laws.specs.NetworkAt.{network_at}
+use Rattle.build_col_edge_map.specs.Mapped.{code, shares_across}
+use Rattle.build_col_edge_map.proofs.Turn.{code_none, code_some}
 use Rattle.build_flow_order.specs.Ordered.{EdgeLists, Ordered, Marked}
-use Rattle.build_flow_order.proofs.Neighbours.{next-read, next-most}
-use Rattle.build_flow_order.proofs.Marks.{room, one-marked, one-ordered}
+use Rattle.build_flow_order.proofs.Neighbours.{next_read, next_most}
+use Rattle.build_flow_order.proofs.Marks.{room, one_marked, one_ordered}
 
 -- ---- how `follow` goes on
 
 module _ (net : Network) where
-  none-follows : (most : ℕ) (order : List ℕ) → follow net most none order ≡ order
+  none_follows : (most : ℕ) (order : List ℕ) → follow net most none order ≡ order
   unfolding follow
-  none-follows zero order = refl
-  none-follows (suc most) order = refl
+  none_follows zero order = refl
+  none_follows (suc most) order = refl
 
-  listed-stops : (most e : ℕ) (order : List ℕ) → listed e order ≡ true → follow net most (some e) order ≡ order
+  listed_stops : (most e : ℕ) (order : List ℕ) → listed e order ≡ true → follow net most (some e) order ≡ order
   unfolding follow
-  listed-stops zero e order q = refl
-  listed-stops (suc most) e order q = rw q
+  listed_stops zero e order q = refl
+  listed_stops (suc most) e order q = rw q
 
   one_follows : (most e : ℕ) (order : List ℕ) → listed e order ≡ false
-      → follow net (suc most) (some e) order ≡ follow net most (nextEdge net (edgeNumbered net e)) (order ++ e ∷ [])
+      → follow net (suc most) (some e) order ≡ follow net most (next_edge net (edge_numbered net e)) (order ++ e ∷ [])
   unfolding follow
   one_follows most e order q = rw q
 
@@ -42,53 +42,53 @@ module _ (net : Network) where
     pub order : List ℕ
     pub held : Ordered edges shape₀ order shape seen count
     pub edge : Option ℕ
-    pub edge-is : next ≡ code edge
+    pub edge_is : next ≡ code edge
     pub most : ℕ
     pub enough : edges ≤ most + count
     pub rest : whole ≡ follow net most edge order
 
   module _ {edges : ℕ} {whole shape₀ shape : List ℕ} {seen : List Bool} {count next : ℕ} (h : Following edges whole shape₀ shape seen count next) where
-    pub followed-none : next ≡ 0 → Ordered edges shape₀ whole shape seen count
-    followed-none q =
-        let none_left : h.edge ≡ none = code-none h.edge (sym h.edge-is ∙ q) in
-        let all : whole ≡ h.order = h.rest ∙ ap (λ (o : Option ℕ). follow net h.most o h.order) none_left ∙ none-follows h.most h.order in
+    pub followed_none : next ≡ 0 → Ordered edges shape₀ whole shape seen count
+    followed_none q =
+        let none_left : h.edge ≡ none = code_none h.edge (sym h.edge_is ∙ q) in
+        let all : whole ≡ h.order = h.rest ∙ ap (λ (o : Option ℕ). follow net h.most o h.order) none_left ∙ none_follows h.most h.order in
         rw all h.held
 
     module _ (e : ℕ) (q : next ≡ suc e) (under : e < edges) where
       at_edge : whole ≡ follow net h.most (some e) h.order
       at_edge =
           let less : suc e - 1 ≡ e = omega arith in
-          let is-e : h.edge ≡ some e = code-some h.edge (suc e) (sym q ∙ h.edge-is) (λ z. omega arith) ∙ ap {B = Option ℕ} some less in
+          let is-e : h.edge ≡ some e = code_some h.edge (suc e) (sym q ∙ h.edge_is) (λ z. omega arith) ∙ ap {B = Option ℕ} some less in
           h.rest ∙ ap (λ (o : Option ℕ). follow net h.most o h.order) is-e
 
-      pub followed-seen : get_or seen e false ≡ true → Ordered edges shape₀ whole shape seen count
-      followed-seen s =
-          let all : whole ≡ h.order = at_edge ∙ listed-stops h.most e h.order (sym (h.held.seen-is e under) ∙ s) in
+      pub followed_seen : get_or seen e false ≡ true → Ordered edges shape₀ whole shape seen count
+      followed_seen s =
+          let all : whole ≡ h.order = at_edge ∙ listed_stops h.most e h.order (sym (h.held.seen_is e under) ∙ s) in
           rw all h.held
 
-      pub follows : (next' : ℕ) → get_or seen e false ≡ false → e < length seen → count < edges → next' ≡ code (nextEdge net (edgeNumbered net e))
-          → Following edges whole shape₀ (set shape (flowOrderPackedAt + count) e) (set seen e true) (count + 1) next'
+      pub follows : (next' : ℕ) → get_or seen e false ≡ false → e < length seen → count < edges → next' ≡ code (next_edge net (edge_numbered net e))
+          → Following edges whole shape₀ (set shape (flow_order_packed_at + count) e) (set seen e true) (count + 1) next'
       follows next' z i few n = go h.most h.enough at_edge
         where
           go : (most : ℕ) → edges ≤ most + count → whole ≡ follow net most (some e) h.order
-              → Following edges whole shape₀ (set shape (flowOrderPackedAt + count) e) (set seen e true) (count + 1) next'
+              → Following edges whole shape₀ (set shape (flow_order_packed_at + count) e) (set seen e true) (count + 1) next'
           go zero enough r = absurd (omega arith)
           go (suc most) enough r =
               record {
                 order = h.order ++ e ∷ [];
-                held = one-ordered edges e count shape₀ h.order shape seen h.held i;
-                edge = nextEdge net (edgeNumbered net e);
-                edge-is = n;
+                held = one_ordered edges e count shape₀ h.order shape seen h.held i;
+                edge = next_edge net (edge_numbered net e);
+                edge_is = n;
                 most = most;
                 enough = omega arith;
-                rest = r ∙ one_follows most e h.order (sym (h.held.seen-is e under) ∙ z);
+                rest = r ∙ one_follows most e h.order (sym (h.held.seen_is e under) ∙ z);
               }
 
 -- ---- the loop
 
 module _ (file : List ℕ) (nodes edges : ℕ) where
   abbrev net : ℕ → ℕ → Network
-  net a v = networkAt file nodes edges a v
+  net a v = network_at file nodes edges a v
 
   -- what was followed from the edge that `next₀` is the number of, plus 1
   pub record FollowedTo (seen₀ : List Bool) (shape₀ : List ℕ) (count₀ next₀ : ℕ) (seen : List Bool) (shape : List ℕ) (count next : ℕ) : Type 0 where
@@ -98,43 +98,43 @@ module _ (file : List ℕ) (nodes edges : ℕ) where
     pub following : (start a v : ℕ) (base order : List ℕ) → next₀ ≡ start + 1 → Ordered edges base order shape₀ seen₀ count₀
         → Following (net a v) edges (follow (net a v) edges (some start) order) base shape seen count next
 
-  pub none-followed : (seen : List Bool) (shape : List ℕ) (count next : ℕ) → next ≤ edges → Marked edges seen count
+  pub none_followed : (seen : List Bool) (shape : List ℕ) (count next : ℕ) → next ≤ edges → Marked edges seen count
       → FollowedTo seen shape count next seen shape count next
-  none-followed seen shape count next h m =
+  none_followed seen shape count next h m =
       record {
         under = h;
         marked = m;
         long = refl;
         following = λ start a v base order q o.
-            record { order = order; held = o; edge = some start; edge-is = omega arith; most = edges; enough = omega arith; rest = refl };
+            record { order = order; held = o; edge = some start; edge_is = omega arith; most = edges; enough = omega arith; rest = refl };
       }
 
   module _ {seen₀ : List Bool} {shape₀ : List ℕ} {count₀ next₀ : ℕ} {seen : List Bool} {shape : List ℕ} {count next : ℕ}
       (h : FollowedTo seen₀ shape₀ count₀ next₀ seen shape count next) where
-    pub one-followed : {firstIn nextIn firstOut nextOut : List ℕ} → EdgeLists file nodes edges firstIn nextIn firstOut nextOut
+    pub one_followed : {first_in next_in first_out next_out : List ℕ} → EdgeLists file nodes edges first_in next_in first_out next_out
         → (e to next' : ℕ) → next ≢ 0 → e ≡ next - 1 → get_or seen e false ≡ false → to ≡ le16 file (20 * nodes + 6 * (next - 1) + 4)
-        → ((size : ℕ) (into out : List ℕ) → Linked size nextOut (get_or firstOut to 0) into → Linked size nextIn (get_or firstIn to 0) out
-        → next' ≡ code (sharesAcross (byte file (20 * to + 2)) into out))
-        → FollowedTo seen₀ shape₀ count₀ next₀ (set seen e true) (set shape (flowOrderPackedAt + count) (next - 1)) (count + 1) next'
-    one-followed lists e to next' f i z t r =
+        → ((size : ℕ) (into out : List ℕ) → Linked size next_out (get_or first_out to 0) into → Linked size next_in (get_or first_in to 0) out
+        → next' ≡ code (shares_across (byte file (20 * to + 2)) into out))
+        → FollowedTo seen₀ shape₀ count₀ next₀ (set seen e true) (set shape (flow_order_packed_at + count) (next - 1)) (count + 1) next'
+    one_followed lists e to next' f i z t r =
         let lt : e < edges = omega (arith, h.under) in
         let last : next ≡ suc e = omega arith in
         let there : to ≡ le16 file (20 * nodes + 6 * e + 4) = rw i t in
-        let n = next-read file nodes edges lists e lt to next' there r in
-        let few = room h.marked lists.few-edges lt z in
+        let n = next_read file nodes edges lists e lt to next' there r in
+        let few = room h.marked lists.few_edges lt z in
         rw (← i)
         (record {
-          under = next-most file nodes edges e next' n;
-          marked = one-marked h.marked lists.few-edges lt z;
-          long = length-set shape (flowOrderPackedAt + count) e ∙ h.long;
+          under = next_most file nodes edges e next' n;
+          marked = one_marked h.marked lists.few_edges lt z;
+          long = length-set shape (flow_order_packed_at + count) e ∙ h.long;
           following = λ start a v base order q o.
-              follows (net a v) (h.following start a v base order q o) e last lt next' z (omega (arith, h.marked.long, lists.few-edges)) few (n a v);
+              follows (net a v) (h.following start a v base order q o) e last lt next' z (omega (arith, h.marked.long, lists.few_edges)) few (n a v);
         })
 
     module _ (start a v : ℕ) (base order : List ℕ) (q : next₀ ≡ start + 1) (o : Ordered edges base order shape₀ seen₀ count₀) where
-      pub all-followed : next ≡ 0 → Ordered edges base (follow (net a v) edges (some start) order) shape seen count
-      all-followed z = followed-none (net a v) (h.following start a v base order q o) z
+      pub all_followed : next ≡ 0 → Ordered edges base (follow (net a v) edges (some start) order) shape seen count
+      all_followed z = followed_none (net a v) (h.following start a v base order q o) z
 
-      pub followed-before : (e : ℕ) → next ≢ 0 → e ≡ next - 1 → get_or seen e false ≡ true
+      pub followed_before : (e : ℕ) → next ≢ 0 → e ≡ next - 1 → get_or seen e false ≡ true
           → Ordered edges base (follow (net a v) edges (some start) order) shape seen count
-      followed-before e f i s = followed-seen (net a v) (h.following start a v base order q o) e (omega arith) (omega (arith, h.under)) s
+      followed_before e f i s = followed_seen (net a v) (h.following start a v base order q o) e (omega arith) (omega (arith, h.under)) s

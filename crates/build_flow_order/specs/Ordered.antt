@@ -1,27 +1,27 @@
 -- What the flow order is made from, and how much of it stands in the runs. Assumes nothing.
 use Rattle.std.specs.Prelude.{ℕ, zero, suc, ◌+◌, ◌<◌, ◌≤◌, ◌≡◌, List, [], ◌∷◌, Bool, true, false, length, get_or}
 use Rattle.std.proofs.lemmas.List.Edits.{sets}
-use Rattle.layout.specs.Layout.{nodeCeiling, edgeCeiling, flowOrderPackedAt}
+use Rattle.layout.specs.Layout.{node_ceiling, edge_ceiling, flow_order_packed_at}
 use Rattle.pywr.specs.Bytes.{le16}
 use Rattle.pywr.specs.Network.{source, target, listed}
-use Rattle.network_edge.specs.Edge.{fromOffset, toOffset, edgePlace}
+use Rattle.network_edge.specs.Edge.{from_offset, to_offset, edge_place}
 use Rattle.build_incident_edges.specs.IncidentEdges.{EdgesListed}
 
 -- a file's edges, whose ends are nodes, and of each node the lists of its edges
-pub record EdgeLists (file : List ℕ) (nodes edges : ℕ) (firstIn nextIn firstOut nextOut : List ℕ) : Type 0 where
-  pub few-nodes : nodes ≤ nodeCeiling
-  pub few-edges : edges ≤ edgeCeiling
-  pub inside : edgePlace nodes edges ≤ length file
-  pub from-under : (e : ℕ) → e < edges → le16 file (edgePlace nodes e + fromOffset) < nodes
-  pub to-under : (e : ℕ) → e < edges → le16 file (edgePlace nodes e + toOffset) < nodes
-  pub into : EdgesListed target file nodes edges firstIn nextIn
-  pub out_of : EdgesListed source file nodes edges firstOut nextOut
+pub record EdgeLists (file : List ℕ) (nodes edges : ℕ) (first_in next_in first_out next_out : List ℕ) : Type 0 where
+  pub few_nodes : nodes ≤ node_ceiling
+  pub few_edges : edges ≤ edge_ceiling
+  pub inside : edge_place nodes edges ≤ length file
+  pub from_under : (e : ℕ) → e < edges → le16 file (edge_place nodes e + from_offset) < nodes
+  pub to_under : (e : ℕ) → e < edges → le16 file (edge_place nodes e + to_offset) < nodes
+  pub into : EdgesListed target file nodes edges first_in next_in
+  pub out_of : EdgesListed source file nodes edges first_out next_out
 
 -- the order so far, of `count` edges: the shape run, which was `shape₀`, has it at its place, and `seen` marks its edges
 pub record Ordered (edges : ℕ) (shape₀ order shape : List ℕ) (seen : List Bool) (count : ℕ) : Type 0 where
-  pub written : shape ≡ sets shape₀ flowOrderPackedAt order
-  pub count-is : count ≡ length order
-  pub seen-is : (e : ℕ) → e < edges → get_or seen e false ≡ listed e order
+  pub written : shape ≡ sets shape₀ flow_order_packed_at order
+  pub count_is : count ≡ length order
+  pub seen_is : (e : ℕ) → e < edges → get_or seen e false ≡ listed e order
 
 -- how many of the edges are not seen
 unfoldable pub unseen : ℕ → List Bool → ℕ
@@ -32,5 +32,5 @@ unseen (suc edges) (false ∷ seen) = suc (unseen edges seen)
 
 -- `count` of the edges are seen
 pub record Marked (edges : ℕ) (seen : List Bool) (count : ℕ) : Type 0 where
-  pub long : length seen ≡ edgeCeiling
+  pub long : length seen ≡ edge_ceiling
   pub all : count + unseen edges seen ≡ edges

@@ -2,12 +2,12 @@
 ghost use Rattle.std.specs.Prelude.{◌≡◌, ℕ, ◌+◌, ◌<◌, ◌≤◌, List, [], length};
 ghost use Rattle.std.proofs.Math.Option.{some};
 ghost use Rattle.std.proofs.lemmas.List.Edits.{sets};
-ghost use Rattle.layout.specs.Layout.{nodeCeiling, edgeCeiling, packedShapeLength, flowOrderPackedAt};
+ghost use Rattle.layout.specs.Layout.{node_ceiling, edge_ceiling, packed_shape_length, flow_order_packed_at};
 ghost use Rattle.pywr.specs.Bytes.{le16};
 ghost use Rattle.pywr.specs.Network.{source, target};
-ghost use Rattle.pywr.specs.FlowOrder.{follow, paths, flowOrder};
-ghost use Rattle.network_laws.specs.NetworkAt.{networkAt};
-ghost use Rattle.network_edge.specs.Edge.{fromOffset, toOffset, edgePlace};
+ghost use Rattle.pywr.specs.FlowOrder.{follow, paths, flow_order};
+ghost use Rattle.network_laws.specs.NetworkAt.{network_at};
+ghost use Rattle.network_edge.specs.Edge.{from_offset, to_offset, edge_place};
 ghost use Rattle.build_incident_edges.specs.IncidentEdges.{EdgesListed};
 ghost use Rattle.build_flow_order.specs.Ordered.{EdgeLists, Ordered, Marked};
 
@@ -30,10 +30,10 @@ fn follow(
     start: EdgeIndex,
 ) -> usize
     requires { EdgeLists s.now nodes edges first_in.now next_in.now first_out.now next_out.now
-        × (packedShapeLength ≤ length shape.old) × Marked edges seen.old count × (start.0 < edges) }
+        × (packed_shape_length ≤ length shape.old) × Marked edges seen.old count × (start.0 < edges) }
     ensures { Marked edges seen.new result
         × ((a v : ℕ) (shape₀ order : List ℕ) → Ordered edges shape₀ order shape.old seen.old count
-        → Ordered edges shape₀ (follow (networkAt s.now nodes edges a v) edges (some start.0) order)
+        → Ordered edges shape₀ (follow (network_at s.now nodes edges a v) edges (some start.0) order)
         shape.new seen.new result) }
 {
     let mut n = count;
@@ -68,10 +68,10 @@ fn follow_paths(
     shape: &mut [u16],
 ) -> usize
     requires { EdgeLists s.now nodes edges first_in.now next_in.now first_out.now next_out.now
-        × (packedShapeLength ≤ length shape.old) × Marked edges seen.old 0 }
+        × (packed_shape_length ≤ length shape.old) × Marked edges seen.old 0 }
     ensures { Marked edges seen.new result
         × ((a v : ℕ) (shape₀ : List ℕ) → Ordered edges shape₀ [] shape.old seen.old 0
-        → Ordered edges shape₀ (paths (networkAt s.now nodes edges a v)) shape.new seen.new result) }
+        → Ordered edges shape₀ (paths (network_at s.now nodes edges a v)) shape.new seen.new result) }
 {
     let mut count: usize = 0;
     let mut e: usize = 0;
@@ -107,10 +107,10 @@ fn follow_rings(
     count: usize,
 )
     requires { EdgeLists s.now nodes edges first_in.now next_in.now first_out.now next_out.now
-        × (packedShapeLength ≤ length shape.old) × Marked edges seen.old count }
+        × (packed_shape_length ≤ length shape.old) × Marked edges seen.old count }
     ensures { (a v : ℕ) (shape₀ : List ℕ)
-        → Ordered edges shape₀ (paths (networkAt s.now nodes edges a v)) shape.old seen.old count
-        → shape.new ≡ sets shape₀ flowOrderPackedAt (flowOrder (networkAt s.now nodes edges a v)) }
+        → Ordered edges shape₀ (paths (network_at s.now nodes edges a v)) shape.old seen.old count
+        → shape.new ≡ sets shape₀ flow_order_packed_at (flow_order (network_at s.now nodes edges a v)) }
 {
     let mut n = count;
     let mut start: usize = 0;
@@ -134,13 +134,13 @@ pub fn write_flow_order(
     next_out: &[u16; EDGE_CEILING],
     shape: &mut [u16],
 )
-    requires { (nodes ≤ nodeCeiling) × (edges ≤ edgeCeiling) × (edgePlace nodes edges ≤ length s.now)
-        × ((e : ℕ) → e < edges → le16 s.now (edgePlace nodes e + fromOffset) < nodes)
-        × ((e : ℕ) → e < edges → le16 s.now (edgePlace nodes e + toOffset) < nodes)
+    requires { (nodes ≤ node_ceiling) × (edges ≤ edge_ceiling) × (edge_place nodes edges ≤ length s.now)
+        × ((e : ℕ) → e < edges → le16 s.now (edge_place nodes e + from_offset) < nodes)
+        × ((e : ℕ) → e < edges → le16 s.now (edge_place nodes e + to_offset) < nodes)
         × EdgesListed target s.now nodes edges first_in.now next_in.now
-        × EdgesListed source s.now nodes edges first_out.now next_out.now × (packedShapeLength ≤ length shape.old) }
+        × EdgesListed source s.now nodes edges first_out.now next_out.now × (packed_shape_length ≤ length shape.old) }
     ensures { (a v : ℕ)
-        → shape.new ≡ sets shape.old flowOrderPackedAt (flowOrder (networkAt s.now nodes edges a v)) }
+        → shape.new ≡ sets shape.old flow_order_packed_at (flow_order (network_at s.now nodes edges a v)) }
 {
     let mut seen = [false; EDGE_CEILING];
     let count = follow_paths(

@@ -1,7 +1,7 @@
 // The incoming or outgoing edges of every node, as lists in two tables.
 ghost use Rattle.std.specs.Prelude.{ℕ, ◌<◌, ◌≤◌, length};
-ghost use Rattle.layout.specs.Layout.{nodeCeiling, edgeCeiling};
-ghost use Rattle.network_edge.specs.Edge.{edge_at, edgePlace, end_of};
+ghost use Rattle.layout.specs.Layout.{node_ceiling, edge_ceiling};
+ghost use Rattle.network_edge.specs.Edge.{edge_at, edge_place, end_of};
 ghost use Rattle.build_incident_edges.specs.IncidentEdges.{EdgesListed};
 
 use layout::{EDGE_CEILING, NODE_CEILING};
@@ -17,8 +17,8 @@ pub fn list_edges(
     first: &mut [u16; NODE_CEILING],
     next: &mut [u16; EDGE_CEILING],
 )
-    requires { (nodes ≤ nodeCeiling) × (edges ≤ edgeCeiling) × (edgePlace nodes edges ≤ length s.now)
-        × ((e : ℕ) → e < edges → end_of end (edge_at s.now (edgePlace nodes e)) < nodes) }
+    requires { (nodes ≤ node_ceiling) × (edges ≤ edge_ceiling) × (edge_place nodes edges ≤ length s.now)
+        × ((e : ℕ) → e < edges → end_of end (edge_at s.now (edge_place nodes e)) < nodes) }
     ensures { EdgesListed (end_of end) s.now nodes edges first.new next.new }
 {
     *first = [0; NODE_CEILING];

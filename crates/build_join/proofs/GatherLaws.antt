@@ -7,60 +7,60 @@ use mathlib.Core.List.{List, [], ◌∷◌, map}
 use lib.ListN.{length, drop}
 use lib.Ieee.{Float}
 use borrow.Rule.Slice.PartMut.{put_mid}
-use Rattle.layout.specs.Layout.{numbersLength}
+use Rattle.layout.specs.Layout.{numbers_length}
 use Rattle.pywr.specs.declared.Sentinel.{Sentinel}
 use Rattle.pywr.specs.Rows.{Element}
 use Rattle.pywr.specs.VaryingRows.{fresh_row}
-use Rattle.fields.specs.Records.{recordsAt}
-use Rattle.fields.proofs.RecordLaws.{records-left, records-over}
+use Rattle.fields.specs.Records.{records_at}
+use Rattle.fields.proofs.RecordLaws.{records_left, records_over}
 use Rattle.build_row.specs.RowBuilder.{gathered, Rising}
 use Rattle.build_append.specs.declared.Filled.{Filled}
 use Rattle.build_join.specs.declared.VariableRow.{VariableRow}
 use Rattle.build_append.specs.LpBuilder.{RowsHeld, Holding}
 use Rattle.build_join.specs.VariableRow.{AfterVariableRow}
-use Rattle.build_append.proofs.RowsHeldLaws.{held-few, held-lent, lent_written}
+use Rattle.build_append.proofs.RowsHeldLaws.{held_few, held_lent, lent_written}
 use Rattle.build_row.specs.Gathered.{Gathered}
 
 -- ---- record by record
 
-module _ {A : Type 0} (addAll : List A → List Element → List Element) (read : ℕ → A) (end : ℕ → ℕ) (count : ℕ) (whole : List Element) where
+module _ {A : Type 0} (add_all : List A → List Element → List Element) (read : ℕ → A) (end : ℕ → ℕ) (count : ℕ) (whole : List Element) where
   -- after i of the records: the rest, from `here` on, added to the row so far makes the whole row
   pub record Adding (i here : ℕ) (columns : List ℕ) (elements : List Float) (n : ℕ) : Type 0 where
-    pub left : whole ≡ addAll (recordsAt read end (count - i) here) (gathered columns elements n)
+    pub left : whole ≡ add_all (records_at read end (count - i) here) (gathered columns elements n)
     pub rising : Rising columns n
     pub few : n ≤ 640
 
-  pub adding-none : (here : ℕ) (columns : List ℕ) (elements : List Float) (n : ℕ) → whole ≡ addAll (recordsAt read end count here) (gathered columns elements n) → Rising columns n → n ≤ 640
+  pub adding_none : (here : ℕ) (columns : List ℕ) (elements : List Float) (n : ℕ) → whole ≡ add_all (records_at read end count here) (gathered columns elements n) → Rising columns n → n ≤ 640
       → Adding 0 here columns elements n
-  adding-none here columns elements n e rising few = record { left = rw sub-zero e; rising = rising; few = few }
+  adding_none here columns elements n e rising few = record { left = rw sub-zero e; rising = rising; few = few }
 
   module _ (i here : ℕ) (columns : List ℕ) (elements : List Float) (n : ℕ) (a : Adding i here columns elements n) where
-    pub adding-more : (add : A → List Element → List Element) → ((x : A) (xs : List A) (row : List Element) → addAll (x ∷ xs) row ≡ addAll xs (add x row)) → i < count
+    pub adding_more : (add : A → List Element → List Element) → ((x : A) (xs : List A) (row : List Element) → add_all (x ∷ xs) row ≡ add_all xs (add x row)) → i < count
         → (next : ℕ) (columns' : List ℕ) (elements' : List Float) (r : ℕ) → next ≡ end here → Gathered (add (read here) (gathered columns elements n)) columns' elements' r
         → Adding (i + 1) next columns' elements' r
-    adding-more add more lt next columns' elements' r e g =
+    adding_more add more lt next columns' elements' r e g =
         record {
           left =
               a.left
-              ∙ ap (λ (xs : List A). addAll xs (gathered columns elements n)) (records-left end count i here lt read)
-              ∙ more (read here) (recordsAt read end (count - (i + 1)) (end here)) (gathered columns elements n)
-              ∙ ap (addAll (recordsAt read end (count - (i + 1)) (end here))) (sym g.is)
-              ∙ ap (λ (k : ℕ). addAll (recordsAt read end (count - (i + 1)) k) (gathered columns' elements' r)) (sym e);
+              ∙ ap (λ (xs : List A). add_all xs (gathered columns elements n)) (records_left end count i here lt read)
+              ∙ more (read here) (records_at read end (count - (i + 1)) (end here)) (gathered columns elements n)
+              ∙ ap (add_all (records_at read end (count - (i + 1)) (end here))) (sym g.is)
+              ∙ ap (λ (k : ℕ). add_all (records_at read end (count - (i + 1)) k) (gathered columns' elements' r)) (sym e);
           rising = g.rising;
           few = g.few;
         }
 
-    pub adding-all : ((row : List Element) → addAll [] row ≡ row) → count ≤ i → Gathered whole columns elements n
-    adding-all none le =
+    pub adding_all : ((row : List Element) → add_all [] row ≡ row) → count ≤ i → Gathered whole columns elements n
+    adding_all none le =
         record {
-          is = sym (a.left ∙ ap (λ (xs : List A). addAll xs (gathered columns elements n)) (records-over end count i here le read) ∙ none (gathered columns elements n));
+          is = sym (a.left ∙ ap (λ (xs : List A). add_all xs (gathered columns elements n)) (records_over end count i here le read) ∙ none (gathered columns elements n));
           rising = a.rising;
           few = a.few;
         }
 
 -- ---- in the lent part
 
-module _ (words : List ℕ) (numbers : List Float) (f : Filled) (long : numbersLength ≤ length numbers) (holding : Holding words numbers f)
+module _ (words : List ℕ) (numbers : List Float) (f : Filled) (long : numbers_length ≤ length numbers) (holding : Holding words numbers f)
     (row : List Element) (columns : List ℕ) (ys : List Float) (n : ℕ) (g : Gathered row columns ys n) where
   abbrev from : ℕ
   from = 2048 + f.elements
@@ -70,15 +70,15 @@ module _ (words : List ℕ) (numbers : List Float) (f : Filled) (long : numbersL
   after = put_mid from (length numbers - from) numbers ys
 
   within : from ≤ length numbers
-  within = omega (arith, held-few holding.rows words numbers f holding.held)
+  within = omega (arith, held_few holding.rows words numbers f holding.held)
 
-  pub holding-lent : Holding words after f
-  holding-lent = record { rows = holding.rows; held = held-lent numbers ys from within holding.rows words f (omega arith) holding.held }
+  pub holding_lent : Holding words after f
+  holding_lent = record { rows = holding.rows; held = held_lent numbers ys from within holding.rows words f (omega arith) holding.held }
 
-  pub asked-lent : (s : Sentinel) (r : VariableRow) (words' : List ℕ) (numbers' : List Float)
+  pub asked_lent : (s : Sentinel) (r : VariableRow) (words' : List ℕ) (numbers' : List Float)
       → ((rows : List (List Element)) → RowsHeld (map (fresh_row s) rows) words after f → AfterVariableRow s rows (gathered columns (drop from after) n) words r words' numbers')
       → (rows : List (List Element)) → RowsHeld (map (fresh_row s) rows) words numbers f → AfterVariableRow s rows row words r words' numbers'
-  asked-lent s r words' numbers' asked rows held =
+  asked_lent s r words' numbers' asked rows held =
       let is : gathered columns (drop from after) n ≡ row = ap (λ (l : List Float). gathered columns l n) (lent_written numbers ys from within) ∙ g.is in
       subst (λ (row : List Element). AfterVariableRow s rows row words r words' numbers') is
-      (asked rows (held-lent numbers ys from within (map (fresh_row s) rows) words f (omega arith) held))
+      (asked rows (held_lent numbers ys from within (map (fresh_row s) rows) words f (omega arith) held))

@@ -10,10 +10,10 @@ use Rattle.laws.proofs.Runs.{map_snoc}
 use Rattle.pywr.specs.declared.Sentinel.{Sentinel}
 use Rattle.pywr.specs.Numbers.{zero64, high}
 use Rattle.pywr.specs.Rows.{Element}
-use Rattle.pywr.specs.VariableRows.{addVariableRow, position}
+use Rattle.pywr.specs.VariableRows.{add_variable_row, position}
 use Rattle.pywr.specs.VaryingRows.{fresh_row}
 use Rattle.pywr.specs.Programme.{Row}
-use Rattle.build_append.specs.LpBuilder.{elementLists, RowsHeld, withinCeilings, AfterRows}
+use Rattle.build_append.specs.LpBuilder.{element_lists, RowsHeld, within_ceilings, AfterRows}
 use Rattle.build_join.specs.VariableRow.{AfterVariableRow}
 use Rattle.build_append.specs.declared.Filled.{Filled}
 use Rattle.build_append.specs.declared.RowsAdded.{RowsAdded}
@@ -21,40 +21,40 @@ use Rattle.build_append.specs.declared.RowsAdded.TheVariants.{Done, Full}
 use Rattle.build_join.specs.declared.VariableRow.{VariableRow}
 use Rattle.build_join.specs.declared.VariableRow.TheVariants.{At}
 
-pub elements-fresh : (s : Sentinel) (rows : List (List Element)) → elementLists (map (fresh_row s) rows) ≡ rows
+pub elements_fresh : (s : Sentinel) (rows : List (List Element)) → element_lists (map (fresh_row s) rows) ≡ rows
 unfolding fresh_row
-elements-fresh s [] = refl
-elements-fresh s (r ∷ rs) = ap (λ (l : List (List Element)). r ∷ l) (elements-fresh s rs)
+elements_fresh s [] = refl
+elements_fresh s (r ∷ rs) = ap (λ (l : List (List Element)). r ∷ l) (elements_fresh s rs)
 
 -- the rows after a row was asked for
-abbrev pub rowsWith : List Element → List (List Element) → List (List Element)
-rowsWith row rows = (addVariableRow row (record { rows = rows; places = [] })).rows
+abbrev pub rows_with : List Element → List (List Element) → List (List Element)
+rows_with row rows = (add_variable_row row (record { rows = rows; places = [] })).rows
 
-pub rows-joined : (row : List Element) (rows : List (List Element)) → position row rows < length rows → rowsWith row rows ≡ rows
-unfolding addVariableRow
-rows-joined row rows h = rw (lt-ltb (position row rows) (length rows) h)
+pub rows_joined : (row : List Element) (rows : List (List Element)) → position row rows < length rows → rows_with row rows ≡ rows
+unfolding add_variable_row
+rows_joined row rows h = rw (lt-ltb (position row rows) (length rows) h)
 
-pub rows_more : (row : List Element) (rows : List (List Element)) → length rows ≤ position row rows → rowsWith row rows ≡ rows ++ (row ∷ [])
-unfolding addVariableRow
+pub rows_more : (row : List Element) (rows : List (List Element)) → length rows ≤ position row rows → rows_with row rows ≡ rows ++ (row ∷ [])
+unfolding add_variable_row
 rows_more row rows h = rw (le-ltb (position row rows) (length rows) h)
 
-at-is : (k j : ℕ) (f g : Filled) → At k f ≡ At j g → (k ≡ j) × (f ≡ g)
-at-is k j f g e = (cc, cc)
+at_is : (k j : ℕ) (f g : Filled) → At k f ≡ At j g → (k ≡ j) × (f ≡ g)
+at_is k j f g e = (cc, cc)
 
 module _ (s : Sentinel) (rows : List (List Element)) (row : List Element) (words : List ℕ) (numbers : List Float) (f : Filled) (k : ℕ)
-    (held : RowsHeld (map (fresh_row s) rows) words numbers f) (at : k ≡ position row (elementLists (map (fresh_row s) rows))) where
+    (held : RowsHeld (map (fresh_row s) rows) words numbers f) (at : k ≡ position row (element_lists (map (fresh_row s) rows))) where
   place : k ≡ position row rows
-  place = at ∙ ap (position row) (elements-fresh s rows)
+  place = at ∙ ap (position row) (elements_fresh s rows)
 
   count : f.rows ≡ length rows
-  count = held.rowCount ∙ length-map rows (fresh_row s)
+  count = held.row_count ∙ length-map rows (fresh_row s)
 
   -- an equal row stands already
-  pub row-joined : k < f.rows → AfterVariableRow s rows row words (At k f) words numbers
-  row-joined h =
+  pub row_joined : k < f.rows → AfterVariableRow s rows row words (At k f) words numbers
+  row_joined h =
       record {
-        place = λ j g e. sym (at-is k j f g e).0 ∙ place;
-        held = λ j g e. rw (rows-joined row rows (omega (arith, place, count))) (subst (RowsHeld (map (fresh_row s) rows) words numbers) (at-is k j f g e).1 held);
+        place = λ j g e. sym (at_is k j f g e).0 ∙ place;
+        held = λ j g e. rw (rows_joined row rows (omega (arith, place, count))) (subst (RowsHeld (map (fresh_row s) rows) words numbers) (at_is k j f g e).1 held);
         full = λ e. absurd (let z : ◌≡◌ {A = ℕ} 0 1 = cc in omega arith);
         kept = refl;
       }
@@ -62,7 +62,7 @@ module _ (s : Sentinel) (rows : List (List Element)) (row : List Element) (words
   -- no equal row stands, and the row was added
   module _ (lower upper : Float) (words' : List ℕ) (numbers' : List Float) (a : RowsAdded) (none : f.rows ≤ k) (el : lower ≡ zero64) (eu : upper ≡ high s)
       (added : AfterRows (map (fresh_row s) rows ++ (record { lower = lower; upper = upper; elements = row } ∷ [])) words a words' numbers') where
-    all : map (fresh_row s) rows ++ (record { lower = lower; upper = upper; elements = row } ∷ []) ≡ map (fresh_row s) (rowsWith row rows)
+    all : map (fresh_row s) rows ++ (record { lower = lower; upper = upper; elements = row } ∷ []) ≡ map (fresh_row s) (rows_with row rows)
     unfolding fresh_row
     all =
         ap (λ (r : Row). map (fresh_row s) rows ++ (r ∷ [])) (λ i. record { lower = el i; upper = eu i; elements = row })
@@ -71,17 +71,17 @@ module _ (s : Sentinel) (rows : List (List Element)) (row : List Element) (words
     pub row_new : (g : Filled) → a ≡ Done g → AfterVariableRow s rows row words (At k g) words' numbers'
     row_new g e =
         record {
-          place = λ j h q. sym (at-is k j g h q).0 ∙ place;
-          held = λ j h q. subst (λ (l : List Row). RowsHeld l words' numbers' h) all (added.held h (e ∙ ap Done (at-is k j g h q).1));
+          place = λ j h q. sym (at_is k j g h q).0 ∙ place;
+          held = λ j h q. subst (λ (l : List Row). RowsHeld l words' numbers' h) all (added.held h (e ∙ ap Done (at_is k j g h q).1));
           full = λ q. absurd (let z : ◌≡◌ {A = ℕ} 0 1 = cc in omega arith);
           kept = added.kept;
         }
 
-    pub row-full : a ≡ Full → AfterVariableRow s rows row words VariableRow.Full words' numbers'
-    row-full e =
+    pub row_full : a ≡ Full → AfterVariableRow s rows row words VariableRow.Full words' numbers'
+    row_full e =
         record {
           place = λ j h q. absurd (let z : ◌≡◌ {A = ℕ} 0 1 = cc in omega arith);
           held = λ j h q. absurd (let z : ◌≡◌ {A = ℕ} 0 1 = cc in omega arith);
-          full = λ q. ap withinCeilings (sym all) ∙ added.full e;
+          full = λ q. ap within_ceilings (sym all) ∙ added.full e;
           kept = added.kept;
         }

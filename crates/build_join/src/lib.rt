@@ -1,11 +1,11 @@
 // A varying row asked for (LpBuilder::add_variable_row of builder.rs): where an equal row stands among the rows made so far, else the row appended.
 // In specs/ and proofs/ also rows asked for in turn, which the makers of varying rows share.
 ghost use Rattle.std.specs.Prelude.{◌≡◌, List, [], map, ◌+◌, ◌<◌, ◌≤◌, length, get_or, drop};
-ghost use Rattle.layout.specs.Layout.{columnCeiling, wordsLength, elementsMadeAt, numbersLength};
-ghost use Rattle.pywr.specs.VariableRows.{sameRow, position};
+ghost use Rattle.layout.specs.Layout.{column_ceiling, words_length, elements_made_at, numbers_length};
+ghost use Rattle.pywr.specs.VariableRows.{same_row, position};
 ghost use Rattle.pywr.specs.Programme.{Row};
 ghost use Rattle.build_row.specs.RowBuilder.{gathered, Rising};
-ghost use Rattle.build_append.specs.LpBuilder.{elementLists, RowsHeld, Holding};
+ghost use Rattle.build_append.specs.LpBuilder.{element_lists, RowsHeld, Holding};
 ghost use Rattle.pywr.specs.Rows.{Element};
 ghost use Rattle.pywr.specs.VaryingRows.{fresh_row};
 ghost use Rattle.build_join.specs.VariableRow.{AfterVariableRow};
@@ -24,9 +24,9 @@ fn same_elements(
     at: usize,
     from: usize,
 ) -> bool
-    requires { (at + n ≤ length words.now) × (elementsMadeAt + at + n ≤ length numbers.now) × (n ≤ length columns.now) × (elementsMadeAt + from + n ≤ length numbers.now) }
-    ensures { result ≡ sameRow (gathered (drop at words.now) (drop (elementsMadeAt + at) numbers.now) n)
-        (gathered columns.now (drop (elementsMadeAt + from) numbers.now) n) }
+    requires { (at + n ≤ length words.now) × (elements_made_at + at + n ≤ length numbers.now) × (n ≤ length columns.now) × (elements_made_at + from + n ≤ length numbers.now) }
+    ensures { result ≡ same_row (gathered (drop at words.now) (drop (elements_made_at + at) numbers.now) n)
+        (gathered columns.now (drop (elements_made_at + from) numbers.now) n) }
 {
     let mut i: usize = 0;
     while i < n {
@@ -50,9 +50,9 @@ fn same_row(
     f: Filled,
     k: usize,
 ) -> bool
-    requires { WorkRoom words.now numbers.now × (n ≤ columnCeiling) × (n ≤ length columns.now) × (k < f.rows) × Holding words.now numbers.now f }
+    requires { WorkRoom words.now numbers.now × (n ≤ column_ceiling) × (n ≤ length columns.now) × (k < f.rows) × Holding words.now numbers.now f }
     ensures { (rows : List Row) → RowsHeld rows words.now numbers.now f
-        → result ≡ sameRow (get_or (elementLists rows) k []) (gathered columns.now (drop (elementsMadeAt + f.elements) numbers.now) n) }
+        → result ≡ same_row (get_or (element_lists rows) k []) (gathered columns.now (drop (elements_made_at + f.elements) numbers.now) n) }
 {
     let from = f.elements;
     let at = widths::wide16(words[STARTS_MADE_AT + k]);
@@ -71,9 +71,9 @@ pub fn position(
     n: usize,
     f: Filled,
 ) -> usize
-    requires { WorkRoom words.now numbers.now × (n ≤ columnCeiling) × Holding words.now numbers.now f }
+    requires { WorkRoom words.now numbers.now × (n ≤ column_ceiling) × Holding words.now numbers.now f }
     ensures { (rows : List Row) → RowsHeld rows words.now numbers.now f
-        → result ≡ position (gathered columns.now (drop (elementsMadeAt + f.elements) numbers.now) n) (elementLists rows) }
+        → result ≡ position (gathered columns.now (drop (elements_made_at + f.elements) numbers.now) n) (element_lists rows) }
 {
     let run: &[ColumnNumber] = columns;
     let rows = f.rows;
@@ -103,9 +103,9 @@ pub fn add_variable_row(
     f: Filled,
     sentinel: pywr::Sentinel,
 ) -> VariableRow
-    requires { WorkRoom words.old numbers.old × (n ≤ columnCeiling) × Rising columns.now n × Holding words.old numbers.old f }
+    requires { WorkRoom words.old numbers.old × (n ≤ column_ceiling) × Rising columns.now n × Holding words.old numbers.old f }
     ensures { (rows : List (List Element)) → RowsHeld (map (fresh_row sentinel) rows) words.old numbers.old f
-        → AfterVariableRow sentinel rows (gathered columns.now (drop (elementsMadeAt + f.elements) numbers.old) n)
+        → AfterVariableRow sentinel rows (gathered columns.now (drop (elements_made_at + f.elements) numbers.old) n)
         words.old result words.new numbers.new }
 {
     let rows = f.rows;

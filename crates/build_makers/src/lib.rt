@@ -2,15 +2,15 @@
 ghost use Rattle.std.specs.Prelude.{◌≡◌, ◌+◌, ◌-◌, ◌*◌, ◌≤◌, length, replicate};
 ghost use mathlib.Core.List.{[], ◌∷◌, flat_map};
 ghost use Rattle.std.proofs.lemmas.List.Edits.{sets};
-ghost use Rattle.layout.specs.Layout.{rowCeiling, packedShapeLength, makersPackedAt, makerWidth};
-ghost use Rattle.pywr.specs.Written.{makerWords};
+ghost use Rattle.layout.specs.Layout.{row_ceiling, packed_shape_length, makers_packed_at, maker_width};
+ghost use Rattle.pywr.specs.Written.{maker_words};
 
 use layout::{MAKER_INDEX, MAKER_SHARED_BY, MAKER_WIDTH, MAKERS_PACKED_AT};
 
 // The entry of one row.
 pub fn put_maker(shape: &mut [u16], row: usize, kind: u16, index: u16, shared_by: u16)
-    requires { makersPackedAt + makerWidth * row + makerWidth ≤ length shape.old }
-    ensures { shape.new ≡ sets shape.old (makersPackedAt + makerWidth * row) (kind ∷ index ∷ shared_by ∷ []) }
+    requires { makers_packed_at + maker_width * row + maker_width ≤ length shape.old }
+    ensures { shape.new ≡ sets shape.old (makers_packed_at + maker_width * row) (kind ∷ index ∷ shared_by ∷ []) }
 {
     let at = MAKERS_PACKED_AT + MAKER_WIDTH * row;
     shape[at] = kind;
@@ -27,9 +27,9 @@ pub fn put_makers(
     index: u16,
     shared_by: u16,
 )
-    requires { (first ≤ end) × (end ≤ rowCeiling) × (packedShapeLength ≤ length shape.old) }
-    ensures { shape.new ≡ sets shape.old (makersPackedAt + makerWidth * first)
-        (flat_map makerWords (replicate (end - first) (record { kind = kind; index = index; sharedBy = shared_by }))) }
+    requires { (first ≤ end) × (end ≤ row_ceiling) × (packed_shape_length ≤ length shape.old) }
+    ensures { shape.new ≡ sets shape.old (makers_packed_at + maker_width * first)
+        (flat_map maker_words (replicate (end - first) (record { kind = kind; index = index; shared_by = shared_by }))) }
 {
     let mut row = first;
     while row < end {

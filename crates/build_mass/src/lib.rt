@@ -1,19 +1,19 @@
 // The mass rows of the links (SolverBuilder::create_mass_balance_constraints of builder.rs).
 ghost use Rattle.std.specs.Prelude.{ℕ, ◌<◌, ◌≤◌, List, [], ◌∷◌, ◌++◌, length};
 ghost use Rattle.std.specs.Float.Ieee.{neg};
-ghost use Rattle.layout.specs.Layout.{edgeCeiling, columnCeiling};
+ghost use Rattle.layout.specs.Layout.{edge_ceiling, column_ceiling};
 ghost use Rattle.laws.specs.Linked.{Linked};
 ghost use Rattle.pywr.specs.Numbers.{one64};
-ghost use Rattle.pywr.specs.Rows.{addOn, columnMap};
-ghost use Rattle.pywr.specs.FixedRows.{massRowsFrom};
+ghost use Rattle.pywr.specs.Rows.{add_on, column_map};
+ghost use Rattle.pywr.specs.FixedRows.{mass_rows_from};
 ghost use Rattle.pywr.specs.Programme.{Row, Maker};
-ghost use Rattle.pywr.specs.Makers.{massMakers};
-ghost use Rattle.network_node.specs.Node.{nodeAt, nodePlace};
-ghost use Rattle.build_row.specs.EdgeList.{columnsOf, ListedEdges};
+ghost use Rattle.pywr.specs.Makers.{mass_makers};
+ghost use Rattle.network_node.specs.Node.{node_at, node_place};
+ghost use Rattle.build_row.specs.EdgeList.{columns_of, ListedEdges};
 ghost use Rattle.build_append.specs.LpBuilder.{RowsHeld, Holding, AfterRows};
 ghost use Rattle.build_makers.specs.MadeRows.{MadeHeld, MadeHolding, AfterMade};
 ghost use Rattle.build_row.specs.Gathered.{Gathered};
-ghost use Rattle.build_node_row.specs.Tables.{networkOf, EdgeTables};
+ghost use Rattle.build_node_row.specs.Tables.{network_of, EdgeTables};
 ghost use Rattle.layout.specs.WorkRoom.{WorkRoom};
 
 use build_append::{Filled, RowsAdded};
@@ -33,9 +33,9 @@ fn mass_row(
     columns: &mut [ColumnNumber; COLUMN_CEILING],
     elements: &mut [f64],
 ) -> usize
-    requires { (columnCeiling ≤ length elements.old) × ListedEdges next_in.now edge_to_col.now first_in × ListedEdges next_out.now edge_to_col.now first_out }
-    ensures { (into out : List ℕ) → Linked edgeCeiling next_in.now first_in into → Linked edgeCeiling next_out.now first_out out
-        → Gathered (addOn (columnsOf edge_to_col.now out) (neg one64) (addOn (columnsOf edge_to_col.now into) one64 []))
+    requires { (column_ceiling ≤ length elements.old) × ListedEdges next_in.now edge_to_col.now first_in × ListedEdges next_out.now edge_to_col.now first_out }
+    ensures { (into out : List ℕ) → Linked edge_ceiling next_in.now first_in into → Linked edge_ceiling next_out.now first_out out
+        → Gathered (add_on (columns_of edge_to_col.now out) (neg one64) (add_on (columns_of edge_to_col.now into) one64 []))
         columns.new elements.new result }
 {
     let n = build_row::add_columns(next_in, edge_to_col, first_in, 1.0, columns, elements, 0);
@@ -60,7 +60,7 @@ fn add_mass_row(
     requires { EdgeTables s.now c first_in.now next_in.now first_out.now next_out.now edge_to_col.now × (node.0 < c.nodes)
         × WorkRoom words.old numbers.old × Holding words.old numbers.old f }
     ensures { (rows : List Row) → RowsHeld rows words.old numbers.old f
-        → AfterRows (rows ++ massRowsFrom (columnMap (networkOf s.now c)) node.0 (nodeAt s.now (nodePlace node.0) ∷ []))
+        → AfterRows (rows ++ mass_rows_from (column_map (network_of s.now c)) node.0 (node_at s.now (node_place node.0) ∷ []))
         words.old result words.new numbers.new }
 {
     if network_node::kind(s, node) != 2 {
@@ -112,8 +112,8 @@ pub fn create_mass_balance_constraints(
     requires { EdgeTables s.now c first_in.now next_in.now first_out.now next_out.now edge_to_col.now
         × WorkRoom words.old numbers.old × MadeHolding words.old numbers.old f }
     ensures { (rows : List Row) (makers : List Maker) → MadeHeld rows makers words.old numbers.old f
-        → AfterMade (rows ++ massRowsFrom (columnMap (networkOf s.now c)) 0 (networkOf s.now c).nodes)
-        (makers ++ massMakers (columnMap (networkOf s.now c)) 0 (networkOf s.now c).nodes)
+        → AfterMade (rows ++ mass_rows_from (column_map (network_of s.now c)) 0 (network_of s.now c).nodes)
+        (makers ++ mass_makers (column_map (network_of s.now c)) 0 (network_of s.now c).nodes)
         words.old result words.new numbers.new }
 {
     let nodes = c.nodes;

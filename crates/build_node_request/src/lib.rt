@@ -1,11 +1,11 @@
 // One node's request for one row: its own row, or its row with a set's column.
 ghost use Rattle.std.specs.Prelude.{◌≡◌, List, [], ◌∷◌, ◌++◌, ◌<◌, ◌≤◌, length};
-ghost use Rattle.layout.specs.Layout.{setCeiling, columnCeiling, nodeRowCeiling, wordsLength, numbersLength};
-ghost use Rattle.pywr.specs.Rows.{columnMap, addElement, addNode, nodeRow};
+ghost use Rattle.layout.specs.Layout.{set_ceiling, column_ceiling, node_row_ceiling, words_length, numbers_length};
+ghost use Rattle.pywr.specs.Rows.{column_map, add_element, add_node, node_row};
 ghost use Rattle.pywr.specs.Programme.{RowType, continuous};
 ghost use Rattle.pywr.specs.VaryingRows.{RowRequest};
-ghost use Rattle.pywr.specs.Written.{rowTypeWord};
-ghost use Rattle.build_node_row.specs.Tables.{networkOf, EdgeTables};
+ghost use Rattle.pywr.specs.Written.{row_type_word};
+ghost use Rattle.build_node_row.specs.Tables.{network_of, EdgeTables};
 ghost use Rattle.build_node_table.specs.NodeTable.{NodeRowsHeld, NodeRowsHolding, AfterRequests};
 ghost use Rattle.layout.specs.WorkRoom.{WorkRoom};
 
@@ -34,9 +34,9 @@ pub fn request_node_row(
     rows: NodeRows,
 ) -> NodeRowsAdded
     requires { EdgeTables s.now c first_in.now next_in.now first_out.now next_out.now edge_to_col.now × (node.0 < c.nodes)
-        × WorkRoom words.old numbers.old × NodeRowsHolding sentinel words.old numbers.old rows × (rows.count < nodeRowCeiling) }
+        × WorkRoom words.old numbers.old × NodeRowsHolding sentinel words.old numbers.old rows × (rows.count < node_row_ceiling) }
     ensures { (asks : List RowRequest) → NodeRowsHeld sentinel asks words.old numbers.old rows
-        → AfterRequests sentinel (asks ++ (record { node = node.0; rowType = continuous; set = 0; row = nodeRow (columnMap (networkOf s.now c)) node.0 } ∷ []))
+        → AfterRequests sentinel (asks ++ (record { node = node.0; row_type = continuous; set = 0; row = node_row (column_map (network_of s.now c)) node.0 } ∷ []))
         result words.new numbers.new }
 {
     let f = rows.filled;
@@ -81,11 +81,11 @@ pub fn request_bounded_row(
     columns: &mut [ColumnNumber; COLUMN_CEILING],
     rows: NodeRows,
 ) -> NodeRowsAdded
-    requires { EdgeTables s.now c first_in.now next_in.now first_out.now next_out.now edge_to_col.now × (node.0 < c.nodes) × (column.0 < columnCeiling)
-        × (set < setCeiling) × (row_type < 3) × WorkRoom words.old numbers.old × NodeRowsHolding sentinel words.old numbers.old rows × (rows.count < nodeRowCeiling) }
-    ensures { (t : RowType) → rowTypeWord t ≡ row_type → (asks : List RowRequest) → NodeRowsHeld sentinel asks words.old numbers.old rows
+    requires { EdgeTables s.now c first_in.now next_in.now first_out.now next_out.now edge_to_col.now × (node.0 < c.nodes) × (column.0 < column_ceiling)
+        × (set < set_ceiling) × (row_type < 3) × WorkRoom words.old numbers.old × NodeRowsHolding sentinel words.old numbers.old rows × (rows.count < node_row_ceiling) }
+    ensures { (t : RowType) → row_type_word t ≡ row_type → (asks : List RowRequest) → NodeRowsHeld sentinel asks words.old numbers.old rows
         → AfterRequests sentinel
-        (asks ++ (record { node = node.0; rowType = t; set = set; row = addElement column.0 coefficient (addNode (columnMap (networkOf s.now c)) node.0 factor []) } ∷ []))
+        (asks ++ (record { node = node.0; row_type = t; set = set; row = add_element column.0 coefficient (add_node (column_map (network_of s.now c)) node.0 factor []) } ∷ []))
         result words.new numbers.new }
 {
     let f = rows.filled;

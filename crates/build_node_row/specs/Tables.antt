@@ -1,39 +1,39 @@
 -- What rows are made from: an accepted network file with its counts, the edges of each node, the column of each edge, and the exclusive sets. Assumes nothing.
 use Rattle.std.specs.Prelude.{◌≡◌, ℕ, ◌<◌, List, get_or}
-use Rattle.layout.specs.Layout.{nodeCeiling, membershipCeiling}
+use Rattle.layout.specs.Layout.{node_ceiling, membership_ceiling}
 use Rattle.laws.specs.Linked.{Linked}
 use Rattle.pywr.specs.Result.{value}
 use Rattle.pywr.specs.Network.{Network, source, target}
-use Rattle.pywr.specs.NetworkFile.{parseNetwork}
+use Rattle.pywr.specs.NetworkFile.{parse_network}
 use Rattle.pywr.specs.ColEdgeMap.{columns}
-use Rattle.pywr.specs.ExclusiveSets.{exclusiveSets}
-use Rattle.network_laws.specs.NetworkAt.{networkAt}
+use Rattle.pywr.specs.ExclusiveSets.{exclusive_sets}
+use Rattle.network_laws.specs.NetworkAt.{network_at}
 use Rattle.network_laws.specs.Sections.{Sections}
 use Rattle.network_record.specs.declared.Counts.{Counts}
 use Rattle.build_incident_edges.specs.IncidentEdges.{EdgesListed}
 use Rattle.build_col_edge_map.specs.Mapped.{Mapped}
-use Rattle.build_exclusive_sets.specs.Sets.{setsAt, SetsFit, membershipsOf}
+use Rattle.build_exclusive_sets.specs.Sets.{sets_at, SetsFit, memberships_of}
 
 -- the network of a file with these counts
-abbrev pub networkOf : List ℕ → Counts → Network
-networkOf file c = networkAt file c.nodes c.edges c.aggregates c.virtual_storages
+abbrev pub network_of : List ℕ → Counts → Network
+network_of file c = network_at file c.nodes c.edges c.aggregates c.virtual_storages
 
 -- an accepted file, and the tables made from it
-pub record EdgeTables (file : List ℕ) (c : Counts) (firstIn nextIn firstOut nextOut edgeToCol : List ℕ) : Type 0 where
-  pub parsed : parseNetwork file ≡ value (networkOf file c)
+pub record EdgeTables (file : List ℕ) (c : Counts) (first_in next_in first_out next_out edge_to_col : List ℕ) : Type 0 where
+  pub parsed : parse_network file ≡ value (network_of file c)
   pub sections : Sections file c.nodes c.edges c.aggregates c.virtual_storages c.virtual_storages_at
-  pub into : EdgesListed target file c.nodes c.edges firstIn nextIn
-  pub out_of : EdgesListed source file c.nodes c.edges firstOut nextOut
-  pub mapped : Mapped (columns (networkOf file c)) edgeToCol (columns (networkOf file c)).count
+  pub into : EdgesListed target file c.nodes c.edges first_in next_in
+  pub out_of : EdgesListed source file c.nodes c.edges first_out next_out
+  pub mapped : Mapped (columns (network_of file c)) edge_to_col (columns (network_of file c)).count
 
--- the distinct exclusive sets by the offsets of their records, and of each node its memberships: membership setSizeCeiling * k + i is member i of the set numbered k
-pub record SetTables (file : List ℕ) (c : Counts) (setAt : List ℕ) (sets : ℕ) (firstMembership nextMembership : List ℕ) : Type 0 where
-  pub held : setsAt file setAt sets ≡ exclusiveSets (networkOf file c)
-  pub fit : SetsFit file setAt sets
-  pub listed : (n : ℕ) → n < nodeCeiling → Linked membershipCeiling nextMembership (get_or firstMembership n 0) (membershipsOf n 0 (setsAt file setAt sets))
+-- the distinct exclusive sets by the offsets of their records, and of each node its memberships: membership set_size_ceiling * k + i is member i of the set numbered k
+pub record SetTables (file : List ℕ) (c : Counts) (aggregate_set_at : List ℕ) (sets : ℕ) (first_membership next_membership : List ℕ) : Type 0 where
+  pub held : sets_at file aggregate_set_at sets ≡ exclusive_sets (network_of file c)
+  pub fit : SetsFit file aggregate_set_at sets
+  pub listed : (n : ℕ) → n < node_ceiling → Linked membership_ceiling next_membership (get_or first_membership n 0) (memberships_of n 0 (sets_at file aggregate_set_at sets))
 
 -- the memberships alone
-pub record MembershipTables (file : List ℕ) (c : Counts) (firstMembership nextMembership : List ℕ) : Type 0 where
-  pub setAt : List ℕ
+pub record MembershipTables (file : List ℕ) (c : Counts) (first_membership next_membership : List ℕ) : Type 0 where
+  pub aggregate_set_at : List ℕ
   pub sets : ℕ
-  pub tables : SetTables file c setAt sets firstMembership nextMembership
+  pub tables : SetTables file c aggregate_set_at sets first_membership next_membership

@@ -1,11 +1,11 @@
 // A node added to a row (SolverBuilder::add_node of builder.rs), and the row of a node with a coefficient on a set's column.
 // In specs/ the tables that rows are made from.
 ghost use Rattle.std.specs.Prelude.{◌≡◌, ℕ, ◌<◌, ◌≤◌, length, []};
-ghost use Rattle.layout.specs.Layout.{columnCeiling};
+ghost use Rattle.layout.specs.Layout.{column_ceiling};
 ghost use Rattle.build_row.specs.RowBuilder.{Rising};
-ghost use Rattle.build_node_row.specs.Tables.{EdgeTables, networkOf};
+ghost use Rattle.build_node_row.specs.Tables.{EdgeTables, network_of};
 ghost use Rattle.build_node_row.specs.NodeAdded.{NodeAdded};
-ghost use Rattle.pywr.specs.Rows.{columnMap, addElement, addNode};
+ghost use Rattle.pywr.specs.Rows.{column_map, add_element, add_node};
 ghost use Rattle.build_row.specs.Gathered.{Gathered};
 
 use layout::{COLUMN_CEILING, EDGE_CEILING, NODE_CEILING};
@@ -28,7 +28,7 @@ pub fn add_node(
     n: usize,
 ) -> usize
     requires { EdgeTables s.now c first_in.now next_in.now first_out.now next_out.now edge_to_col.now × (node.0 < c.nodes)
-        × (n ≤ columnCeiling) × (columnCeiling ≤ length elements.old) × Rising columns.old n }
+        × (n ≤ column_ceiling) × (column_ceiling ≤ length elements.old) × Rising columns.old n }
     ensures { NodeAdded s.now c node.0 factor columns.old elements.old n columns.new elements.new result }
 {
     let k = widths::wide16(node.0);
@@ -92,8 +92,8 @@ pub fn bounded_row(
     elements: &mut [f64],
 ) -> usize
     requires { EdgeTables s.now c first_in.now next_in.now first_out.now next_out.now edge_to_col.now × (node.0 < c.nodes)
-        × (column.0 < columnCeiling) × (columnCeiling ≤ length elements.old) }
-    ensures { Gathered (addElement column.0 coefficient (addNode (columnMap (networkOf s.now c)) node.0 factor [])) columns.new elements.new result }
+        × (column.0 < column_ceiling) × (column_ceiling ≤ length elements.old) }
+    ensures { Gathered (add_element column.0 coefficient (add_node (column_map (network_of s.now c)) node.0 factor [])) columns.new elements.new result }
 {
     let n = add_node(
         s,

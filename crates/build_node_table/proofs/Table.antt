@@ -10,147 +10,147 @@ use lib.Seq.{sets}
 use lib.Ieee.{Float}
 use borrow.Author.Tests.{ltb-true}
 use borrow.Rule.Slice.PartMut.{put_mid}
-use Rattle.layout.specs.Layout.{nodeRowsAt, nodeRowsMadeAt, numbersLength, shapeMadeAt}
-use Rattle.layout.specs.PackedNodeRow.{packedNodeRow, unpackedNodeRows}
-use Rattle.layout.proofs.PackedLaws.{unpacked-row, unpacked-append}
+use Rattle.layout.specs.Layout.{node_rows_at, node_rows_made_at, numbers_length, shape_made_at}
+use Rattle.layout.specs.PackedNodeRow.{packed_node_row, unpacked_node_rows}
+use Rattle.layout.proofs.PackedLaws.{unpacked_row, unpacked_append}
 use Rattle.laws.specs.Part.{part}
-use Rattle.laws.proofs.Sets.{part_same, part-before, length_part}
-use Rattle.laws.proofs.Tails.{tail, putTail, tail_written}
+use Rattle.laws.proofs.Sets.{part_same, part_before, length_part}
+use Rattle.laws.proofs.Tails.{tail, put_tail, tail_written}
 use Rattle.pywr.specs.declared.Sentinel.{Sentinel}
 use Rattle.pywr.specs.Rows.{Element}
-use Rattle.pywr.specs.VariableRows.{Joined, position, addVariableRow}
+use Rattle.pywr.specs.VariableRows.{Joined, position, add_variable_row}
 use Rattle.pywr.specs.VaryingRows.{RowRequest, fresh_row}
 use Rattle.pywr.specs.Programme.{Row, RowType}
-use Rattle.pywr.specs.Build.{placedNodeRows}
-use Rattle.pywr.specs.Written.{nodeRowWords, rowTypeWord}
-use Rattle.pywr.proofs.JoinLaws.{position-most}
+use Rattle.pywr.specs.Build.{placed_node_rows}
+use Rattle.pywr.specs.Written.{node_row_words, row_type_word}
+use Rattle.pywr.proofs.JoinLaws.{position_most}
 use Rattle.build_row.specs.RowBuilder.{gathered}
 use Rattle.build_append.specs.declared.Filled.{Filled}
 use Rattle.build_join.specs.declared.VariableRow.{VariableRow}
 use Rattle.build_join.specs.declared.VariableRow.TheVariants.{At}
-use Rattle.build_append.specs.LpBuilder.{RowsHeld, withinCeilings}
+use Rattle.build_append.specs.LpBuilder.{RowsHeld, within_ceilings}
 use Rattle.build_join.specs.VariableRow.{AfterVariableRow}
-use Rattle.build_append.proofs.RowLaws.{part-behind, part-more, flat-snoc}
-use Rattle.build_append.proofs.RowsHeldLaws.{held-few, held-agrees, held-lent, lent_written}
+use Rattle.build_append.proofs.RowLaws.{part_behind, part_more, flat_snoc}
+use Rattle.build_append.proofs.RowsHeldLaws.{held_few, held_agrees, held_lent, lent_written}
 use Rattle.build_node_table.specs.NodeTable.{joined, NodeRowsHeld, AfterRequests}
 use Rattle.build_node_table.specs.declared.NodeRows.{NodeRows}
 use Rattle.build_node_table.specs.declared.NodeRowsAdded.{NodeRowsAdded}
 use Rattle.build_node_table.specs.declared.NodeRowsAdded.TheVariants.{Done, Full}
-use Rattle.build_node_table.proofs.Requests.{joined-more, joined-places, placed_at, placed_snoc, over-later}
+use Rattle.build_node_table.proofs.Requests.{joined_more, joined_places, placed_at, placed_snoc, over_later}
 
 -- two words stored one behind the other
-pub two-words : (l : List ℕ) (at a b : ℕ) → set (set l at a) (at + 1) b ≡ sets l at (a ∷ b ∷ [])
-two-words l at a b = let one : at + 1 ≡ suc at = omega arith in rw one
+pub two_words : (l : List ℕ) (at a b : ℕ) → set (set l at a) (at + 1) b ≡ sets l at (a ∷ b ∷ [])
+two_words l at a b = let one : at + 1 ≡ suc at = omega arith in rw one
 
-held-sets : (rows : List Row) (words : List ℕ) (numbers : List Float) (f : Filled) (b : ℕ) (vs : List ℕ) → shapeMadeAt ≤ b → RowsHeld rows words numbers f → RowsHeld rows (sets words b vs) numbers f
-held-sets rows words numbers f b vs hb h = held-agrees rows words (sets words b vs) numbers numbers f h (part-before words vs b 0 shapeMadeAt (omega arith)) refl
+held_sets : (rows : List Row) (words : List ℕ) (numbers : List Float) (f : Filled) (b : ℕ) (vs : List ℕ) → shape_made_at ≤ b → RowsHeld rows words numbers f → RowsHeld rows (sets words b vs) numbers f
+held_sets rows words numbers f b vs hb h = held_agrees rows words (sets words b vs) numbers numbers f h (part_before words vs b 0 shape_made_at (omega arith)) refl
 
 -- ---- the answer's two cases
 
-done-is : (r r' : NodeRows) → Done r ≡ Done r' → r ≡ r'
-done-is r r' e = cc
+done_is : (r r' : NodeRows) → Done r ≡ Done r' → r ≡ r'
+done_is r r' e = cc
 
-pub requests-done : (s : Sentinel) (asks : List RowRequest) (words : List ℕ) (numbers : List Float) (r : NodeRows) → NodeRowsHeld s asks words numbers r
+pub requests_done : (s : Sentinel) (asks : List RowRequest) (words : List ℕ) (numbers : List Float) (r : NodeRows) → NodeRowsHeld s asks words numbers r
     → AfterRequests s asks (Done r) words numbers
-requests-done s asks words numbers r h =
-    record { done = λ r' e. subst (NodeRowsHeld s asks words numbers) (done-is r r' e) h; full = λ e. absurd (let z : ◌≡◌ {A = ℕ} 0 1 = cc in omega arith) }
+requests_done s asks words numbers r h =
+    record { done = λ r' e. subst (NodeRowsHeld s asks words numbers) (done_is r r' e) h; full = λ e. absurd (let z : ◌≡◌ {A = ℕ} 0 1 = cc in omega arith) }
 
-requests-full : (s : Sentinel) (asks : List RowRequest) (words : List ℕ) (numbers : List Float) → withinCeilings (map (fresh_row s) (joined asks).rows) ≡ false
+requests_full : (s : Sentinel) (asks : List RowRequest) (words : List ℕ) (numbers : List Float) → within_ceilings (map (fresh_row s) (joined asks).rows) ≡ false
     → AfterRequests s asks Full words numbers
-requests-full s asks words numbers over = record { done = λ r' e. absurd (let z : ◌≡◌ {A = ℕ} 0 1 = cc in omega arith); full = λ e. over }
+requests_full s asks words numbers over = record { done = λ r' e. absurd (let z : ◌≡◌ {A = ℕ} 0 1 = cc in omega arith); full = λ e. over }
 
 -- ---- a row is asked for
 
 -- the row asked for is one of the rows
-place-under : (row : List Element) (rows : List (List Element)) → position row rows < length (addVariableRow row (record { rows = rows; places = [] })).rows
-unfolding addVariableRow
-place-under row rows = go (ltb (position row rows) (length rows)) refl
+place_under : (row : List Element) (rows : List (List Element)) → position row rows < length (add_variable_row row (record { rows = rows; places = [] })).rows
+unfolding add_variable_row
+place_under row rows = go (ltb (position row rows) (length rows)) refl
   where
     go : (b : Bool) → ltb (position row rows) (length rows) ≡ b → position row rows < length (cond b rows (rows ++ (row ∷ [])))
     go true e = ltb-true (position row rows) (length rows) e
-    go false e = omega (arith, position-most row rows, length-append rows (row ∷ []))
+    go false e = omega (arith, position_most row rows, length-append rows (row ∷ []))
 
-pub place-fits : (s : Sentinel) (rows : List (List Element)) (row : List Element) (words : List ℕ) (v : VariableRow) (words₁ : List ℕ) (numbers₁ : List Float)
+pub place_fits : (s : Sentinel) (rows : List (List Element)) (row : List Element) (words : List ℕ) (v : VariableRow) (words₁ : List ℕ) (numbers₁ : List Float)
     → AfterVariableRow s rows row words v words₁ numbers₁ → (k : ℕ) (g : Filled) → v ≡ At k g → k < 1024
-place-fits s rows row words v words₁ numbers₁ after k g e =
-    let more : List (List Element) = (addVariableRow row (record { rows = rows; places = [] })).rows in
-    omega (arith, after.place k g e, place-under row rows, (after.held k g e).fewRows, length-map more (fresh_row s))
+place_fits s rows row words v words₁ numbers₁ after k g e =
+    let more : List (List Element) = (add_variable_row row (record { rows = rows; places = [] })).rows in
+    omega (arith, after.place k g e, place_under row rows, (after.held k g e).few_rows, length-map more (fresh_row s))
 
 module _ (s : Sentinel) (asks : List RowRequest) (a : RowRequest) (words : List ℕ) (numbers : List Float) (r : NodeRows) (v : VariableRow) (words₁ : List ℕ) (numbers₁ : List Float)
     (h : NodeRowsHeld s asks words numbers r) (after : AfterVariableRow s (joined asks).rows a.row words v words₁ numbers₁) where
-  rows_are : (addVariableRow a.row (record { rows = (joined asks).rows; places = [] })).rows ≡ (joined (asks ++ (a ∷ []))).rows
-  unfolding addVariableRow
-  rows_are = sym (ap (λ (j : Joined). j.rows) (joined-more asks a))
+  rows_are : (add_variable_row a.row (record { rows = (joined asks).rows; places = [] })).rows ≡ (joined (asks ++ (a ∷ []))).rows
+  unfolding add_variable_row
+  rows_are = sym (ap (λ (j : Joined). j.rows) (joined_more asks a))
 
-  pub row-full : v ≡ VariableRow.Full → AfterRequests s (asks ++ (a ∷ [])) Full words₁ numbers₁
-  row-full e = requests-full s (asks ++ (a ∷ [])) words₁ numbers₁ (rw rows_are at (after.full e))
+  pub row_full : v ≡ VariableRow.Full → AfterRequests s (asks ++ (a ∷ [])) Full words₁ numbers₁
+  row_full e = requests_full s (asks ++ (a ∷ [])) words₁ numbers₁ (rw rows_are at (after.full e))
 
   module _ (k : ℕ) (f : Filled) (e : v ≡ At k f) where
-    placed : placedNodeRows (asks ++ (a ∷ [])) (joined (asks ++ (a ∷ []))).places ≡ placedNodeRows asks (joined asks).places ++ (placed_at a k ∷ [])
-    unfolding addVariableRow
+    placed : placed_node_rows (asks ++ (a ∷ [])) (joined (asks ++ (a ∷ []))).places ≡ placed_node_rows asks (joined asks).places ++ (placed_at a k ∷ [])
+    unfolding add_variable_row
     placed =
-        ap (λ (j : Joined). placedNodeRows (asks ++ (a ∷ [])) j.places) (joined-more asks a)
-        ∙ ap (λ (p : ℕ). placedNodeRows (asks ++ (a ∷ [])) ((joined asks).places ++ (p ∷ []))) (sym (after.place k f e))
-        ∙ placed_snoc asks (joined asks).places a k (joined-places asks)
+        ap (λ (j : Joined). placed_node_rows (asks ++ (a ∷ [])) j.places) (joined_more asks a)
+        ∙ ap (λ (p : ℕ). placed_node_rows (asks ++ (a ∷ [])) ((joined asks).places ++ (p ∷ []))) (sym (after.place k f e))
+        ∙ placed_snoc asks (joined asks).places a k (joined_places asks)
 
     -- the shape run's words come back as `shape`, with the entry
-    pub row-placed : (w t : ℕ) (shape : List ℕ) → w ≡ k → rowTypeWord a.rowType ≡ t → a.node < 256 → nodeRowsMadeAt + 2 * r.count + 2 ≤ length words₁
-        → shape ≡ sets (tail shapeMadeAt words₁) (nodeRowsAt + 2 * r.count) (packedNodeRow a.node w t a.set)
-        → AfterRequests s (asks ++ (a ∷ [])) (Done (record { filled = f; count = r.count + 1 })) (putTail shapeMadeAt words₁ shape) numbers₁
-    unfolding nodeRowWords
-    row-placed w t shape ew et under room written =
-        let entry : List ℕ = packedNodeRow a.node k (rowTypeWord a.rowType) a.set in
-        let b : ℕ = nodeRowsMadeAt + 2 * r.count in
-        let words₂ : List ℕ = putTail shapeMadeAt words₁ shape in
-        let is : words₂ ≡ sets words₁ b entry = tail_written shapeMadeAt words₁ (nodeRowsAt + 2 * r.count) b shape entry (omega arith) (written ∙ rw (ew, ← et)) in
+    pub row_placed : (w t : ℕ) (shape : List ℕ) → w ≡ k → row_type_word a.row_type ≡ t → a.node < 256 → node_rows_made_at + 2 * r.count + 2 ≤ length words₁
+        → shape ≡ sets (tail shape_made_at words₁) (node_rows_at + 2 * r.count) (packed_node_row a.node w t a.set)
+        → AfterRequests s (asks ++ (a ∷ [])) (Done (record { filled = f; count = r.count + 1 })) (put_tail shape_made_at words₁ shape) numbers₁
+    unfolding node_row_words
+    row_placed w t shape ew et under room written =
+        let entry : List ℕ = packed_node_row a.node k (row_type_word a.row_type) a.set in
+        let b : ℕ = node_rows_made_at + 2 * r.count in
+        let words₂ : List ℕ = put_tail shape_made_at words₁ shape in
+        let is : words₂ ≡ sets words₁ b entry = tail_written shape_made_at words₁ (node_rows_at + 2 * r.count) b shape entry (omega arith) (written ∙ rw (ew, ← et)) in
         let two : 2 * r.count + 2 ≡ 2 * (r.count + 1) = omega arith in
-        let before : List ℕ = part nodeRowsMadeAt (2 * r.count) words₁ in
-        requests-done s (asks ++ (a ∷ [])) words₂ numbers₁ (record { filled = f; count = r.count + 1 })
+        let before : List ℕ = part node_rows_made_at (2 * r.count) words₁ in
+        requests_done s (asks ++ (a ∷ [])) words₂ numbers₁ (record { filled = f; count = r.count + 1 })
         (rw is
         (record {
-          held = held-sets (map (fresh_row s) (joined (asks ++ (a ∷ []))).rows) words₁ numbers₁ f b entry (omega arith) (rw rows_are at (after.held k f e));
+          held = held_sets (map (fresh_row s) (joined (asks ++ (a ∷ []))).rows) words₁ numbers₁ f b entry (omega arith) (rw rows_are at (after.held k f e));
           counted = sym (length-append asks (a ∷ []) ∙ ap (λ (n : ℕ). n + 1) (sym h.counted));
           table =
-              ap unpackedNodeRows
-              (part-more (sets words₁ b entry) before entry nodeRowsMadeAt (2 * r.count) b 2 (2 * (r.count + 1)) refl two
-              (part-before words₁ entry b nodeRowsMadeAt (2 * r.count) (omega arith)) (part_same words₁ entry b 2 refl room))
-              ∙ unpacked-append r.count before entry (length_part words₁ nodeRowsMadeAt (2 * r.count) (omega arith))
+              ap unpacked_node_rows
+              (part_more (sets words₁ b entry) before entry node_rows_made_at (2 * r.count) b 2 (2 * (r.count + 1)) refl two
+              (part_before words₁ entry b node_rows_made_at (2 * r.count) (omega arith)) (part_same words₁ entry b 2 refl room))
+              ∙ unpacked_append r.count before entry (length_part words₁ node_rows_made_at (2 * r.count) (omega arith))
               ∙ ap₂ (λ (xs ys : List ℕ). xs ++ ys)
-              (ap unpackedNodeRows (part-behind nodeRowsMadeAt (2 * r.count) shapeMadeAt words words₁ (omega arith) after.kept) ∙ h.table)
-              (unpacked-row a.node k (rowTypeWord a.rowType) a.set under (place-fits s (joined asks).rows a.row words v words₁ numbers₁ after k f e))
-              ∙ sym (ap (flat_map nodeRowWords) placed ∙ flat-snoc nodeRowWords (placedNodeRows asks (joined asks).places) (placed_at a k));
+              (ap unpacked_node_rows (part_behind node_rows_made_at (2 * r.count) shape_made_at words words₁ (omega arith) after.kept) ∙ h.table)
+              (unpacked_row a.node k (row_type_word a.row_type) a.set under (place_fits s (joined asks).rows a.row words v words₁ numbers₁ after k f e))
+              ∙ sym (ap (flat_map node_row_words) placed ∙ flat_snoc node_row_words (placed_node_rows asks (joined asks).places) (placed_at a k));
         }))
 
 -- ---- the row's elements are gathered in the part of numbers behind the rows held
 
 -- where the next row's elements start
-abbrev pub elementsEnd : NodeRows → ℕ
-elementsEnd r = 2048 + r.filled.elements
+abbrev pub elements_end : NodeRows → ℕ
+elements_end r = 2048 + r.filled.elements
 
-module _ (s : Sentinel) (asks : List RowRequest) (words : List ℕ) (numbers ys : List Float) (r : NodeRows) (long : numbersLength ≤ length numbers) (h : NodeRowsHeld s asks words numbers r) where
+module _ (s : Sentinel) (asks : List RowRequest) (words : List ℕ) (numbers ys : List Float) (r : NodeRows) (long : numbers_length ≤ length numbers) (h : NodeRowsHeld s asks words numbers r) where
   abbrev lent : List Float
-  lent = put_mid (elementsEnd r) (length numbers - elementsEnd r) numbers ys
+  lent = put_mid (elements_end r) (length numbers - elements_end r) numbers ys
 
-  within : elementsEnd r ≤ length numbers
-  within = omega (arith, (held-few (map (fresh_row s) (joined asks).rows) words numbers r.filled h.held).1)
+  within : elements_end r ≤ length numbers
+  within = omega (arith, (held_few (map (fresh_row s) (joined asks).rows) words numbers r.filled h.held).1)
 
-  pub rows-lent : NodeRowsHeld s asks words lent r
-  rows-lent = record { held = held-lent numbers ys (elementsEnd r) within (map (fresh_row s) (joined asks).rows) words r.filled refl h.held; counted = h.counted; table = h.table }
+  pub rows_lent : NodeRowsHeld s asks words lent r
+  rows_lent = record { held = held_lent numbers ys (elements_end r) within (map (fresh_row s) (joined asks).rows) words r.filled refl h.held; counted = h.counted; table = h.table }
 
-  pub request-lent : (node set : ℕ) (t : RowType) (columns : List ℕ) (n : ℕ) (row : List Element) (v : NodeRowsAdded) (words' : List ℕ) (numbers' : List Float) → gathered columns ys n ≡ row
-      → AfterRequests s (asks ++ (record { node = node; rowType = t; set = set; row = gathered columns (drop (elementsEnd r) lent) n } ∷ [])) v words' numbers'
-      → AfterRequests s (asks ++ (record { node = node; rowType = t; set = set; row = row } ∷ [])) v words' numbers'
-  request-lent node set t columns n row v words' numbers' e a =
-      subst (λ (l : List Element). AfterRequests s (asks ++ (record { node = node; rowType = t; set = set; row = l } ∷ [])) v words' numbers')
-      (ap (λ (l : List Float). gathered columns l n) (lent_written numbers ys (elementsEnd r) within) ∙ e) a
+  pub request_lent : (node set : ℕ) (t : RowType) (columns : List ℕ) (n : ℕ) (row : List Element) (v : NodeRowsAdded) (words' : List ℕ) (numbers' : List Float) → gathered columns ys n ≡ row
+      → AfterRequests s (asks ++ (record { node = node; row_type = t; set = set; row = gathered columns (drop (elements_end r) lent) n } ∷ [])) v words' numbers'
+      → AfterRequests s (asks ++ (record { node = node; row_type = t; set = set; row = row } ∷ [])) v words' numbers'
+  request_lent node set t columns n row v words' numbers' e a =
+      subst (λ (l : List Element). AfterRequests s (asks ++ (record { node = node; row_type = t; set = set; row = l } ∷ [])) v words' numbers')
+      (ap (λ (l : List Float). gathered columns l n) (lent_written numbers ys (elements_end r) within) ∙ e) a
 
 -- ---- requests behind others
 
 -- once over the ceilings, later requests keep the rows over
-pub full-later : (s : Sentinel) (asks more : List RowRequest) (v : NodeRowsAdded) (words : List ℕ) (numbers : List Float) → AfterRequests s asks v words numbers → v ≡ Full
+pub full_later : (s : Sentinel) (asks more : List RowRequest) (v : NodeRowsAdded) (words : List ℕ) (numbers : List Float) → AfterRequests s asks v words numbers → v ≡ Full
     → AfterRequests s (asks ++ more) Full words numbers
-full-later s asks more v words numbers a e = requests-full s (asks ++ more) words numbers (over-later s asks more (a.full e))
+full_later s asks more v words numbers a e = requests_full s (asks ++ more) words numbers (over_later s asks more (a.full e))
 
-pub count-more : (s : Sentinel) (asks more : List RowRequest) (words words' : List ℕ) (numbers numbers' : List Float) (r r' : NodeRows) → NodeRowsHeld s asks words numbers r
+pub count_more : (s : Sentinel) (asks more : List RowRequest) (words words' : List ℕ) (numbers numbers' : List Float) (r r' : NodeRows) → NodeRowsHeld s asks words numbers r
     → NodeRowsHeld s (asks ++ more) words' numbers' r' → r'.count ≡ r.count + length more
-count-more s asks more words words' numbers numbers' r r' h h' = omega (arith, h.counted, h'.counted, length-append asks more)
+count_more s asks more words words' numbers numbers' r r' h h' = omega (arith, h.counted, h'.counted, length-append asks more)

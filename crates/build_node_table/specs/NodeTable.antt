@@ -2,38 +2,38 @@
 -- Assumes nothing.
 use Rattle.std.specs.Prelude.{◌≡◌, ℕ, ◌*◌, false, length, take, Float}
 use mathlib.Core.List.{List, [], map, flat_map}
-use Rattle.layout.specs.Layout.{packedNodeRowWidth, nodeRowsMadeAt}
-use Rattle.layout.specs.PackedNodeRow.{unpackedNodeRows}
+use Rattle.layout.specs.Layout.{packed_node_row_width, node_rows_made_at}
+use Rattle.layout.specs.PackedNodeRow.{unpacked_node_rows}
 use Rattle.laws.specs.Part.{part}
 use Rattle.pywr.specs.declared.Sentinel.{Sentinel}
-use Rattle.pywr.specs.ExclusiveSets.{setsWithNode}
+use Rattle.pywr.specs.ExclusiveSets.{sets_with_node}
 use Rattle.pywr.specs.Rows.{ColumnMap}
-use Rattle.pywr.specs.VariableRows.{Joined, addVariableRows}
-use Rattle.pywr.specs.VaryingRows.{RowRequest, exclusiveRequests, requestsFrom, fresh_row}
-use Rattle.pywr.specs.Build.{placedNodeRows, requestedRow}
-use Rattle.pywr.specs.Written.{nodeRowWords}
-use Rattle.build_append.specs.LpBuilder.{RowsHeld, withinCeilings}
+use Rattle.pywr.specs.VariableRows.{Joined, add_variable_rows}
+use Rattle.pywr.specs.VaryingRows.{RowRequest, exclusive_requests, requests_from, fresh_row}
+use Rattle.pywr.specs.Build.{placed_node_rows, requested_row}
+use Rattle.pywr.specs.Written.{node_row_words}
+use Rattle.build_append.specs.LpBuilder.{RowsHeld, within_ceilings}
 use Rattle.build_node_table.specs.declared.NodeRows.{NodeRows}
 use Rattle.build_node_table.specs.declared.NodeRowsAdded.{NodeRowsAdded}
 use Rattle.build_node_table.specs.declared.NodeRowsAdded.TheVariants.{Done, Full}
 
 -- the distinct rows asked for, and where each asked row stands
 abbrev pub joined : List RowRequest → Joined
-joined asks = addVariableRows (map requestedRow asks) (record { rows = []; places = [] })
+joined asks = add_variable_rows (map requested_row asks) (record { rows = []; places = [] })
 
 -- what the nodes before node n ask for
-abbrev pub requestsBefore : ColumnMap → ℕ → List RowRequest
-requestsBefore f n = requestsFrom f 0 (take n f.nodes)
+abbrev pub requests_before : ColumnMap → ℕ → List RowRequest
+requests_before f n = requests_from f 0 (take n f.nodes)
 
 -- what node n asks for where exclusive sets list it
-abbrev pub listedRequests : ColumnMap → ℕ → List RowRequest
-listedRequests f n = exclusiveRequests f n (setsWithNode n 0 f.sets)
+abbrev pub listed_requests : ColumnMap → ℕ → List RowRequest
+listed_requests f n = exclusive_requests f n (sets_with_node n 0 f.sets)
 
 -- the rows asked for are held, and so are the node rows, packed
 pub record NodeRowsHeld (s : Sentinel) (asks : List RowRequest) (words : List ℕ) (numbers : List Float) (r : NodeRows) : Type 0 where
   pub held : RowsHeld (map (fresh_row s) (joined asks).rows) words numbers r.filled
   pub counted : r.count ≡ length asks
-  pub table : unpackedNodeRows (part nodeRowsMadeAt (packedNodeRowWidth * r.count) words) ≡ flat_map nodeRowWords (placedNodeRows asks (joined asks).places)
+  pub table : unpacked_node_rows (part node_rows_made_at (packed_node_row_width * r.count) words) ≡ flat_map node_row_words (placed_node_rows asks (joined asks).places)
 
 -- some rows asked for are held
 pub record NodeRowsHolding (s : Sentinel) (words : List ℕ) (numbers : List Float) (r : NodeRows) : Type 0 where
@@ -43,4 +43,4 @@ pub record NodeRowsHolding (s : Sentinel) (words : List ℕ) (numbers : List Flo
 -- the rows were asked for: the work runs hold them, or they are over the ceilings
 pub record AfterRequests (s : Sentinel) (asks : List RowRequest) (r : NodeRowsAdded) (words' : List ℕ) (numbers' : List Float) : Type 0 where
   pub done : (r' : NodeRows) → r ≡ Done r' → NodeRowsHeld s asks words' numbers' r'
-  pub full : r ≡ Full → withinCeilings (map (fresh_row s) (joined asks).rows) ≡ false
+  pub full : r ≡ Full → within_ceilings (map (fresh_row s) (joined asks).rows) ≡ false

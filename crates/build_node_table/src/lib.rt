@@ -1,11 +1,11 @@
 // The table of node rows: a row that a node asks for, and its entry.
 ghost use Rattle.std.specs.Prelude.{◌≡◌, List, [], ◌∷◌, ◌++◌, ◌+◌, ◌*◌, ◌<◌, ◌≤◌, length, drop};
 ghost use Rattle.std.proofs.lemmas.List.Edits.{sets};
-ghost use Rattle.layout.specs.Layout.{nodeCeiling, setCeiling, columnCeiling, rowCeiling, nodeRowCeiling, packedNodeRowWidth, nodeRowsAt, wordsLength, elementsMadeAt, numbersLength};
-ghost use Rattle.layout.specs.PackedNodeRow.{packedNodeRow};
+ghost use Rattle.layout.specs.Layout.{node_ceiling, set_ceiling, column_ceiling, row_ceiling, node_row_ceiling, packed_node_row_width, node_rows_at, words_length, elements_made_at, numbers_length};
+ghost use Rattle.layout.specs.PackedNodeRow.{packed_node_row};
 ghost use Rattle.pywr.specs.Programme.{RowType};
 ghost use Rattle.pywr.specs.VaryingRows.{RowRequest};
-ghost use Rattle.pywr.specs.Written.{rowTypeWord};
+ghost use Rattle.pywr.specs.Written.{row_type_word};
 ghost use Rattle.build_row.specs.RowBuilder.{gathered, Rising};
 ghost use Rattle.build_node_table.specs.NodeTable.{NodeRowsHeld, NodeRowsHolding, AfterRequests};
 ghost use Rattle.layout.specs.WorkRoom.{WorkRoom};
@@ -34,9 +34,9 @@ pub enum NodeRowsAdded {
 
 // Node row i of the table, packed: the node and the set's number, the row and its type.
 fn put_node_row(shape: &mut [u16], i: usize, node: NodeIndex, row: u16, row_type: u16, set: u16)
-    requires { (nodeRowsAt + packedNodeRowWidth * i + packedNodeRowWidth ≤ length shape.old)
-        × (node.0 < nodeCeiling) × (set < setCeiling) × (row < rowCeiling) × (row_type < 3) }
-    ensures { shape.new ≡ sets shape.old (nodeRowsAt + packedNodeRowWidth * i) (packedNodeRow node.0 row row_type set) }
+    requires { (node_rows_at + packed_node_row_width * i + packed_node_row_width ≤ length shape.old)
+        × (node.0 < node_ceiling) × (set < set_ceiling) × (row < row_ceiling) × (row_type < 3) }
+    ensures { shape.new ≡ sets shape.old (node_rows_at + packed_node_row_width * i) (packed_node_row node.0 row row_type set) }
 {
     let at = NODE_ROWS_AT + PACKED_NODE_ROW_WIDTH * i;
     shape[at] = node.0 + PACKED_SET * set;
@@ -55,16 +55,16 @@ pub fn add_node_row(
     set: u16,
     rows: NodeRows,
 ) -> NodeRowsAdded
-    requires { WorkRoom words.old numbers.old × (n ≤ columnCeiling) × Rising columns.now n
-        × NodeRowsHolding sentinel words.old numbers.old rows × (rows.count < nodeRowCeiling)
-        × (node.0 < nodeCeiling) × (set < setCeiling) × (row_type < 3) }
-    ensures { (t : RowType) → rowTypeWord t ≡ row_type → (asks : List RowRequest) → NodeRowsHeld sentinel asks words.old numbers.old rows
+    requires { WorkRoom words.old numbers.old × (n ≤ column_ceiling) × Rising columns.now n
+        × NodeRowsHolding sentinel words.old numbers.old rows × (rows.count < node_row_ceiling)
+        × (node.0 < node_ceiling) × (set < set_ceiling) × (row_type < 3) }
+    ensures { (t : RowType) → row_type_word t ≡ row_type → (asks : List RowRequest) → NodeRowsHeld sentinel asks words.old numbers.old rows
         → AfterRequests sentinel (asks ++ (record {
           node = node.0;
-          rowType = t;
+          row_type = t;
           set = set;
           row = gathered columns.now
-              (drop (elementsMadeAt + rows.filled.elements) numbers.old) n;
+              (drop (elements_made_at + rows.filled.elements) numbers.old) n;
         } ∷ []))
         result words.new numbers.new }
 {

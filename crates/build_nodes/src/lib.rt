@@ -1,12 +1,12 @@
 // The rows of the varying nodes (SolverBuilder::create_node_constraints of builder.rs).
 ghost use Rattle.std.specs.Prelude.{◌≡◌, [], ◌+◌, ◌<◌, ◌≤◌, length};
-ghost use Rattle.layout.specs.Layout.{wordsLength, numbersLength};
-ghost use Rattle.pywr.specs.Rows.{columnMap};
-ghost use Rattle.pywr.specs.VaryingRows.{requestsFrom};
+ghost use Rattle.layout.specs.Layout.{words_length, numbers_length};
+ghost use Rattle.pywr.specs.Rows.{column_map};
+ghost use Rattle.pywr.specs.VaryingRows.{requests_from};
 ghost use Rattle.build_append.specs.LpBuilder.{RowsHeld};
-ghost use Rattle.build_node_row.specs.Tables.{networkOf, EdgeTables, MembershipTables};
-ghost use Rattle.build_node_row.specs.EdgeColumns.{edgeColumns};
-ghost use Rattle.build_node_table.specs.NodeTable.{NodeRowsHeld, AfterRequests, requestsBefore};
+ghost use Rattle.build_node_row.specs.Tables.{network_of, EdgeTables, MembershipTables};
+ghost use Rattle.build_node_row.specs.EdgeColumns.{edge_columns_of};
+ghost use Rattle.build_node_table.specs.NodeTable.{NodeRowsHeld, AfterRequests, requests_before};
 ghost use Rattle.layout.specs.WorkRoom.{WorkRoom};
 
 use build_append::Filled;
@@ -35,10 +35,10 @@ fn request_rows(
     rows: NodeRows,
 ) -> NodeRowsAdded
     requires { EdgeTables s.now c first_in.now next_in.now first_out.now next_out.now edge_to_col.now × (node.0 < c.nodes)
-        × (edge_columns ≡ edgeColumns s.now c) × MembershipTables s.now c first_membership.now next_membership.now
+        × (edge_columns ≡ edge_columns_of s.now c) × MembershipTables s.now c first_membership.now next_membership.now
         × WorkRoom words.old numbers.old
-        × NodeRowsHeld sentinel (requestsBefore (columnMap (networkOf s.now c)) node.0) words.old numbers.old rows }
-    ensures { AfterRequests sentinel (requestsBefore (columnMap (networkOf s.now c)) (node.0 + 1)) result words.new numbers.new }
+        × NodeRowsHeld sentinel (requests_before (column_map (network_of s.now c)) node.0) words.old numbers.old rows }
+    ensures { AfterRequests sentinel (requests_before (column_map (network_of s.now c)) (node.0 + 1)) result words.new numbers.new }
 {
     if network_node::is_constant(s, node) {
         return NodeRowsAdded::Done(rows);
@@ -100,9 +100,9 @@ pub fn create_node_constraints(
     f: Filled,
 ) -> NodeRowsAdded
     requires { EdgeTables s.now c first_in.now next_in.now first_out.now next_out.now edge_to_col.now
-        × (edge_columns ≡ edgeColumns s.now c) × MembershipTables s.now c first_membership.now next_membership.now
+        × (edge_columns ≡ edge_columns_of s.now c) × MembershipTables s.now c first_membership.now next_membership.now
         × WorkRoom words.old numbers.old × RowsHeld [] words.old numbers.old f }
-    ensures { AfterRequests sentinel (requestsFrom (columnMap (networkOf s.now c)) 0 (networkOf s.now c).nodes) result words.new numbers.new }
+    ensures { AfterRequests sentinel (requests_from (column_map (network_of s.now c)) 0 (network_of s.now c).nodes) result words.new numbers.new }
 {
     let nodes = c.nodes;
     let mut rows = NodeRows {

@@ -5,26 +5,26 @@ use mathlib.Core.List.{List}
 use lib.ListN.{length}
 use Rattle.pywr.specs.Result.{value, refused}
 use Rattle.pywr.specs.Network.{Network}
-use Rattle.pywr.specs.NetworkFile.{parseNetwork}
+use Rattle.pywr.specs.NetworkFile.{parse_network}
 use Rattle.pywr.specs.ColEdgeMap.{Columns, columns}
 use Rattle.network_record.specs.declared.Counts.{Counts}
 use Rattle.network_record.specs.Counts.{SectionsOf}
 use Rattle.network.specs.declared.Loaded.{Loaded}
 use Rattle.network.specs.Loaded.{result_of, Placed}
 use Rattle.build_col_edge_map.specs.Mapped.{Mapped}
-use Rattle.build_node_row.specs.Tables.{networkOf}
+use Rattle.build_node_row.specs.Tables.{network_of}
 
 -- the columns by their own count
-pub mapped-so : (c : Columns) (table : List ℕ) (count : ℕ) → Mapped c table count → Mapped c table c.count
-mapped-so c table count h = record { table_is = h.table_is; count-is = refl }
+pub mapped_so : (c : Columns) (table : List ℕ) (count : ℕ) → Mapped c table count → Mapped c table c.count
+mapped_so c table count h = record { table_is = h.table_is; count_is = refl }
 
 -- what reading the file told, for each answer
 module _ (file : List ℕ) (r : Loaded) where
-  pub read_as : (c : Counts) → r ≡ Loaded.Accepted c → parseNetwork file ≡ result_of file r → parseNetwork file ≡ value (networkOf file c)
+  pub read_as : (c : Counts) → r ≡ Loaded.Accepted c → parse_network file ≡ result_of file r → parse_network file ≡ value (network_of file c)
   read_as c e h = h ∙ ap (result_of file) e
 
-  pub placed-as : (c : Counts) → r ≡ Loaded.Accepted c → Placed file r → SectionsOf file c
-  placed-as c e = subst (Placed file) e
+  pub placed_as : (c : Counts) → r ≡ Loaded.Accepted c → Placed file r → SectionsOf file c
+  placed_as c e = subst (Placed file) e
 
-  pub refused_as : (n p : ℕ) → r ≡ Loaded.Refused n p → parseNetwork file ≡ result_of file r → parseNetwork file ≡ refused n p
+  pub refused_as : (n p : ℕ) → r ≡ Loaded.Refused n p → parse_network file ≡ result_of file r → parse_network file ≡ refused n p
   refused_as n p e h = h ∙ ap (result_of file) e

@@ -1,11 +1,11 @@
 // A network file's programme assembled in the work runs of a build (SolverBuilder::create of builder.rs).
 ghost use Rattle.std.specs.Prelude.{◌≡◌, ◌≤◌, length};
-ghost use Rattle.layout.specs.Layout.{wordsLength, numbersLength};
+ghost use Rattle.layout.specs.Layout.{words_length, numbers_length};
 ghost use Rattle.pywr.specs.Result.{value};
-ghost use Rattle.pywr.specs.NetworkFile.{parseNetwork};
+ghost use Rattle.pywr.specs.NetworkFile.{parse_network};
 ghost use Rattle.network_record.specs.Counts.{SectionsOf};
-ghost use Rattle.build_node_row.specs.EdgeColumns.{edgeColumns};
-ghost use Rattle.build_node_row.specs.Tables.{networkOf, EdgeTables};
+ghost use Rattle.build_node_row.specs.EdgeColumns.{edge_columns_of};
+ghost use Rattle.build_node_row.specs.Tables.{network_of, EdgeTables};
 ghost use Rattle.build_rows.specs.Assembled.{AfterAssemble};
 ghost use Rattle.layout.specs.WorkRoom.{WorkRoom};
 
@@ -32,7 +32,7 @@ fn assemble_rows(
     numbers: &mut [f64],
 ) -> Assembled
     requires { EdgeTables s.now c first_in.now next_in.now first_out.now next_out.now edge_to_col.now
-        × (edge_columns ≡ edgeColumns s.now c) × WorkRoom words.old numbers.old }
+        × (edge_columns ≡ edge_columns_of s.now c) × WorkRoom words.old numbers.old }
     ensures { AfterAssemble sentinel s.now result words.new numbers.new }
 {
     let mut set_at = [0u16; SET_CEILING];
@@ -78,7 +78,7 @@ fn assemble_columns(
     words: &mut [u16],
     numbers: &mut [f64],
 ) -> Assembled
-    requires { (parseNetwork s.now ≡ value (networkOf s.now c)) × SectionsOf s.now c × WorkRoom words.old numbers.old }
+    requires { (parse_network s.now ≡ value (network_of s.now c)) × SectionsOf s.now c × WorkRoom words.old numbers.old }
     ensures { AfterAssemble sentinel s.now result words.new numbers.new }
 {
     let mut first_in = [0u16; NODE_CEILING];

@@ -2,7 +2,7 @@
 ghost use Rattle.std.specs.Prelude.{◌≡◌, ℕ, List, length, replicate, Float};
 ghost use Rattle.pywr.specs.Numbers.{zero64};
 ghost use Rattle.pywr.specs.Store.{Store};
-ghost use Rattle.pywr.specs.Calls.{buildRoom};
+ghost use Rattle.pywr.specs.Calls.{build_room};
 ghost use Rattle.store.specs.Reading.{Lengths};
 
 use layout::{NUMBERS_LENGTH, WORDS_LENGTH};
@@ -22,7 +22,7 @@ pub fn build_has_room(
     numbers: usize,
 ) -> bool
     ensures { (s : Store) (w : List ℕ) (x : List Float) → Lengths s col_lower col_upper col_obj_coef row_lower row_upper elements columns row_starts shape
-        → length w ≡ words → length x ≡ numbers → result ≡ buildRoom s w x }
+        → length w ≡ words → length x ≡ numbers → result ≡ build_room s w x }
 {
     store::has_room(
         col_lower,

@@ -8,11 +8,11 @@ use lib.ListN.{length, get_or, take, set}
 use lib.Seq.{length-take-le, get_or-take, take-set-lt}
 use lib.Ieee.{Float, nan, binary64, add, of_bits}
 use Rattle.pywr.specs.Numbers.{zero64}
-use Rattle.pywr.specs.Misshapen.{columnsRise}
-use Rattle.build_row.specs.RowBuilder.{gathered, Rising, Place, insertAt, ElementAdded}
-use Rattle.build_row.proofs.Insert.{placed, length-placed, insert-front}
-use Rattle.build_row.proofs.Rise.{rise-count, rise-placed}
-use Rattle.build_row.proofs.Row.{row-placed, row-added}
+use Rattle.pywr.specs.Misshapen.{columns_rise}
+use Rattle.build_row.specs.RowBuilder.{gathered, Rising, Place, insert_at, ElementAdded}
+use Rattle.build_row.proofs.Insert.{placed, length_placed, insert_front}
+use Rattle.build_row.proofs.Rise.{rise_count, rise_placed}
+use Rattle.build_row.proofs.Row.{row_placed, row_added}
 
 -- the literal 0.0
 zero_bits : of_bits binary64 0 ≡ zero64
@@ -42,12 +42,12 @@ module _ (columns : List ℕ) (n c p : ℕ) (long : length columns ≡ 640) (few
       let ne : get_or columns p 0 ≡ c → ⊥ = absent l in
       rw (get_or-take n columns p 0 l) (omega (arith, place.over l))
 
-  still-rising : Absent columns n c p → columnsRise 640 0 (placed p c cs) ≡ true
-  still-rising absent = rise-placed 640 c 0 cs p (omega arith) small rising within under (over absent)
+  still_rising : Absent columns n c p → columns_rise 640 0 (placed p c cs) ≡ true
+  still_rising absent = rise_placed 640 c 0 cs p (omega arith) small rising within under (over absent)
 
   -- a column that is not in the row leaves a place free
-  pub place-free : Absent columns n c p → n < 640
-  place-free absent = omega (arith, rise-count 640 0 (placed p c cs) (omega arith) (still-rising absent), length-placed p c cs within, count)
+  pub place_free : Absent columns n c p → n < 640
+  place_free absent = omega (arith, rise_count 640 0 (placed p c cs) (omega arith) (still_rising absent), length_placed p c cs within, count)
 
   module _ (elements : List Float) (x : Float) (room : 640 ≤ length elements) where
     abbrev xs : List Float
@@ -56,27 +56,27 @@ module _ (columns : List ℕ) (n c p : ℕ) (long : length columns ≡ 640) (few
     same_count : length cs ≡ length xs
     same_count = count ∙ sym (length-take-le n elements (omega arith))
 
-    pub element-added : p < n → get_or columns p 0 ≡ c → ElementAdded columns elements n c x columns (set elements p (add binary64 (get_or elements p nan) x)) n
+    pub element_added : p < n → get_or columns p 0 ≡ c → ElementAdded columns elements n c x columns (set elements p (add binary64 (get_or elements p nan) x)) n
     unfolding gathered
-    element-added h at =
+    element_added h at =
         record {
           row =
               rw (take-set-lt n elements p (add binary64 (get_or elements p nan) x) h, ← get_or-take n elements p nan h)
-              (row-added c x cs xs p same_count (omega (arith, count)) under (get_or-take n columns p 0 h ∙ at));
+              (row_added c x cs xs p same_count (omega (arith, count)) under (get_or-take n columns p 0 h ∙ at));
           rising = rising;
           few = few;
         }
 
-    pub element-inserted : Absent columns n c p → ElementAdded columns elements n c x (insertAt n p c columns) (insertAt n p (add binary64 (of_bits binary64 0) x) elements) (n + 1)
+    pub element_inserted : Absent columns n c p → ElementAdded columns elements n c x (insert_at n p c columns) (insert_at n p (add binary64 (of_bits binary64 0) x) elements) (n + 1)
     unfolding gathered
-    element-inserted absent =
+    element_inserted absent =
         let w = place.within in
-        let l = place-free absent in
-        let front = insert-front columns n p c w (omega arith) in
+        let l = place_free absent in
+        let front = insert_front columns n p c w (omega arith) in
         record {
           row =
-              rw (front, insert-front elements n p (add binary64 (of_bits binary64 0) x) w (omega arith), zero_bits)
-              (row-placed c x cs xs p same_count within under (over absent));
-          rising = rw front (still-rising absent);
+              rw (front, insert_front elements n p (add binary64 (of_bits binary64 0) x) w (omega arith), zero_bits)
+              (row_placed c x cs xs p same_count within under (over absent));
+          rising = rw front (still_rising absent);
           few = omega arith;
         }

@@ -6,15 +6,15 @@ use native.Mathlib.Omega.{arith}
 use native.Mathlib.Nat.{sub_self}
 use lib.ListN.{length, get_or, take, drop, set, take-append-drop, length-append, length-drop, length-set, get_or-append}
 use lib.Seq.{length-take-le, take_at, drop_at, take-take, take-add, get_or-take, set_at, append_snoc}
-use Rattle.laws.proofs.Runs.{take_more, drop-next}
-use Rattle.build_row.specs.RowBuilder.{insertAt}
+use Rattle.laws.proofs.Runs.{take_more, drop_next}
+use Rattle.build_row.specs.RowBuilder.{insert_at}
 
 -- x put at place p of a list
 abbrev pub placed : {A : Type 0} → ℕ → A → List A → List A
 placed p x l = take p l ++ x ∷ drop p l
 
-pub length-placed : {A : Type 0} (p : ℕ) (x : A) (l : List A) → p ≤ length l → length (placed p x l) ≡ length l + 1
-length-placed p x l h = length-append (take p l) (x ∷ drop p l) ∙ rw (length-take-le p l h, length-drop p l) (omega arith)
+pub length_placed : {A : Type 0} (p : ℕ) (x : A) (l : List A) → p ≤ length l → length (placed p x l) ≡ length l + 1
+length_placed p x l h = length-append (take p l) (x ∷ drop p l) ∙ rw (length-take-le p l h, length-drop p l) (omega arith)
 
 -- the loop: places over i hold what stood one place below
 pub record Shift {A : Type 0} (l : List A) (n p : ℕ) (d : List A) (i : ℕ) : Type 0 where
@@ -24,18 +24,18 @@ pub record Shift {A : Type 0} (l : List A) (n p : ℕ) (d : List A) (i : ℕ) : 
   pub len : length d ≡ length l
 
 module _ {A : Type 0} (z : A) where
-  put-over : (l m : List A) (v : A) (i : ℕ) → i < length l → set (take (i + 1) l ++ m) i v ≡ take i l ++ v ∷ m
-  put-over l m v i h =
+  put_over : (l m : List A) (v : A) (i : ℕ) → i < length l → set (take (i + 1) l ++ m) i v ≡ take i l ++ v ∷ m
+  put_over l m v i h =
       rw (← take_more l i z h, append_snoc (take i l) (get_or l i z) m) (set_at (take i l) (get_or l i z) m v i (length-take-le i l (omega arith)))
 
   module _ (l : List A) (n p : ℕ) (within : p ≤ n) (room : n < length l) where
-    pub shift-first : Shift l n p l n
-    shift-first =
+    pub shift_first : Shift l n p l n
+    shift_first =
         record { low = within; high = omega arith; run = rw (sub_self n) (sym (take-append-drop (n + 1) l)); len = refl }
 
     module _ (d : List A) (i : ℕ) (s : Shift l n p d i) where
-      pub shift-next : p < i → Shift l n p (set d i (get_or d (i - 1) z)) (i - 1)
-      shift-next lt =
+      pub shift_next : p < i → Shift l n p (set d i (get_or d (i - 1) z)) (i - 1)
+      shift_next lt =
           let hi = s.high in
           let up : i - 1 + 1 ≡ i = omega arith in
           let left : n - (i - 1) ≡ suc (n - i) = omega arith in
@@ -47,19 +47,19 @@ module _ {A : Type 0} (z : A) where
             low = omega arith;
             high = omega arith;
             run =
-                rw (below, s.run, put-over l (take (n - i) (drop i l) ++ drop (n + 1) l) (get_or l (i - 1) z) i (omega arith), left, drop-next l (i - 1) z (omega arith), up);
+                rw (below, s.run, put_over l (take (n - i) (drop i l) ++ drop (n + 1) l) (get_or l (i - 1) z) i (omega arith), left, drop_next l (i - 1) z (omega arith), up);
             len = length-set d i (get_or d (i - 1) z) ∙ s.len;
           }
 
-      pub shift-done : (x : A) → i ≤ p → set d p x ≡ insertAt n p x l
-      shift-done x le =
+      pub shift_done : (x : A) → i ≤ p → set d p x ≡ insert_at n p x l
+      shift_done x le =
           let lo = s.low in
           let e : i ≡ p = omega arith in
-          rw (s.run, e) (put-over l (take (n - p) (drop p l) ++ drop (n + 1) l) x p (omega arith))
+          rw (s.run, e) (put_over l (take (n - p) (drop p l) ++ drop (n + 1) l) x p (omega arith))
 
 -- the front of a run with x put in, as a list
-pub insert-front : {A : Type 0} (l : List A) (n p : ℕ) (x : A) → p ≤ n → n < length l → take (n + 1) (insertAt n p x l) ≡ placed p x (take n l)
-insert-front {A} l n p x h room =
+pub insert_front : {A : Type 0} (l : List A) (n p : ℕ) (x : A) → p ≤ n → n < length l → take (n + 1) (insert_at n p x l) ≡ placed p x (take n l)
+insert_front {A} l n p x h room =
     let e : n ≡ p + (n - p) = omega arith in
     let len : length (take p l ++ x ∷ take (n - p) (drop p l)) ≡ n + 1 =
     length-append (take p l) (x ∷ take (n - p) (drop p l))

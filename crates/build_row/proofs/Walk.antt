@@ -9,10 +9,10 @@ use borrow.Author.Tests.{eq-eqb, ne_eqb}
 use lib.Dec.{eqb}
 use lib.ListN.{get_or}
 use lib.Ieee.{Float}
-use Rattle.pywr.specs.Rows.{Element, addOn}
+use Rattle.pywr.specs.Rows.{Element, add_on}
 use Rattle.build_row.specs.RowBuilder.{gathered, Rising, ElementAdded}
 use Rattle.laws.specs.Linked.{Linked}
-use Rattle.build_row.specs.EdgeList.{columnsOf, HaveColumns, ListedEdges}
+use Rattle.build_row.specs.EdgeList.{columns_of, HaveColumns, ListedEdges}
 
 -- the table lists one list of edges
 same_edges : (next : List ℕ) (first : ℕ) (es fs : List ℕ) → Linked 512 next first es → Linked 512 next first fs → es ≡ fs
@@ -53,16 +53,16 @@ ahead next table link e l ne at = first_of next table link e l.edges l.listed l.
 abbrev pub above : ℕ → ℕ
 above link = cond (eqb link 0) 0 (513 - link)
 
-pub above-falls : (link then : ℕ) → (link ≡ 0 → ⊥) → link ≤ 512 → (then ≡ 0) ⊎ (link < then) → above then < above link
-above-falls link then ne h (inl z) = rw (eq-eqb then 0 z, ne_eqb link 0 ne) (omega arith)
-above-falls link then ne h (inr g) =
+pub above_falls : (link then : ℕ) → (link ≡ 0 → ⊥) → link ≤ 512 → (then ≡ 0) ⊎ (link < then) → above then < above link
+above_falls link then ne h (inl z) = rw (eq-eqb then 0 z, ne_eqb link 0 ne) (omega arith)
+above_falls link then ne h (inr g) =
     let ne' : then ≡ 0 → ⊥ = λ z. omega arith in
     rw (ne_eqb then 0 ne', ne_eqb link 0 ne) (omega arith)
 
 -- the loop: the whole list on the row at the start is the list left on the present row
 pub record Walk (next table : List ℕ) (first : ℕ) (factor : Float) (row₀ : List Element) (columns : List ℕ) (elements : List Float) (n link : ℕ) : Type 0 where
   pub left : ListedEdges next table link
-  pub row : (es : List ℕ) → Linked 512 next first es → addOn (columnsOf table es) factor row₀ ≡ addOn (columnsOf table left.edges) factor (gathered columns elements n)
+  pub row : (es : List ℕ) → Linked 512 next first es → add_on (columns_of table es) factor row₀ ≡ add_on (columns_of table left.edges) factor (gathered columns elements n)
   pub rising : Rising columns n
   pub few : n ≤ 640
 
@@ -73,24 +73,24 @@ module _ (next table : List ℕ) (first : ℕ) (factor : Float) where
       record { left = l; row = λ es h. rw (same_edges next first es l.edges h l.listed); rising = rising; few = few }
 
   module _ (row₀ : List Element) (columns : List ℕ) (elements : List Float) (n link : ℕ) (w : Walk next table first factor row₀ columns elements n link) where
-    pub walk-next : (e : ℕ) → Ahead next table link e w.left.edges → (columns' : List ℕ) (elements' : List Float) (r : ℕ)
+    pub walk_next : (e : ℕ) → Ahead next table link e w.left.edges → (columns' : List ℕ) (elements' : List Float) (r : ℕ)
         → ElementAdded columns elements n (get_or table e 0 - 1) factor columns' elements' r
         → Walk next table first factor row₀ columns' elements' r (get_or next e 0)
-    unfolding columnsOf addOn
-    walk-next e h columns' elements' r a =
+    unfolding columns_of add_on
+    walk_next e h columns' elements' r a =
         record {
           left = h.rest;
           row =
               λ es l.
               w.row es l
-              ∙ ap (λ (fs : List ℕ). addOn (columnsOf table fs) factor (gathered columns elements n)) h.split
-              ∙ ap (addOn (columnsOf table h.rest.edges) factor) (sym a.row);
+              ∙ ap (λ (fs : List ℕ). add_on (columns_of table fs) factor (gathered columns elements n)) h.split
+              ∙ ap (add_on (columns_of table h.rest.edges) factor) (sym a.row);
           rising = a.rising;
           few = a.few;
         }
 
-    pub walk-done : link ≡ 0 → (es : List ℕ) → Linked 512 next first es → gathered columns elements n ≡ addOn (columnsOf table es) factor row₀
-    unfolding columnsOf addOn
-    walk-done z es h =
+    pub walk_done : link ≡ 0 → (es : List ℕ) → Linked 512 next first es → gathered columns elements n ≡ add_on (columns_of table es) factor row₀
+    unfolding columns_of add_on
+    walk_done z es h =
         let none : w.left.edges ≡ [] = same_edges next link w.left.edges [] w.left.listed z in
         sym (w.row es h ∙ rw none)

@@ -1,24 +1,24 @@
 -- A row being gathered (RowBuilder of builder.rs): its column numbers in an array, its elements at the front of the part of the element run that starts at the row.
 -- Assumes nothing.
 use Rattle.std.specs.Prelude.{◌≡◌, ℕ, ◌+◌, ◌-◌, ◌≤◌, ◌<◌, List, ◌∷◌, ◌++◌, true, get_or, take, drop, Float}
-use Rattle.layout.specs.Layout.{columnCeiling}
-use Rattle.pywr.specs.Rows.{Element, addElement}
-use Rattle.pywr.specs.Store.{elementsOf}
-use Rattle.pywr.specs.Misshapen.{columnsRise}
+use Rattle.layout.specs.Layout.{column_ceiling}
+use Rattle.pywr.specs.Rows.{Element, add_element}
+use Rattle.pywr.specs.Store.{elements_of}
+use Rattle.pywr.specs.Misshapen.{columns_rise}
 
 -- the row: the first n columns with the first n elements
 unfoldable pub gathered : List ℕ → List Float → ℕ → List Element
-gathered columns elements n = elementsOf (take n columns) (take n elements)
+gathered columns elements n = elements_of (take n columns) (take n elements)
 
 -- "Elements of a row rise by column": the first n columns rise, each under the ceiling
 abbrev pub Rising : List ℕ → ℕ → Type 0
-Rising columns n = columnsRise columnCeiling 0 (take n columns) ≡ true
+Rising columns n = columns_rise column_ceiling 0 (take n columns) ≡ true
 
 -- what adding an element promises: the row with x added on column c, its count and its order
 pub record ElementAdded (columns : List ℕ) (elements : List Float) (n c : ℕ) (x : Float) (columns' : List ℕ) (elements' : List Float) (r : ℕ) : Type 0 where
-  pub row : gathered columns' elements' r ≡ addElement c x (gathered columns elements n)
+  pub row : gathered columns' elements' r ≡ add_element c x (gathered columns elements n)
   pub rising : Rising columns' r
-  pub few : r ≤ columnCeiling
+  pub few : r ≤ column_ceiling
 
 -- p is the first place, of n, whose column is not under c
 pub record Place (columns : List ℕ) (n c p : ℕ) : Type 0 where
@@ -27,5 +27,5 @@ pub record Place (columns : List ℕ) (n c p : ℕ) : Type 0 where
   pub over : p < n → c ≤ get_or columns p 0
 
 -- x put at place p of a run's first n, of which those from there on move up by one
-abbrev pub insertAt : {A : Type 0} → ℕ → ℕ → A → List A → List A
-insertAt n p x l = take p l ++ x ∷ (take (n - p) (drop p l) ++ drop (n + 1) l)
+abbrev pub insert_at : {A : Type 0} → ℕ → ℕ → A → List A → List A
+insert_at n p x l = take p l ++ x ∷ (take (n - p) (drop p l) ++ drop (n + 1) l)

@@ -1,7 +1,7 @@
 // One row gathered (RowBuilder of builder.rs): its columns rise in an array, its elements lie in the same order in the lent run of elements.
 ghost use Rattle.std.specs.Prelude.{◌≡◌, ◌<◌, ◌≤◌, length};
-ghost use Rattle.layout.specs.Layout.{columnCeiling};
-ghost use Rattle.build_row.specs.RowBuilder.{Rising, Place, insertAt, ElementAdded};
+ghost use Rattle.layout.specs.Layout.{column_ceiling};
+ghost use Rattle.build_row.specs.RowBuilder.{Rising, Place, insert_at, ElementAdded};
 ghost use Rattle.build_row.specs.EdgeList.{ListedEdges, ColumnsAdded};
 
 use layout::{COLUMN_CEILING, EDGE_CEILING};
@@ -35,7 +35,7 @@ fn place_of(columns: &[ColumnNumber], n: usize, column: ColumnIndex) -> usize
 // The column put at place p: the columns from there up to place n move up by one.
 fn insert_column(columns: &mut [ColumnNumber], n: usize, p: usize, column: ColumnIndex)
     requires { (p ≤ n) × (n < length columns.old) }
-    ensures { columns.new ≡ insertAt n p column.0 columns.old }
+    ensures { columns.new ≡ insert_at n p column.0 columns.old }
 {
     let mut i = n;
     while p < i {
@@ -48,7 +48,7 @@ fn insert_column(columns: &mut [ColumnNumber], n: usize, p: usize, column: Colum
 // The same of an element.
 fn insert_element(elements: &mut [f64], n: usize, p: usize, x: f64)
     requires { (p ≤ n) × (n < length elements.old) }
-    ensures { elements.new ≡ insertAt n p x elements.old }
+    ensures { elements.new ≡ insert_at n p x elements.old }
 {
     let mut i = n;
     while p < i {
@@ -66,7 +66,7 @@ pub fn add_element(
     column: ColumnIndex,
     value: f64,
 ) -> usize
-    requires { (n ≤ columnCeiling) × (columnCeiling ≤ length elements.old) × (column.0 < columnCeiling) × Rising columns.old n }
+    requires { (n ≤ column_ceiling) × (column_ceiling ≤ length elements.old) × (column.0 < column_ceiling) × Rising columns.old n }
     ensures { ElementAdded columns.old elements.old n column.0 value columns.new elements.new result }
 {
     let c = column.0;
@@ -93,7 +93,7 @@ pub fn add_columns(
     elements: &mut [f64],
     n: usize,
 ) -> usize
-    requires { (n ≤ columnCeiling) × (columnCeiling ≤ length elements.old) × Rising columns.old n × ListedEdges next.now edge_to_col.now first }
+    requires { (n ≤ column_ceiling) × (column_ceiling ≤ length elements.old) × Rising columns.old n × ListedEdges next.now edge_to_col.now first }
     ensures { ColumnsAdded next.now edge_to_col.now first factor columns.old elements.old n columns.new elements.new result }
 {
     let mut count = n;

@@ -10,55 +10,55 @@ use lib.Dec.{leb}
 use Rattle.pywr.specs.declared.Sentinel.{Sentinel}
 use Rattle.pywr.specs.Result.{value, refused, ◌>>=◌, need}
 use Rattle.pywr.specs.Network.{Network}
-use Rattle.pywr.specs.NetworkFile.{parseNetwork}
-use Rattle.pywr.specs.ExclusiveSets.{exclusiveSets}
-use Rattle.pywr.specs.Rows.{columnMap}
+use Rattle.pywr.specs.NetworkFile.{parse_network}
+use Rattle.pywr.specs.ExclusiveSets.{exclusive_sets}
+use Rattle.pywr.specs.Rows.{column_map}
 use Rattle.pywr.specs.Programme.{Row, Programme}
-use Rattle.pywr.specs.Build.{programmeOf, elementCount, underCeilings, build}
+use Rattle.pywr.specs.Build.{programme_of, element_count, under_ceilings, build}
 use Rattle.pywr.specs.Written.{rows_of}
-use Rattle.build_append.specs.LpBuilder.{withinCeilings}
+use Rattle.build_append.specs.LpBuilder.{within_ceilings}
 
-pub count-append : (xs ys : List Row) → elementCount (xs ++ ys) ≡ elementCount xs + elementCount ys
-unfolding elementCount
-count-append [] ys = let e : elementCount ys ≡ 0 + elementCount ys = omega arith in e
-count-append (x ∷ xs) ys = let ih = count-append xs ys in omega (arith, ih)
+pub count_append : (xs ys : List Row) → element_count (xs ++ ys) ≡ element_count xs + element_count ys
+unfolding element_count
+count_append [] ys = let e : element_count ys ≡ 0 + element_count ys = omega arith in e
+count_append (x ∷ xs) ys = let ih = count_append xs ys in omega (arith, ih)
 
 and_no : (a b : Bool) → b ≡ false → (a && b) ≡ false
 and_no true b e = e
 and_no false b e = refl
 
 module _ (net : Network) (p : Programme) where
-  rows_are : withinCeilings (rows_of p) ≡ (leb (length p.varying + length p.fixed) 1024 && leb (elementCount p.varying + elementCount p.fixed) 4096)
-  unfolding withinCeilings rows_of
-  rows_are = rw (length-append p.varying p.fixed, count-append p.varying p.fixed)
+  rows_are : within_ceilings (rows_of p) ≡ (leb (length p.varying + length p.fixed) 1024 && leb (element_count p.varying + element_count p.fixed) 4096)
+  unfolding within_ceilings rows_of
+  rows_are = rw (length-append p.varying p.fixed, count_append p.varying p.fixed)
 
   -- rows over the ceilings, sets over theirs, and neither
-  pub rows-over : withinCeilings (rows_of p) ≡ false → underCeilings (columnMap net) p ≡ false
-  unfolding underCeilings columnMap
-  rows-over e = assoc (leb (length (exclusiveSets net)) 128) (leb (length p.varying + length p.fixed) 1024) (leb (elementCount p.varying + elementCount p.fixed) 4096) (sym rows_are ∙ e)
+  pub rows_over : within_ceilings (rows_of p) ≡ false → under_ceilings (column_map net) p ≡ false
+  unfolding under_ceilings column_map
+  rows_over e = assoc (leb (length (exclusive_sets net)) 128) (leb (length p.varying + length p.fixed) 1024) (leb (element_count p.varying + element_count p.fixed) 4096) (sym rows_are ∙ e)
     where
       assoc : (a b d : Bool) → (b && d) ≡ false → (a && b && d) ≡ false
       assoc true b d q = q
       assoc false b d q = refl
 
-  pub sets_over : 128 < length (exclusiveSets net) → underCeilings (columnMap net) p ≡ false
-  unfolding underCeilings columnMap
-  sets_over h = rw (lt-leb (length (exclusiveSets net)) 128 h)
+  pub sets_over : 128 < length (exclusive_sets net) → under_ceilings (column_map net) p ≡ false
+  unfolding under_ceilings column_map
+  sets_over h = rw (lt-leb (length (exclusive_sets net)) 128 h)
 
-  pub none_over : length (exclusiveSets net) ≤ 128 → withinCeilings (rows_of p) ≡ true → underCeilings (columnMap net) p ≡ true
-  unfolding underCeilings columnMap
-  none_over h e = rw (le-leb (length (exclusiveSets net)) 128 h) (sym rows_are ∙ e)
+  pub none_over : length (exclusive_sets net) ≤ 128 → within_ceilings (rows_of p) ≡ true → under_ceilings (column_map net) p ≡ true
+  unfolding under_ceilings column_map
+  none_over h e = rw (le-leb (length (exclusive_sets net)) 128 h) (sym rows_are ∙ e)
 
-module _ (s : Sentinel) (file : List ℕ) (net : Network) (parsed : parseNetwork file ≡ value net) where
-  pub eleven : underCeilings (columnMap net) (programmeOf s net).programme ≡ false → build s file ≡ refused 11 0
+module _ (s : Sentinel) (file : List ℕ) (net : Network) (parsed : parse_network file ≡ value net) where
+  pub eleven : under_ceilings (column_map net) (programme_of s net).programme ≡ false → build s file ≡ refused 11 0
   unfolding build ◌>>=◌ need
   eleven e = rw (parsed, e)
 
-  pub accepted : underCeilings (columnMap net) (programmeOf s net).programme ≡ true → build s file ≡ value (programmeOf s net)
+  pub accepted : under_ceilings (column_map net) (programme_of s net).programme ≡ true → build s file ≡ value (programme_of s net)
   unfolding build ◌>>=◌ need
   accepted e = rw (parsed, e)
 
 -- a file that is refused
-pub not-read : (s : Sentinel) (file : List ℕ) (n p : ℕ) → parseNetwork file ≡ refused n p → build s file ≡ refused n p
+pub not_read : (s : Sentinel) (file : List ℕ) (n p : ℕ) → parse_network file ≡ refused n p → build s file ≡ refused n p
 unfolding build ◌>>=◌
-not-read s file n p e = rw e
+not_read s file n p e = rw e

@@ -7,105 +7,105 @@ use native.Mathlib.Omega.{arith}
 use lib.ListN.{length, take, length-append, length-map}
 use lib.Seq.{sets, length-take-le}
 use lib.Ieee.{Float}
-use Rattle.layout.specs.Layout.{aggregatesMadeAt, makersPackedAt, makersMadeAt, nodeRowsMadeAt, shapeMadeAt, virtualStoragesMadeAt, wordsLength}
-use Rattle.layout.specs.PackedNodeRow.{unpackedNodeRows}
+use Rattle.layout.specs.Layout.{aggregates_made_at, makers_packed_at, makers_made_at, node_rows_made_at, shape_made_at, virtual_storages_made_at, words_length}
+use Rattle.layout.specs.PackedNodeRow.{unpacked_node_rows}
 use Rattle.laws.specs.Part.{part}
 use Rattle.pywr.specs.declared.Sentinel.{Sentinel}
 use Rattle.pywr.specs.Result.{value, refused}
 use Rattle.pywr.specs.Network.{Network}
-use Rattle.pywr.specs.ColEdgeMap.{columns, mappedEdges}
-use Rattle.pywr.specs.FlowOrder.{flowOrder}
-use Rattle.pywr.specs.ExclusiveSets.{exclusiveSets}
-use Rattle.pywr.specs.Rows.{columnMap}
+use Rattle.pywr.specs.ColEdgeMap.{columns, mapped_edges}
+use Rattle.pywr.specs.FlowOrder.{flow_order}
+use Rattle.pywr.specs.ExclusiveSets.{exclusive_sets}
+use Rattle.pywr.specs.Rows.{column_map}
 use Rattle.pywr.specs.Programme.{Maker, Built}
-use Rattle.pywr.specs.Makers.{fixedMakers}
-use Rattle.pywr.specs.Build.{nodeShape, assemble, programmeOf, build}
-use Rattle.pywr.specs.Written.{nodeWords, edgeWords, makerWords, countWords, rows_of}
-use Rattle.pywr.proofs.FlowLaws.{flow-length}
-use Rattle.network_laws.specs.NetworkAt.{nodeRecords, networkAt}
-use Rattle.network_laws.proofs.Index.{node-count, edge_count, aggregate-count, virtual-storage-count}
+use Rattle.pywr.specs.Makers.{fixed_makers}
+use Rattle.pywr.specs.Build.{node_shape, assemble, programme_of, build}
+use Rattle.pywr.specs.Written.{node_words, edge_words, maker_words, count_words, rows_of}
+use Rattle.pywr.proofs.FlowLaws.{flow_length}
+use Rattle.network_laws.specs.NetworkAt.{node_records, network_at}
+use Rattle.network_laws.proofs.Index.{node_count_lem, edge_count, aggregate_count_lem, virtual_storage_count_lem}
 use Rattle.network_record.specs.declared.Counts.{Counts}
-use Rattle.build_exclusive_sets.specs.Sets.{setsAt}
-use Rattle.build_col_edge_map.proofs.EdgeColumns.{columns-few}
+use Rattle.build_exclusive_sets.specs.Sets.{sets_at}
+use Rattle.build_col_edge_map.proofs.EdgeColumns.{columns_few}
 use Rattle.build_write.specs.declared.Sizes.{Sizes}
 use Rattle.build_write.specs.Lp.{Few}
 use Rattle.build_append.specs.declared.Filled.{Filled}
 use Rattle.build_append.specs.declared.RowsAdded.{RowsAdded}
 use Rattle.build_append.specs.declared.RowsAdded.TheVariants.{Done}
-use Rattle.build_append.specs.LpBuilder.{RowsHeld, withinCeilings}
-use Rattle.build_append.proofs.RowsHeldLaws.{held-within, over-more}
-use Rattle.build_node_row.specs.Tables.{networkOf, EdgeTables, SetTables}
+use Rattle.build_append.specs.LpBuilder.{RowsHeld, within_ceilings}
+use Rattle.build_append.proofs.RowsHeldLaws.{held_within, over_more}
+use Rattle.build_node_row.specs.Tables.{network_of, EdgeTables, SetTables}
 use Rattle.build_node_table.specs.declared.NodeRows.{NodeRows}
-use Rattle.build_shape.specs.ShapeTables.{edgeEntries, counts}
-use Rattle.build_shape.proofs.Table.{nodes-length, edges-length, edges-many}
+use Rattle.build_shape.specs.ShapeTables.{edge_entries, counts}
+use Rattle.build_shape.proofs.Table.{nodes_length, edges_length, edges_many}
 use Rattle.build_rows.specs.declared.Assembled.{Assembled}
 use Rattle.build_varying.specs.VaryingLaid.{VaryingLaid}
-use Rattle.build_rows.specs.Assembled.{Laid, Made, AfterAssemble, shapeFinished}
-use Rattle.build_rows.proofs.Ceilings.{rows-over, sets_over, none_over, eleven, accepted}
-use Rattle.build_rows.proofs.EdgeTable.{entries-are}
+use Rattle.build_rows.specs.Assembled.{Laid, Made, AfterAssemble, shape_finished}
+use Rattle.build_rows.proofs.Ceilings.{rows_over, sets_over, none_over, eleven, accepted}
+use Rattle.build_rows.proofs.EdgeTable.{entries_are}
 use Rattle.build_rows.proofs.LaidOut.{RowsLaid, laid_out}
-use Rattle.build_rows.proofs.Counts.{SizesAre, columns-are, counts-are}
-use Rattle.build_varying.proofs.Varying.{inside, asks-few}
+use Rattle.build_rows.proofs.Counts.{SizesAre, columns_are, counts_are}
+use Rattle.build_varying.proofs.Varying.{inside, asks_few}
 use Rattle.build_makers.specs.MadeRows.{AfterMade}
-use Rattle.build_rows.proofs.VaryingMade.{makersOfVarying, makers-are}
+use Rattle.build_rows.proofs.VaryingMade.{makers_of_varying, makers_are}
 
-counts-long : (s : Sentinel) (z : Sizes) (varying : ℕ) → length (counts s z varying) ≡ 11
+counts_long : (s : Sentinel) (z : Sizes) (varying : ℕ) → length (counts s z varying) ≡ 11
 unfolding counts
-counts-long s z varying = refl
+counts_long s z varying = refl
 
 -- a refusal and a programme are answered apart
-pub refused-so : (s : Sentinel) (file : List ℕ) (n p : ℕ) (words : List ℕ) (numbers : List Float) → build s file ≡ refused n p → AfterAssemble s file (Assembled.Refused n p) words numbers
-refused-so s file n p words numbers e =
+pub refused_so : (s : Sentinel) (file : List ℕ) (n p : ℕ) (words : List ℕ) (numbers : List Float) → build s file ≡ refused n p → AfterAssemble s file (Assembled.Refused n p) words numbers
+refused_so s file n p words numbers e =
     record {
       refusal = λ m q r. let em : n ≡ m = cc in let eq : p ≡ q = cc in e ∙ rw (em, eq);
       made = λ z r. absurd (let z₀ : ◌≡◌ {A = ℕ} 0 1 = cc in omega arith);
     }
 
-module _ (s : Sentinel) (file : List ℕ) (c : Counts) (firstIn nextIn firstOut nextOut table : List ℕ) (t : EdgeTables file c firstIn nextIn firstOut nextOut table) where
+module _ (s : Sentinel) (file : List ℕ) (c : Counts) (first_in next_in first_out next_out table : List ℕ) (t : EdgeTables file c first_in next_in first_out next_out table) where
   abbrev net : Network
-  net = networkOf file c
+  net = network_of file c
 
   abbrev b : Built
-  b = programmeOf s net
+  b = programme_of s net
 
-  shape-nodes : flat_map nodeWords (map nodeShape (nodeRecords file c.nodes)) ≡ flat_map nodeWords b.shape.nodes
-  unfolding programmeOf assemble networkAt
-  shape-nodes = refl
+  shape_nodes : flat_map node_words (map node_shape (node_records file c.nodes)) ≡ flat_map node_words b.shape.nodes
+  unfolding programme_of assemble network_at
+  shape_nodes = refl
 
-  shape-edges : flat_map edgeWords (mappedEdges net) ≡ flat_map edgeWords b.shape.mappedEdges
-  unfolding programmeOf assemble columnMap
-  shape-edges = refl
+  shape_edges : flat_map edge_words (mapped_edges net) ≡ flat_map edge_words b.shape.mapped_edges
+  unfolding programme_of assemble column_map
+  shape_edges = refl
 
-  edge-count-is : length net.edges ≡ c.edges
-  edge-count-is = edge_count file c.nodes c.edges c.aggregates c.virtual_storages
+  edge_count_is : length net.edges ≡ c.edges
+  edge_count_is = edge_count file c.nodes c.edges c.aggregates c.virtual_storages
 
-  shape-flow-order : flowOrder net ≡ b.shape.flowOrder
-  unfolding programmeOf assemble
-  shape-flow-order = refl
+  shape_flow_order : flow_order net ≡ b.shape.flow_order
+  unfolding programme_of assemble
+  shape_flow_order = refl
 
   -- 11: too many sets, or rows over the ceilings
-  pub sets-refused : (words : List ℕ) (numbers : List Float) → 128 < length (exclusiveSets net) → AfterAssemble s file (Assembled.Refused 11 0) words numbers
-  sets-refused words numbers h = refused-so s file 11 0 words numbers (eleven s file net t.parsed (sets_over net b.programme h))
+  pub sets_refused : (words : List ℕ) (numbers : List Float) → 128 < length (exclusive_sets net) → AfterAssemble s file (Assembled.Refused 11 0) words numbers
+  sets_refused words numbers h = refused_so s file 11 0 words numbers (eleven s file net t.parsed (sets_over net b.programme h))
 
-  rows-refused : (words : List ℕ) (numbers : List Float) → withinCeilings (rows_of b.programme) ≡ false → AfterAssemble s file (Assembled.Refused 11 0) words numbers
-  rows-refused words numbers e = refused-so s file 11 0 words numbers (eleven s file net t.parsed (rows-over net b.programme e))
+  rows_refused : (words : List ℕ) (numbers : List Float) → within_ceilings (rows_of b.programme) ≡ false → AfterAssemble s file (Assembled.Refused 11 0) words numbers
+  rows_refused words numbers e = refused_so s file 11 0 words numbers (eleven s file net t.parsed (rows_over net b.programme e))
 
-  pub varying-refused : (words : List ℕ) (numbers : List Float) → withinCeilings b.programme.varying ≡ false → AfterAssemble s file (Assembled.Refused 11 0) words numbers
+  pub varying_refused : (words : List ℕ) (numbers : List Float) → within_ceilings b.programme.varying ≡ false → AfterAssemble s file (Assembled.Refused 11 0) words numbers
   unfolding rows_of
-  varying-refused words numbers e = rows-refused words numbers (over-more b.programme.varying b.programme.fixed e)
+  varying_refused words numbers e = rows_refused words numbers (over_more b.programme.varying b.programme.fixed e)
 
-  pub fixed-refused : (words : List ℕ) (numbers : List Float) → withinCeilings (b.programme.varying ++ b.programme.fixed) ≡ false → AfterAssemble s file (Assembled.Refused 11 0) words numbers
+  pub fixed_refused : (words : List ℕ) (numbers : List Float) → within_ceilings (b.programme.varying ++ b.programme.fixed) ≡ false → AfterAssemble s file (Assembled.Refused 11 0) words numbers
   unfolding rows_of
-  fixed-refused words numbers e = rows-refused words numbers e
+  fixed_refused words numbers e = rows_refused words numbers e
 
-  module _ (setAt firstMembership nextMembership : List ℕ) (sets₀ : ℕ) (l : SetTables file c setAt sets₀ firstMembership nextMembership)
-      (edgeColumns : ℕ) (columns-is : edgeColumns ≡ (columns net).count) (n : NodeRows) (g : Filled) where
+  module _ (aggregate_set_at first_membership next_membership : List ℕ) (sets₀ : ℕ) (l : SetTables file c aggregate_set_at sets₀ first_membership next_membership)
+      (edge_columns : ℕ) (columns-is : edge_columns ≡ (columns net).count) (n : NodeRows) (g : Filled) where
     abbrev pub sizes : Sizes
     sizes =
         record {
           nodes = c.nodes;
           edges = c.edges;
-          edge_columns = edgeColumns;
+          edge_columns = edge_columns;
           sets = sets₀;
           rows = g.rows;
           elements = g.elements;
@@ -114,75 +114,75 @@ module _ (s : Sentinel) (file : List ℕ) (c : Counts) (firstIn nextIn firstOut 
           virtual_storages = c.virtual_storages;
         }
 
-    sets-are : length (exclusiveSets net) ≡ sets₀
-    sets-are =
-        let long : length (setsAt file setAt sets₀) ≡ length (take sets₀ setAt) = simp length-map in
-        sym (ap (λ (x : List (List ℕ)). length x) l.held) ∙ long ∙ length-take-le sets₀ setAt (omega (arith, l.fit.long, l.fit.few))
+    sets_are : length (exclusive_sets net) ≡ sets₀
+    sets_are =
+        let long : length (sets_at file aggregate_set_at sets₀) ≡ length (take sets₀ aggregate_set_at) = simp length-map in
+        sym (ap (λ (x : List (List ℕ)). length x) l.held) ∙ long ∙ length-take-le sets₀ aggregate_set_at (omega (arith, l.fit.long, l.fit.few))
 
     module _ (words₁ words₂ : List ℕ) (numbers₁ numbers₂ : List Float) (v : VaryingLaid s net n words₁ numbers₁)
-        (r : RowsAdded) (a : AfterMade (b.programme.varying ++ b.programme.fixed) (makersOfVarying s net ++ fixedMakers s (columnMap net) net) words₁ r words₂ numbers₂) (done : r ≡ Done g) where
+        (r : RowsAdded) (a : AfterMade (b.programme.varying ++ b.programme.fixed) (makers_of_varying s net ++ fixed_makers s (column_map net) net) words₁ r words₂ numbers₂) (done : r ≡ Done g) where
       held : RowsHeld (rows_of b.programme) words₂ numbers₂ g
       unfolding rows_of
       held = (a.held g done).held
 
       -- as many makers as rows
-      makers-many : length b.makers ≡ g.rows
+      makers_many : length b.makers ≡ g.rows
       unfolding rows_of
-      makers-many = ap (λ (l : List Maker). length l) (sym (makers-are s net)) ∙ (a.held g done).each ∙ sym held.rowCount
+      makers_many = ap (λ (l : List Maker). length l) (sym (makers_are s net)) ∙ (a.held g done).each ∙ sym held.row_count
 
       are : SizesAre s net sizes
       are =
           record {
-            nodes = sym (node-count file c.nodes c.edges c.aggregates c.virtual_storages);
-            edges = sym (ap (λ (x : List _). length x) (sym (entries-are file c firstIn nextIn firstOut nextOut table t)) ∙ edges-many file table c.nodes c.edges 0);
-            edgeColumns = columns-is;
-            sets = sym sets-are;
-            rows = held.rowCount;
-            elements = held.elementsCount;
-            nodeRows = v.counted;
-            aggregates = sym (aggregate-count file c.nodes c.edges c.aggregates c.virtual_storages);
-            virtualStorages = sym (virtual-storage-count file c.nodes c.edges c.aggregates c.virtual_storages);
+            nodes = sym (node_count_lem file c.nodes c.edges c.aggregates c.virtual_storages);
+            edges = sym (ap (λ (x : List _). length x) (sym (entries_are file c first_in next_in first_out next_out table t)) ∙ edges_many file table c.nodes c.edges 0);
+            edge_columns = columns-is;
+            sets = sym sets_are;
+            rows = held.row_count;
+            elements = held.elements_count;
+            node_rows = v.counted;
+            aggregates = sym (aggregate_count_lem file c.nodes c.edges c.aggregates c.virtual_storages);
+            virtual_storages = sym (virtual_storage_count_lem file c.nodes c.edges c.aggregates c.virtual_storages);
           }
 
       pub few : Few sizes
       few =
           record {
-            nodes = t.sections.few-nodes;
-            edges = t.sections.few-edges;
-            edgeColumns = omega (arith, columns-is, columns-few net table (columns net).count t.mapped, are.edges, t.sections.few-edges, edge-count-is);
+            nodes = t.sections.few_nodes;
+            edges = t.sections.few_edges;
+            edge_columns = omega (arith, columns-is, columns_few net table (columns net).count t.mapped, are.edges, t.sections.few_edges, edge_count_is);
             sets = l.fit.few;
-            rows = omega (arith, held.rowCount, held.fewRows);
-            elements = omega (arith, held.elementsCount, held.fewElements);
-            nodeRows = omega (arith, v.counted, asks-few file c firstIn nextIn firstOut nextOut table firstMembership nextMembership t (record { setAt = setAt; sets = sets₀; tables = l }));
-            aggregates = t.sections.few-aggregates;
-            virtualStorages = t.sections.few-virtual-storages;
+            rows = omega (arith, held.row_count, held.few_rows);
+            elements = omega (arith, held.elements_count, held.few_elements);
+            node_rows = omega (arith, v.counted, asks_few file c first_in next_in first_out next_out table first_membership next_membership t (record { aggregate_set_at = aggregate_set_at; sets = sets₀; tables = l }));
+            aggregates = t.sections.few_aggregates_lem;
+            virtual_storages = t.sections.few_virtual_storages_lem;
           }
 
       -- the varying rows are among the rows
-      pub varying-most : n.filled.rows ≤ g.rows
+      pub varying_most : n.filled.rows ≤ g.rows
       unfolding rows_of
-      varying-most = omega (arith, v.held.rowCount, held.rowCount, length-append b.programme.varying b.programme.fixed)
+      varying_most = omega (arith, v.held.row_count, held.row_count, length-append b.programme.varying b.programme.fixed)
 
-      pub all_made : (words₃ : List ℕ) → wordsLength ≤ length words₁ → wordsLength ≤ length words₂
-          → words₃ ≡ shapeFinished s file table sizes n.filled.rows (flowOrder net) words₂
+      pub all_made : (words₃ : List ℕ) → words_length ≤ length words₁ → words_length ≤ length words₂
+          → words₃ ≡ shape_finished s file table sizes n.filled.rows (flow_order net) words₂
           → AfterAssemble s file (Assembled.Done sizes) words₃ numbers₂
       all_made words₃ room₁ room e =
-          let cs : counts s sizes n.filled.rows ≡ countWords b = counts-are s net sizes are n.filled.rows v.held.rowCount in
+          let cs : counts s sizes n.filled.rows ≡ count_words b = counts_are s net sizes are n.filled.rows v.held.row_count in
           let rows-laid : RowsLaid b sizes words₂ numbers₂ =
           record {
             rows = held;
-            nodeRows = ap unpackedNodeRows (kept-part nodeRowsMadeAt (2 * n.count) (omega arith) (omega (arith, few.nodeRows))) ∙ v.nodeRows;
-            aggregates = ap (λ (k : ℕ). part aggregatesMadeAt k words₂) are.aggregates
-                ∙ kept-part aggregatesMadeAt (length net.aggregates) (omega arith) (omega (arith, are.aggregates, few.aggregates)) ∙ v.aggregates;
-            virtualStorages = ap (λ (k : ℕ). part virtualStoragesMadeAt (6 * k) words₂) are.virtualStorages
-                ∙ kept-part virtualStoragesMadeAt (6 * length net.virtualStorages) (omega arith) (omega (arith, are.virtualStorages, few.virtualStorages)) ∙ v.virtualStorages;
-            makers = ap (λ (k : ℕ). part makersMadeAt (3 * k) words₂) (sym makers-many)
-                ∙ ap (λ (l : List Maker). part makersMadeAt (3 * length l) words₂) (sym (makers-are s net)) ∙ (a.held g done).made ∙ ap (flat_map makerWords) (makers-are s net);
+            node_rows = ap unpacked_node_rows (kept_part node_rows_made_at (2 * n.count) (omega arith) (omega (arith, few.node_rows))) ∙ v.node_rows;
+            aggregates = ap (λ (k : ℕ). part aggregates_made_at k words₂) are.aggregates
+                ∙ kept_part aggregates_made_at (length net.aggregates) (omega arith) (omega (arith, are.aggregates, few.aggregates)) ∙ v.aggregates;
+            virtual_storages = ap (λ (k : ℕ). part virtual_storages_made_at (6 * k) words₂) are.virtual_storages
+                ∙ kept_part virtual_storages_made_at (6 * length net.virtual_storages) (omega arith) (omega (arith, are.virtual_storages, few.virtual_storages)) ∙ v.virtual_storages;
+            makers = ap (λ (k : ℕ). part makers_made_at (3 * k) words₂) (sym makers_many)
+                ∙ ap (λ (l : List Maker). part makers_made_at (3 * length l) words₂) (sym (makers_are s net)) ∙ (a.held g done).made ∙ ap (flat_map maker_words) (makers_are s net);
           } in
-          let laid = laid_out s b sizes words₂ numbers₂ _ _ _ _ few (columns-are s net sizes are) room (nodes-length file c.nodes)
-          (edges-length file table c.nodes c.edges) (counts-long s sizes n.filled.rows) (flow-length net ∙ edge-count-is) nodes-are edges_are cs shape-flow-order rows-laid in
+          let laid = laid_out s b sizes words₂ numbers₂ _ _ _ _ few (columns_are s net sizes are) room (nodes_length file c.nodes)
+          (edges_length file table c.nodes c.edges) (counts_long s sizes n.filled.rows) (flow_length net ∙ edge_count_is) nodes_are edges_are cs shape_flow_order rows-laid in
           let is : build s file ≡ value b = accepted s file net t.parsed
-          (none_over net b.programme (omega (arith, sets-are, l.fit.few)) (held-within (rows_of b.programme) words₂ numbers₂ g held)) in
+          (none_over net b.programme (omega (arith, sets_are, l.fit.few)) (held_within (rows_of b.programme) words₂ numbers₂ g held)) in
           record {
             refusal = λ m q z. absurd (let z₀ : ◌≡◌ {A = ℕ} 0 1 = cc in omega arith);
             made = λ z q. let ez : sizes ≡ z = cc in subst (λ (y : Sizes). Made s file y words₃ numbers₂) ez
@@ -190,11 +190,11 @@ module _ (s : Sentinel) (file : List ℕ) (c : Counts) (firstIn nextIn firstOut 
           }
         where
           -- the words before the table of makers stay
-          kept-part : (p k : ℕ) → shapeMadeAt ≤ p → p + k ≤ makersMadeAt → part p k words₂ ≡ part p k words₁
-          kept-part p k hp hk = inside words₁ words₂ shapeMadeAt makersPackedAt p k hp hk (omega arith) (omega arith) a.kept
+          kept_part : (p k : ℕ) → shape_made_at ≤ p → p + k ≤ makers_made_at → part p k words₂ ≡ part p k words₁
+          kept_part p k hp hk = inside words₁ words₂ shape_made_at makers_packed_at p k hp hk (omega arith) (omega arith) a.kept
 
-          nodes-are : flat_map nodeWords (map nodeShape (nodeRecords file c.nodes)) ≡ flat_map nodeWords b.shape.nodes
-          nodes-are = shape-nodes
+          nodes_are : flat_map node_words (map node_shape (node_records file c.nodes)) ≡ flat_map node_words b.shape.nodes
+          nodes_are = shape_nodes
 
-          edges_are : flat_map edgeWords (edgeEntries file table c.nodes c.edges) ≡ flat_map edgeWords b.shape.mappedEdges
-          edges_are = ap (flat_map edgeWords) (entries-are file c firstIn nextIn firstOut nextOut table t) ∙ shape-edges
+          edges_are : flat_map edge_words (edge_entries file table c.nodes c.edges) ≡ flat_map edge_words b.shape.mapped_edges
+          edges_are = ap (flat_map edge_words) (entries_are file c first_in next_in first_out next_out table t) ∙ shape_edges

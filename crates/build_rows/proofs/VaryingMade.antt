@@ -7,110 +7,110 @@ use lib.ListN.{length, take, drop, length-map}
 use lib.Seq.{drop-drop}
 use lib.Ieee.{Float}
 use borrow.Rule.Slice.PartMut.{take_put}
-use Rattle.layout.specs.Layout.{aggregatesPackedAt, makersPackedAt, makersMadeAt, nodeRowCeiling, nodeRowsAt, shapeMadeAt, virtualStoragesPackedAt, wordsLength}
-use Rattle.layout.specs.PackedNodeRow.{unpackedNodeRows}
+use Rattle.layout.specs.Layout.{aggregates_packed_at, makers_packed_at, makers_made_at, node_row_ceiling, node_rows_at, shape_made_at, virtual_storages_packed_at, words_length}
+use Rattle.layout.specs.PackedNodeRow.{unpacked_node_rows}
 use Rattle.laws.specs.Part.{part}
-use Rattle.laws.proofs.Tails.{tail, putTail, tail-length, tail-back, tail-part}
+use Rattle.laws.proofs.Tails.{tail, put_tail, tail_length, tail_back, tail_part}
 use Rattle.pywr.specs.declared.Sentinel.{Sentinel}
 use Rattle.pywr.specs.Network.{Network}
-use Rattle.pywr.specs.Rows.{Element, columnMap}
+use Rattle.pywr.specs.Rows.{Element, column_map}
 use Rattle.pywr.specs.VaryingRows.{fresh_row}
 use Rattle.pywr.specs.Programme.{Maker, Built}
-use Rattle.pywr.specs.Makers.{askers, varyingMakers, fixedMakers}
-use Rattle.pywr.specs.Build.{assemble, programmeOf}
-use Rattle.pywr.specs.Written.{makerWords}
-use Rattle.pywr.proofs.MakerLaws.{varying-makers-length}
-use Rattle.pywr.proofs.MadeLaws.{asked-under}
-use Rattle.build_append.proofs.RowLaws.{part-agrees}
-use Rattle.build_append.proofs.RowsHeldLaws.{held-agrees}
+use Rattle.pywr.specs.Makers.{askers, varying_makers, fixed_makers}
+use Rattle.pywr.specs.Build.{assemble, programme_of}
+use Rattle.pywr.specs.Written.{maker_words}
+use Rattle.pywr.proofs.MakerLaws.{varying_makers_length}
+use Rattle.pywr.proofs.MadeLaws.{asked_under}
+use Rattle.build_append.proofs.RowLaws.{part_agrees}
+use Rattle.build_append.proofs.RowsHeldLaws.{held_agrees}
 use Rattle.build_join.specs.JoinedRows.{joined}
 use Rattle.build_node_table.specs.declared.NodeRows.{NodeRows}
 use Rattle.build_makers.specs.MadeRows.{MadeHeld}
-use Rattle.build_sharers.specs.Sharers.{askersIn, RowsUnder}
+use Rattle.build_sharers.specs.Sharers.{askers_in, RowsUnder}
 use Rattle.build_varying.specs.VaryingLaid.{VaryingLaid}
-use Rattle.build_varying.proofs.Varying.{rows₂, forVirtualStorages}
-use Rattle.build_rows.proofs.Askers.{askers-are, all_under}
-use Rattle.build_rows.proofs.Counts.{node-rows-count, aggregates-count, virtual-storages-count}
+use Rattle.build_varying.proofs.Varying.{rows₂, for_virtual_storages}
+use Rattle.build_rows.proofs.Askers.{askers_are, all_under}
+use Rattle.build_rows.proofs.Counts.{node_rows_count, aggregates_count, virtual_storages_count}
 
 module _ (s : Sentinel) (net : Network) where
   abbrev b : Built
-  b = programmeOf s net
+  b = programme_of s net
 
   abbrev all : List (List Element)
-  all = (joined (forVirtualStorages s net) (rows₂ s net)).rows
+  all = (joined (for_virtual_storages s net) (rows₂ s net)).rows
 
-  varying-count : length (programmeOf s net).programme.varying ≡ length all
-  unfolding programmeOf assemble
-  varying-count = length-map all (fresh_row s)
+  varying_count_lem : length (programme_of s net).programme.varying ≡ length all
+  unfolding programme_of assemble
+  varying_count_lem = length-map all (fresh_row s)
 
   -- the makers of the varying rows
-  abbrev pub makersOfVarying : List Maker
-  makersOfVarying = varyingMakers (askers (programmeOf s net).shape) 0 (length (programmeOf s net).programme.varying)
+  abbrev pub makers_of_varying : List Maker
+  makers_of_varying = varying_makers (askers (programme_of s net).shape) 0 (length (programme_of s net).programme.varying)
 
-  unfolded : varyingMakers (askers (programmeOf s net).shape) 0 (length all) ++ fixedMakers s (columnMap net) net ≡ (programmeOf s net).makers
-  unfolding programmeOf assemble
+  unfolded : varying_makers (askers (programme_of s net).shape) 0 (length all) ++ fixed_makers s (column_map net) net ≡ (programme_of s net).makers
+  unfolding programme_of assemble
   unfolded = refl
 
-  pub makers-are : makersOfVarying ++ fixedMakers s (columnMap net) net ≡ (programmeOf s net).makers
-  makers-are = ap (λ (k : ℕ). varyingMakers (askers b.shape) 0 k ++ fixedMakers s (columnMap net) net) varying-count ∙ unfolded
+  pub makers_are : makers_of_varying ++ fixed_makers s (column_map net) net ≡ (programme_of s net).makers
+  makers_are = ap (λ (k : ℕ). varying_makers (askers b.shape) 0 k ++ fixed_makers s (column_map net) net) varying_count_lem ∙ unfolded
 
 -- ---- the tables, and the run with the makers put
 
-module _ (s : Sentinel) (net : Network) (n : NodeRows) (words : List ℕ) (numbers : List Float) (v : VaryingLaid s net n words numbers) (room : wordsLength ≤ length words) (few : n.count ≤ nodeRowCeiling)
-    (aggregates virtualStorages : ℕ) (ca : aggregates ≡ length net.aggregates) (cv : virtualStorages ≡ length net.virtualStorages) where
+module _ (s : Sentinel) (net : Network) (n : NodeRows) (words : List ℕ) (numbers : List Float) (v : VaryingLaid s net n words numbers) (room : words_length ≤ length words) (few : n.count ≤ node_row_ceiling)
+    (aggregates virtual_storages : ℕ) (ca : aggregates ≡ length net.aggregates) (cv : virtual_storages ≡ length net.virtual_storages) where
   abbrev shape : List ℕ
-  shape = tail shapeMadeAt words
+  shape = tail shape_made_at words
 
-  pub askers-of : askersIn shape n.count aggregates virtualStorages ≡ askers (programmeOf s net).shape
-  askers-of =
-      let nodes : length (b s net).shape.nodeRows ≡ n.count = node-rows-count s net ∙ sym v.counted in
-      let aggregates-many : length (b s net).shape.aggregates ≡ length net.aggregates = aggregates-count s net in
-      let virtual-storages-many : length (b s net).shape.virtualStorages ≡ length net.virtualStorages = virtual-storages-count s net in
-      rw (ca, cv, ← nodes, ← aggregates-many, ← virtual-storages-many)
-      (askers-are shape (b s net).shape (omega (arith, nodes, tail-length shapeMadeAt words))
-      (rw nodes (ap unpackedNodeRows (tail-part shapeMadeAt words nodeRowsAt (2 * n.count)) ∙ v.nodeRows))
-      (rw aggregates-many (tail-part shapeMadeAt words aggregatesPackedAt (length net.aggregates) ∙ v.aggregates))
-      (rw virtual-storages-many (tail-part shapeMadeAt words virtualStoragesPackedAt (6 * length net.virtualStorages) ∙ v.virtualStorages)))
+  pub askers_of : askers_in shape n.count aggregates virtual_storages ≡ askers (programme_of s net).shape
+  askers_of =
+      let nodes : length (b s net).shape.node_rows ≡ n.count = node_rows_count s net ∙ sym v.counted in
+      let aggregates_many : length (b s net).shape.aggregates ≡ length net.aggregates = aggregates_count s net in
+      let virtual_storages_many : length (b s net).shape.virtual_storages ≡ length net.virtual_storages = virtual_storages_count s net in
+      rw (ca, cv, ← nodes, ← aggregates_many, ← virtual_storages_many)
+      (askers_are shape (b s net).shape (omega (arith, nodes, tail_length shape_made_at words))
+      (rw nodes (ap unpacked_node_rows (tail_part shape_made_at words node_rows_at (2 * n.count)) ∙ v.node_rows))
+      (rw aggregates_many (tail_part shape_made_at words aggregates_packed_at (length net.aggregates) ∙ v.aggregates))
+      (rw virtual_storages_many (tail_part shape_made_at words virtual_storages_packed_at (6 * length net.virtual_storages) ∙ v.virtual_storages)))
 
-  pub rows-count : n.filled.rows ≡ length (programmeOf s net).programme.varying
-  rows-count = v.held.rowCount
+  pub rows_count : n.filled.rows ≡ length (programme_of s net).programme.varying
+  rows_count = v.held.row_count
 
-  pub rows_under : RowsUnder n.filled.rows (askersIn shape n.count aggregates virtualStorages)
-  rows_under = rw (askers-of, rows-count) (all_under (length (b s net).programme.varying) (askers (b s net).shape) (asked-under s net))
+  pub rows_under : RowsUnder n.filled.rows (askers_in shape n.count aggregates virtual_storages)
+  rows_under = rw (askers_of, rows_count) (all_under (length (b s net).programme.varying) (askers (b s net).shape) (asked_under s net))
 
-  module _ (shape' : List ℕ) (put : part makersPackedAt (3 * n.filled.rows) shape' ≡ flat_map makerWords (varyingMakers (askersIn shape n.count aggregates virtualStorages) 0 n.filled.rows))
-      (kept : take makersPackedAt shape' ≡ take makersPackedAt shape) where
+  module _ (shape' : List ℕ) (put : part makers_packed_at (3 * n.filled.rows) shape' ≡ flat_map maker_words (varying_makers (askers_in shape n.count aggregates virtual_storages) 0 n.filled.rows))
+      (kept : take makers_packed_at shape' ≡ take makers_packed_at shape) where
     abbrev words' : List ℕ
-    words' = putTail shapeMadeAt words shape'
+    words' = put_tail shape_made_at words shape'
 
-    there : (k m : ℕ) → part (shapeMadeAt + k) m words' ≡ part k m shape'
-    there k m = ap (take m) (sym (drop-drop k shapeMadeAt words') ∙ ap (drop k) (tail-back shapeMadeAt words shape' (omega arith)))
+    there : (k m : ℕ) → part (shape_made_at + k) m words' ≡ part k m shape'
+    there k m = ap (take m) (sym (drop-drop k shape_made_at words') ∙ ap (drop k) (tail_back shape_made_at words shape' (omega arith)))
 
-    stays : (k m : ℕ) → k + m ≤ makersPackedAt → part (shapeMadeAt + k) m words' ≡ part (shapeMadeAt + k) m words
-    stays k m h = there k m ∙ part-agrees k m makersPackedAt shape shape' h kept ∙ tail-part shapeMadeAt words k m
+    stays : (k m : ℕ) → k + m ≤ makers_packed_at → part (shape_made_at + k) m words' ≡ part (shape_made_at + k) m words
+    stays k m h = there k m ∙ part_agrees k m makers_packed_at shape shape' h kept ∙ tail_part shape_made_at words k m
 
-    front : take shapeMadeAt words' ≡ take shapeMadeAt words
-    front = take_put shapeMadeAt (length words - shapeMadeAt) words shape' (omega arith)
+    front : take shape_made_at words' ≡ take shape_made_at words
+    front = take_put shape_made_at (length words - shape_made_at) words shape' (omega arith)
 
-    pub still-laid : aggregates ≤ 64 → virtualStorages ≤ 32 → VaryingLaid s net n words' numbers
-    still-laid fa fv =
+    pub still_laid : aggregates ≤ 64 → virtual_storages ≤ 32 → VaryingLaid s net n words' numbers
+    still_laid fa fv =
         record {
-          held = held-agrees (b s net).programme.varying words words' numbers numbers n.filled v.held front refl;
+          held = held_agrees (b s net).programme.varying words words' numbers numbers n.filled v.held front refl;
           counted = v.counted;
-          nodeRows = ap unpackedNodeRows (stays nodeRowsAt (2 * n.count) (omega arith)) ∙ v.nodeRows;
-          aggregates = stays aggregatesPackedAt (length net.aggregates) (omega arith) ∙ v.aggregates;
-          virtualStorages = stays virtualStoragesPackedAt (6 * length net.virtualStorages) (omega arith) ∙ v.virtualStorages;
+          node_rows = ap unpacked_node_rows (stays node_rows_at (2 * n.count) (omega arith)) ∙ v.node_rows;
+          aggregates = stays aggregates_packed_at (length net.aggregates) (omega arith) ∙ v.aggregates;
+          virtual_storages = stays virtual_storages_packed_at (6 * length net.virtual_storages) (omega arith) ∙ v.virtual_storages;
         }
 
-    pub varying-made : MadeHeld (programmeOf s net).programme.varying (makersOfVarying s net) words' numbers n.filled
-    varying-made =
-        let count : length (makersOfVarying s net) ≡ n.filled.rows = varying-makers-length (askers (b s net).shape) 0 (length (b s net).programme.varying) ∙ sym rows-count in
+    pub varying_made : MadeHeld (programme_of s net).programme.varying (makers_of_varying s net) words' numbers n.filled
+    varying_made =
+        let count : length (makers_of_varying s net) ≡ n.filled.rows = varying_makers_length (askers (b s net).shape) 0 (length (b s net).programme.varying) ∙ sym rows_count in
         record {
-          held = held-agrees (b s net).programme.varying words words' numbers numbers n.filled v.held front refl;
-          each = varying-makers-length (askers (b s net).shape) 0 (length (b s net).programme.varying);
+          held = held_agrees (b s net).programme.varying words words' numbers numbers n.filled v.held front refl;
+          each = varying_makers_length (askers (b s net).shape) 0 (length (b s net).programme.varying);
           made =
-              ap (λ (k : ℕ). part makersMadeAt (3 * k) words') count
-              ∙ there makersPackedAt (3 * n.filled.rows)
+              ap (λ (k : ℕ). part makers_made_at (3 * k) words') count
+              ∙ there makers_packed_at (3 * n.filled.rows)
               ∙ put
-              ∙ ap₂ (λ (l : List _) (k : ℕ). flat_map makerWords (varyingMakers l 0 k)) askers-of rows-count;
+              ∙ ap₂ (λ (l : List _) (k : ℕ). flat_map maker_words (varying_makers l 0 k)) askers_of rows_count;
         }

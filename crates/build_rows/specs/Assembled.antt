@@ -3,35 +3,35 @@
 use Rattle.std.specs.Prelude.{◌≡◌, ℕ, ◌*◌, Float}
 use mathlib.Core.List.{List, map, flat_map}
 use Rattle.std.proofs.lemmas.List.Edits.{sets}
-use Rattle.layout.specs.Layout.{countsLength, nodeWidth, edgeWidth, packedNodeRowWidth, virtualStorageWidth, makerWidth}
-use Rattle.layout.specs.Layout.{shapeMadeAt, nodesMadeAt, edgesMadeAt, nodeRowsMadeAt, aggregatesMadeAt, virtualStoragesMadeAt, makersMadeAt, flowOrderMadeAt}
-use Rattle.layout.specs.PackedNodeRow.{unpackedNodeRows}
+use Rattle.layout.specs.Layout.{counts_length, node_width, edge_width, packed_node_row_width, virtual_storage_width, maker_width}
+use Rattle.layout.specs.Layout.{shape_made_at, nodes_made_at, edges_made_at, node_rows_made_at, aggregates_made_at, virtual_storages_made_at, makers_made_at, flow_order_made_at}
+use Rattle.layout.specs.PackedNodeRow.{unpacked_node_rows}
 use Rattle.laws.specs.Part.{part}
 use Rattle.pywr.specs.declared.Sentinel.{Sentinel}
 use Rattle.pywr.specs.Result.{value, refused}
 use Rattle.pywr.specs.Programme.{Built}
-use Rattle.pywr.specs.Build.{nodeShape, build}
-use Rattle.pywr.specs.Written.{nodeWords, edgeWords, nodeRowWords, virtualStorageWords, makerWords, countWords, rows_of}
-use Rattle.network_laws.specs.NetworkAt.{nodeRecords}
-use Rattle.build_shape.specs.ShapeTables.{edgeEntries, counts}
+use Rattle.pywr.specs.Build.{node_shape, build}
+use Rattle.pywr.specs.Written.{node_words, edge_words, node_row_words, virtual_storage_words, maker_words, count_words, rows_of}
+use Rattle.network_laws.specs.NetworkAt.{node_records}
+use Rattle.build_shape.specs.ShapeTables.{edge_entries, counts}
 use Rattle.build_write.specs.declared.Sizes.{Sizes}
-use Rattle.build_write.specs.Lp.{Few, columnsOf}
+use Rattle.build_write.specs.Lp.{Few, columns_of}
 use Rattle.build_append.specs.LpBuilder.{RowsHeld}
 use Rattle.build_rows.specs.declared.Assembled.{Assembled}
 
 -- the programme b with its shape, as the work runs hold it
 pub record Laid (s : Sentinel) (b : Built) (z : Sizes) (words : List ℕ) (numbers : List Float) : Type 0 where
   pub few : Few z
-  pub columns : columnsOf s z ≡ b.programme.columns
+  pub columns : columns_of s z ≡ b.programme.columns
   pub rows : RowsHeld (rows_of b.programme) words numbers (record { rows = z.rows; elements = z.elements })
-  pub counts : part shapeMadeAt countsLength words ≡ countWords b
-  pub nodes : part nodesMadeAt (nodeWidth * z.nodes) words ≡ flat_map nodeWords b.shape.nodes
-  pub edges : part edgesMadeAt (edgeWidth * z.edges) words ≡ flat_map edgeWords b.shape.mappedEdges
-  pub nodeRows : unpackedNodeRows (part nodeRowsMadeAt (packedNodeRowWidth * z.node_rows) words) ≡ flat_map nodeRowWords b.shape.nodeRows
-  pub aggregates : part aggregatesMadeAt z.aggregates words ≡ b.shape.aggregates
-  pub virtualStorages : part virtualStoragesMadeAt (virtualStorageWidth * z.virtual_storages) words ≡ flat_map virtualStorageWords b.shape.virtualStorages
-  pub makers : part makersMadeAt (makerWidth * z.rows) words ≡ flat_map makerWords b.makers
-  pub flowOrder : part flowOrderMadeAt z.edges words ≡ b.shape.flowOrder
+  pub counts : part shape_made_at counts_length words ≡ count_words b
+  pub nodes : part nodes_made_at (node_width * z.nodes) words ≡ flat_map node_words b.shape.nodes
+  pub edges : part edges_made_at (edge_width * z.edges) words ≡ flat_map edge_words b.shape.mapped_edges
+  pub node_rows : unpacked_node_rows (part node_rows_made_at (packed_node_row_width * z.node_rows) words) ≡ flat_map node_row_words b.shape.node_rows
+  pub aggregates : part aggregates_made_at z.aggregates words ≡ b.shape.aggregates
+  pub virtual_storages : part virtual_storages_made_at (virtual_storage_width * z.virtual_storages) words ≡ flat_map virtual_storage_words b.shape.virtual_storages
+  pub makers : part makers_made_at (maker_width * z.rows) words ≡ flat_map maker_words b.makers
+  pub flow_order : part flow_order_made_at z.edges words ≡ b.shape.flow_order
 
 -- the build's programme is laid out
 pub record Made (s : Sentinel) (file : List ℕ) (z : Sizes) (words : List ℕ) (numbers : List Float) : Type 0 where
@@ -45,14 +45,14 @@ pub record AfterAssemble (s : Sentinel) (file : List ℕ) (r : Assembled) (words
   pub made : (z : Sizes) → r ≡ Assembled.Done z → Made s file z words numbers
 
 -- the tables of nodes and edges and the counts, written into `words` behind the rows
-abbrev pub tablesWritten : Sentinel → List ℕ → List ℕ → Sizes → ℕ → List ℕ → List ℕ
-tablesWritten s file table z varying words =
+abbrev pub tables_written : Sentinel → List ℕ → List ℕ → Sizes → ℕ → List ℕ → List ℕ
+tables_written s file table z varying words =
     sets
     (sets
-    (sets words nodesMadeAt (flat_map nodeWords (map nodeShape (nodeRecords file z.nodes))))
-    edgesMadeAt (flat_map edgeWords (edgeEntries file table z.nodes z.edges)))
-    shapeMadeAt (counts s z varying)
+    (sets words nodes_made_at (flat_map node_words (map node_shape (node_records file z.nodes))))
+    edges_made_at (flat_map edge_words (edge_entries file table z.nodes z.edges)))
+    shape_made_at (counts s z varying)
 
 -- these, and the edges' numbers in flow order
-abbrev pub shapeFinished : Sentinel → List ℕ → List ℕ → Sizes → ℕ → List ℕ → List ℕ → List ℕ
-shapeFinished s file table z varying order words = sets (tablesWritten s file table z varying words) flowOrderMadeAt order
+abbrev pub shape_finished : Sentinel → List ℕ → List ℕ → Sizes → ℕ → List ℕ → List ℕ → List ℕ
+shape_finished s file table z varying order words = sets (tables_written s file table z varying words) flow_order_made_at order

@@ -1,12 +1,12 @@
 // A programme in the work runs of a build: all rows with their makers, the tables of nodes and edges, the counts, the flow order.
 ghost use Rattle.std.specs.Prelude.{◌≡◌, ℕ, ◌<◌, ◌≤◌, length, get_or};
-ghost use Rattle.layout.specs.Layout.{wordsLength};
-ghost use Rattle.network_edge.specs.Edge.{edgePlace};
-ghost use Rattle.build_node_row.specs.EdgeColumns.{edgeColumns};
-ghost use Rattle.build_node_row.specs.Tables.{networkOf, EdgeTables, SetTables};
+ghost use Rattle.layout.specs.Layout.{words_length};
+ghost use Rattle.network_edge.specs.Edge.{edge_place};
+ghost use Rattle.build_node_row.specs.EdgeColumns.{edge_columns_of};
+ghost use Rattle.build_node_row.specs.Tables.{network_of, EdgeTables, SetTables};
 ghost use Rattle.build_write.specs.Lp.{Few};
-ghost use Rattle.pywr.specs.FlowOrder.{flowOrder};
-ghost use Rattle.build_rows.specs.Assembled.{AfterAssemble, tablesWritten, shapeFinished};
+ghost use Rattle.pywr.specs.FlowOrder.{flow_order};
+ghost use Rattle.build_rows.specs.Assembled.{AfterAssemble, tables_written, shape_finished};
 ghost use Rattle.layout.specs.WorkRoom.{WorkRoom};
 
 use build_append::{Filled, RowsAdded};
@@ -34,9 +34,9 @@ fn write_tables(
     varying: usize,
     words: &mut [u16],
 )
-    requires { Few z × (edgePlace z.nodes z.edges ≤ length s.now) × (wordsLength ≤ length words.old) × (varying ≤ z.rows)
+    requires { Few z × (edge_place z.nodes z.edges ≤ length s.now) × (words_length ≤ length words.old) × (varying ≤ z.rows)
         × ((e : ℕ) → e < z.edges → 1 ≤ get_or edge_to_col.now e 0) }
-    ensures { words.new ≡ tablesWritten sentinel s.now edge_to_col.now z varying words.old }
+    ensures { words.new ≡ tables_written sentinel s.now edge_to_col.now z varying words.old }
 {
     let nodes = z.nodes;
     let edges = z.edges;
@@ -60,8 +60,8 @@ fn finish_shape(
     words: &mut [u16],
 )
     requires { EdgeTables s.now c first_in.now next_in.now first_out.now next_out.now edge_to_col.now
-        × Few z × (z.nodes ≡ c.nodes) × (z.edges ≡ c.edges) × (varying ≤ z.rows) × (wordsLength ≤ length words.old) }
-    ensures { words.new ≡ shapeFinished sentinel s.now edge_to_col.now z varying (flowOrder (networkOf s.now c)) words.old }
+        × Few z × (z.nodes ≡ c.nodes) × (z.edges ≡ c.edges) × (varying ≤ z.rows) × (words_length ≤ length words.old) }
+    ensures { words.new ≡ shape_finished sentinel s.now edge_to_col.now z varying (flow_order (network_of s.now c)) words.old }
 {
     write_tables(s, sentinel, edge_to_col, z, varying, words);
     let nodes = c.nodes;
@@ -97,7 +97,7 @@ pub fn add_rows(
     numbers: &mut [f64],
 ) -> Assembled
     requires { EdgeTables s.now c first_in.now next_in.now first_out.now next_out.now edge_to_col.now
-        × SetTables s.now c set_at.now sets first_membership.now next_membership.now × (edge_columns ≡ edgeColumns s.now c)
+        × SetTables s.now c set_at.now sets first_membership.now next_membership.now × (edge_columns ≡ edge_columns_of s.now c)
         × WorkRoom words.old numbers.old }
     ensures { AfterAssemble sentinel s.now result words.new numbers.new }
 {

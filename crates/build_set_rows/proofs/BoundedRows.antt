@@ -7,13 +7,13 @@ use lib.Ieee.{Float, eq, neg}
 use Rattle.pywr.specs.declared.Sentinel.{Sentinel}
 use Rattle.pywr.specs.Numbers.{zero64, one64, high}
 use Rattle.pywr.specs.Network.{Node}
-use Rattle.pywr.specs.Rows.{Element, ColumnMap, addElement, addNode, upperRow, lowerRow}
-use Rattle.pywr.specs.FixedRows.{upperCoefficient, lowerCoefficient, exclusiveRows}
+use Rattle.pywr.specs.Rows.{Element, ColumnMap, add_element, add_node, upper_row, lower_row}
+use Rattle.pywr.specs.FixedRows.{upper_coefficient, lower_coefficient, exclusive_rows}
 use Rattle.pywr.specs.Programme.{Row}
 use Rattle.build_append.specs.declared.Filled.{Filled}
 use Rattle.build_append.specs.declared.RowsAdded.{RowsAdded}
 use Rattle.build_append.specs.declared.RowsAdded.TheVariants.{Done, Full}
-use Rattle.build_append.proofs.AddingRows.{Adds, adding-first, adding-more, adding-over, adding-last}
+use Rattle.build_append.proofs.AddingRows.{Adds, adding_first, adding_more, adding_over, adding_last}
 
 -- a row with bounds 0 and the high sentinel
 abbrev pub row_of : Sentinel → List Element → Row
@@ -21,41 +21,41 @@ row_of s es = record { lower = zero64; upper = high s; elements = es }
 
 module _ (s : Sentinel) (f : ColumnMap) (n k : ℕ) (x : Node) where
   abbrev upper : Row
-  upper = row_of s (upperRow f n k (upperCoefficient x.max))
+  upper = row_of s (upper_row f n k (upper_coefficient x.max))
 
   abbrev lower : Row
-  lower = row_of s (lowerRow f n k (lowerCoefficient x.min))
+  lower = row_of s (lower_row f n k (lower_coefficient x.min))
 
   abbrev behind : List Row
   behind = cond (eq x.min zero64) [] (lower ∷ []) ++ []
 
-  rows_are : exclusiveRows s f n x (k ∷ []) ≡ (upper ∷ []) ++ behind
-  unfolding exclusiveRows
+  rows_are : exclusive_rows s f n x (k ∷ []) ≡ (upper ∷ []) ++ behind
+  unfolding exclusive_rows
   rows_are = refl
 
   -- the upper row was asked for on the set's column
-  module _ (column : ℕ) (ec : column ≡ f.edgeColumns + k) (words : List ℕ) (numbers : List Float) (g : Filled) (coefficient : Float) (eu : coefficient ≡ upperCoefficient x.max)
-      (r : RowsAdded) (words' : List ℕ) (numbers' : List Float) (added : Adds (row_of s (addElement column coefficient (addNode f n (neg one64) [])) ∷ []) words numbers g r words' numbers') where
+  module _ (column : ℕ) (ec : column ≡ f.edge_columns + k) (words : List ℕ) (numbers : List Float) (g : Filled) (coefficient : Float) (eu : coefficient ≡ upper_coefficient x.max)
+      (r : RowsAdded) (words' : List ℕ) (numbers' : List Float) (added : Adds (row_of s (add_element column coefficient (add_node f n (neg one64) [])) ∷ []) words numbers g r words' numbers') where
     upper_added : Adds (upper ∷ []) words numbers g r words' numbers'
-    unfolding upperRow
+    unfolding upper_row
     upper_added = rw (← ec, ← eu) added
 
-    pub upper-over : r ≡ Full → Adds (exclusiveRows s f n x (k ∷ [])) words numbers g Full words' numbers'
-    upper-over e rows h =
-        rw rows_are (adding-over _ (upper ∷ []) behind words words numbers g (adding-first rows _ words numbers g h) r words' numbers' upper_added e)
+    pub upper_over : r ≡ Full → Adds (exclusive_rows s f n x (k ∷ [])) words numbers g Full words' numbers'
+    upper_over e rows h =
+        rw rows_are (adding_over _ (upper ∷ []) behind words words numbers g (adding_first rows _ words numbers g h) r words' numbers' upper_added e)
 
     module _ (g' : Filled) (e : r ≡ Done g') where
       -- min is 0
-      pub upper-only : eq x.min zero64 ≡ true → Adds (exclusiveRows s f n x (k ∷ [])) words numbers g (Done g') words' numbers'
-      upper-only z = rw (rows_are, z, ← e) upper_added
+      pub upper_only : eq x.min zero64 ≡ true → Adds (exclusive_rows s f n x (k ∷ [])) words numbers g (Done g') words' numbers'
+      upper_only z = rw (rows_are, z, ← e) upper_added
 
-      pub both-rows : eq x.min zero64 ≡ false → (coefficient₂ : Float) → coefficient₂ ≡ lowerCoefficient x.min → (r₂ : RowsAdded) (words₂ : List ℕ) (numbers₂ : List Float)
-          → Adds (row_of s (addElement column coefficient₂ (addNode f n one64 [])) ∷ []) words' numbers' g' r₂ words₂ numbers₂
-          → Adds (exclusiveRows s f n x (k ∷ [])) words numbers g r₂ words₂ numbers₂
-      unfolding lowerRow
-      both-rows z coefficient₂ el r₂ words₂ numbers₂ more rows h =
+      pub both_rows : eq x.min zero64 ≡ false → (coefficient₂ : Float) → coefficient₂ ≡ lower_coefficient x.min → (r₂ : RowsAdded) (words₂ : List ℕ) (numbers₂ : List Float)
+          → Adds (row_of s (add_element column coefficient₂ (add_node f n one64 [])) ∷ []) words' numbers' g' r₂ words₂ numbers₂
+          → Adds (exclusive_rows s f n x (k ∷ [])) words numbers g r₂ words₂ numbers₂
+      unfolding lower_row
+      both_rows z coefficient₂ el r₂ words₂ numbers₂ more rows h =
           let lower-added : Adds (lower ∷ []) words' numbers' g' r₂ words₂ numbers₂ = rw (← ec, ← el) more in
           rw (rows_are, z)
-          (adding-last _ (lower ∷ []) words words' numbers' g'
-          (adding-more _ (upper ∷ []) (lower ∷ []) words words numbers g (adding-first rows _ words numbers g h) r words' numbers' upper_added g' e)
+          (adding_last _ (lower ∷ []) words words' numbers' g'
+          (adding_more _ (upper ∷ []) (lower ∷ []) words words numbers g (adding_first rows _ words numbers g h) r words' numbers' upper_added g' e)
           r₂ words₂ numbers₂ lower-added)

@@ -1,14 +1,14 @@
 // The fixed rows of an exclusive constant node (SolverBuilder::create_node_constraints of builder.rs).
 ghost use Rattle.std.specs.Prelude.{◌≡◌, ◌<◌, ◌≤◌, List, [], ◌∷◌, ◌++◌, length};
-ghost use Rattle.layout.specs.Layout.{setCeiling, columnCeiling, wordsLength, numbersLength};
+ghost use Rattle.layout.specs.Layout.{set_ceiling, column_ceiling, words_length, numbers_length};
 ghost use Rattle.pywr.specs.Numbers.{zero64, high};
-ghost use Rattle.pywr.specs.Rows.{columnMap, addElement, addNode};
-ghost use Rattle.pywr.specs.FixedRows.{exclusiveRows};
+ghost use Rattle.pywr.specs.Rows.{column_map, add_element, add_node};
+ghost use Rattle.pywr.specs.FixedRows.{exclusive_rows};
 ghost use Rattle.pywr.specs.Programme.{Row};
-ghost use Rattle.network_node.specs.Node.{nodeAt, nodePlace};
+ghost use Rattle.network_node.specs.Node.{node_at, node_place};
 ghost use Rattle.build_append.specs.LpBuilder.{RowsHeld, Holding, AfterRows};
-ghost use Rattle.build_node_row.specs.Tables.{networkOf, EdgeTables};
-ghost use Rattle.build_node_row.specs.EdgeColumns.{edgeColumns};
+ghost use Rattle.build_node_row.specs.Tables.{network_of, EdgeTables};
+ghost use Rattle.build_node_row.specs.EdgeColumns.{edge_columns_of};
 ghost use Rattle.layout.specs.WorkRoom.{WorkRoom};
 
 use build_append::{Filled, RowsAdded};
@@ -36,14 +36,14 @@ fn add_bounded_row(
     columns: &mut [ColumnNumber; COLUMN_CEILING],
     f: Filled,
 ) -> RowsAdded
-    requires { EdgeTables s.now c first_in.now next_in.now first_out.now next_out.now edge_to_col.now × (node.0 < c.nodes) × (column.0 < columnCeiling)
+    requires { EdgeTables s.now c first_in.now next_in.now first_out.now next_out.now edge_to_col.now × (node.0 < c.nodes) × (column.0 < column_ceiling)
         × WorkRoom words.old numbers.old × Holding words.old numbers.old f }
     ensures { (rows : List Row) → RowsHeld rows words.old numbers.old f
         → AfterRows (rows ++ (record {
           lower = zero64;
           upper = high sentinel;
-          elements = addElement column.0 coefficient
-              (addNode (columnMap (networkOf s.now c)) node.0 factor []);
+          elements = add_element column.0 coefficient
+              (add_node (column_map (network_of s.now c)) node.0 factor []);
         } ∷ []))
         words.old result words.new numbers.new }
 {
@@ -95,10 +95,10 @@ pub fn add_bounded_rows(
     f: Filled,
 ) -> RowsAdded
     requires { EdgeTables s.now c first_in.now next_in.now first_out.now next_out.now edge_to_col.now × (node.0 < c.nodes)
-        × (edge_columns ≡ edgeColumns s.now c) × (set < setCeiling)
+        × (edge_columns ≡ edge_columns_of s.now c) × (set < set_ceiling)
         × WorkRoom words.old numbers.old × Holding words.old numbers.old f }
     ensures { (rows : List Row) → RowsHeld rows words.old numbers.old f
-        → AfterRows (rows ++ exclusiveRows sentinel (columnMap (networkOf s.now c)) node.0 (nodeAt s.now (nodePlace node.0)) (set ∷ []))
+        → AfterRows (rows ++ exclusive_rows sentinel (column_map (network_of s.now c)) node.0 (node_at s.now (node_place node.0)) (set ∷ []))
         words.old result words.new numbers.new }
 {
     let min = network_node::min(s, node);

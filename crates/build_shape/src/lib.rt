@@ -2,14 +2,14 @@
 ghost use Rattle.std.specs.Prelude.{◌≡◌, ℕ, suc, ◌<◌, ◌≤◌, length, get_or};
 ghost use mathlib.Core.List.{List, [], ◌∷◌, map, flat_map};
 ghost use Rattle.std.proofs.lemmas.List.Edits.{sets};
-ghost use Rattle.layout.specs.Layout.{nodeCeiling, edgeCeiling, packedShapeLength, sentinelAt, nodesAt, edges_at};
-ghost use Rattle.pywr.specs.Build.{nodeShape};
-ghost use Rattle.pywr.specs.Written.{sentinelWord, nodeWords, edgeWords};
-ghost use Rattle.network_node.specs.Node.{nodePlace};
-ghost use Rattle.network_edge.specs.Edge.{edgePlace};
+ghost use Rattle.layout.specs.Layout.{node_ceiling, edge_ceiling, packed_shape_length, sentinel_at, nodes_at, edges_at};
+ghost use Rattle.pywr.specs.Build.{node_shape};
+ghost use Rattle.pywr.specs.Written.{sentinel_word, node_words, edge_words};
+ghost use Rattle.network_node.specs.Node.{node_place};
+ghost use Rattle.network_edge.specs.Edge.{edge_place};
 ghost use Rattle.build_write.specs.Lp.{Few};
-ghost use Rattle.network_laws.specs.NetworkAt.{nodeRecords};
-ghost use Rattle.build_shape.specs.ShapeTables.{edgeEntries, counts};
+ghost use Rattle.network_laws.specs.NetworkAt.{node_records};
+ghost use Rattle.build_shape.specs.ShapeTables.{edge_entries, counts};
 
 use build_write::Sizes;
 use layout::{
@@ -22,8 +22,8 @@ use pywr::{EdgeIndex, NodeIndex, Sentinel};
 
 // Of each node its kind, and whether it is constant.
 pub fn write_nodes(s: &[u8], nodes: usize, shape: &mut [u16])
-    requires { (nodes ≤ nodeCeiling) × (nodePlace nodes ≤ length s.now) × (packedShapeLength ≤ length shape.old) }
-    ensures { shape.new ≡ sets shape.old nodesAt (flat_map nodeWords (map nodeShape (nodeRecords s.now nodes))) }
+    requires { (nodes ≤ node_ceiling) × (node_place nodes ≤ length s.now) × (packed_shape_length ≤ length shape.old) }
+    ensures { shape.new ≡ sets shape.old nodes_at (flat_map node_words (map node_shape (node_records s.now nodes))) }
 {
     let mut i: usize = 0;
     while i < nodes {
@@ -47,9 +47,9 @@ pub fn write_edges(
     edge_to_col: &[u16; EDGE_CEILING],
     shape: &mut [u16],
 )
-    requires { (nodes ≤ nodeCeiling) × (edges ≤ edgeCeiling) × (edgePlace nodes edges ≤ length s.now) × (packedShapeLength ≤ length shape.old)
+    requires { (nodes ≤ node_ceiling) × (edges ≤ edge_ceiling) × (edge_place nodes edges ≤ length s.now) × (packed_shape_length ≤ length shape.old)
         × ((e : ℕ) → e < edges → 1 ≤ get_or edge_to_col.now e 0) }
-    ensures { shape.new ≡ sets shape.old edges_at (flat_map edgeWords (edgeEntries s.now edge_to_col.now nodes edges)) }
+    ensures { shape.new ≡ sets shape.old edges_at (flat_map edge_words (edge_entries s.now edge_to_col.now nodes edges)) }
 {
     let mut i: usize = 0;
     while i < edges {
@@ -64,7 +64,7 @@ pub fn write_edges(
 }
 
 fn sentinel_word(sentinel: Sentinel) -> u16
-    ensures { result ≡ sentinelWord sentinel }
+    ensures { result ≡ sentinel_word sentinel }
 {
     match sentinel {
         Sentinel::Infinity => 0,
@@ -74,8 +74,8 @@ fn sentinel_word(sentinel: Sentinel) -> u16
 
 // The sentinel and the counts; `varying` of the rows vary.
 pub fn write_counts(shape: &mut [u16], sentinel: Sentinel, z: Sizes, varying: usize)
-    requires { (packedShapeLength ≤ length shape.old) × Few z × (varying ≤ z.rows) }
-    ensures { shape.new ≡ sets shape.old sentinelAt (counts sentinel z varying) }
+    requires { (packed_shape_length ≤ length shape.old) × Few z × (varying ≤ z.rows) }
+    ensures { shape.new ≡ sets shape.old sentinel_at (counts sentinel z varying) }
 {
     shape[SENTINEL_AT] = sentinel_word(sentinel);
     shape[NODE_COUNT_AT] = widths::narrow16(z.nodes);

@@ -1,46 +1,46 @@
 -- Those who asked for varying rows, as the tables of the shape run name them, and the entries of the table of makers that they give. Assumes nothing.
 use Rattle.std.specs.Prelude.{◌≡◌, ℕ, zero, suc, ◌+◌, ◌*◌, ◌<◌, ◌≤◌, cond, List, [], ◌∷◌, ◌++◌, length, take, eqb}
-use Rattle.layout.specs.Layout.{rowCeiling, nodeRowsAt, aggregatesPackedAt, virtualStoragesPackedAt, makersPackedAt, packedNodeRowWidth, aggregateWidth, virtualStorageWidth, makerWidth}
-use Rattle.layout.specs.Layout.{entryRow, makerKind, makerIndex, makerSharedBy}
-use Rattle.layout.specs.PackedNodeRow.{packedNode, packedRow}
+use Rattle.layout.specs.Layout.{row_ceiling, node_rows_at, aggregates_packed_at, virtual_storages_packed_at, makers_packed_at, packed_node_row_width, aggregate_width, virtual_storage_width, maker_width}
+use Rattle.layout.specs.Layout.{entry_row, maker_kind, maker_index, maker_shared_by}
+use Rattle.layout.specs.PackedNodeRow.{packed_node, packed_row}
 use Rattle.laws.specs.Part.{part}
-use Rattle.pywr.specs.Programme.{Maker, byNode, byAggregate, byVirtualStorage}
-use Rattle.pywr.specs.Makers.{Asker, makerOf}
-use Rattle.pywr.specs.Written.{makerWords}
+use Rattle.pywr.specs.Programme.{Maker, by_node, by_aggregate, by_virtual_storage}
+use Rattle.pywr.specs.Makers.{Asker, maker_of}
+use Rattle.pywr.specs.Written.{maker_words}
 
 -- the entry of a row
-abbrev pub makerIn : List ℕ → ℕ → Maker
-makerIn shape row =
+abbrev pub maker_in : List ℕ → ℕ → Maker
+maker_in shape row =
     record {
-      kind = makerKind shape (makersPackedAt + makerWidth * row);
-      index = makerIndex shape (makersPackedAt + makerWidth * row);
-      sharedBy = makerSharedBy shape (makersPackedAt + makerWidth * row);
+      kind = maker_kind shape (makers_packed_at + maker_width * row);
+      index = maker_index shape (makers_packed_at + maker_width * row);
+      shared_by = maker_shared_by shape (makers_packed_at + maker_width * row);
     }
 
 -- the entry with one more that asked for the row
-unfoldable pub oneMore : ℕ → ℕ → Maker → Maker
-oneMore kind index m =
-    cond (eqb m.sharedBy 0) (record { kind = kind; index = index; sharedBy = 1 }) (record { kind = m.kind; index = m.index; sharedBy = m.sharedBy + 1 })
+unfoldable pub one_more : ℕ → ℕ → Maker → Maker
+one_more kind index m =
+    cond (eqb m.shared_by 0) (record { kind = kind; index = index; shared_by = 1 }) (record { kind = m.kind; index = m.index; shared_by = m.shared_by + 1 })
 
 -- who asked for the row of node row i
-abbrev pub nodeAsker : List ℕ → ℕ → Asker
-nodeAsker shape i = record { kind = byNode; index = packedNode shape (nodeRowsAt + packedNodeRowWidth * i); row = packedRow shape (nodeRowsAt + packedNodeRowWidth * i) }
+abbrev pub node_asker : List ℕ → ℕ → Asker
+node_asker shape i = record { kind = by_node; index = packed_node shape (node_rows_at + packed_node_row_width * i); row = packed_row shape (node_rows_at + packed_node_row_width * i) }
 
 -- who asked for the row that stands first in entry i of a table
-abbrev pub entryAsker : List ℕ → ℕ → ℕ → ℕ → ℕ → Asker
-entryAsker shape at width kind i = record { kind = kind; index = i; row = entryRow shape (at + width * i) }
+abbrev pub entry_asker : List ℕ → ℕ → ℕ → ℕ → ℕ → Asker
+entry_asker shape at width kind i = record { kind = kind; index = i; row = entry_row shape (at + width * i) }
 
 -- the first `count` of those who asked
-unfoldable pub askersTo : (ℕ → Asker) → ℕ → List Asker
-askersTo asker zero = []
-askersTo asker (suc count) = askersTo asker count ++ (asker count ∷ [])
+unfoldable pub askers_to : (ℕ → Asker) → ℕ → List Asker
+askers_to asker zero = []
+askers_to asker (suc count) = askers_to asker count ++ (asker count ∷ [])
 
 -- all who asked, by the tables
-abbrev pub askersIn : List ℕ → ℕ → ℕ → ℕ → List Asker
-askersIn shape nodeRows aggregates virtualStorages =
-    askersTo (nodeAsker shape) nodeRows
-    ++ askersTo (entryAsker shape aggregatesPackedAt aggregateWidth byAggregate) aggregates
-    ++ askersTo (entryAsker shape virtualStoragesPackedAt virtualStorageWidth byVirtualStorage) virtualStorages
+abbrev pub askers_in : List ℕ → ℕ → ℕ → ℕ → List Asker
+askers_in shape node_rows aggregates virtual_storages =
+    askers_to (node_asker shape) node_rows
+    ++ askers_to (entry_asker shape aggregates_packed_at aggregate_width by_aggregate) aggregates
+    ++ askers_to (entry_asker shape virtual_storages_packed_at virtual_storage_width by_virtual_storage) virtual_storages
 
 abbrev pub RowsUnder : ℕ → List Asker → Type 0
 RowsUnder rows [] = Unit {0}
@@ -48,13 +48,13 @@ RowsUnder rows (a ∷ rest) = (a.row < rows) × RowsUnder rows rest
 
 -- the entries of the first rows are those that these give
 abbrev pub MakersOf : List Asker → ℕ → List ℕ → Type 0
-MakersOf all rows shape = (r : ℕ) → r < rows → part (makersPackedAt + makerWidth * r) makerWidth shape ≡ makerWords (makerOf all r)
+MakersOf all rows shape = (r : ℕ) → r < rows → part (makers_packed_at + maker_width * r) maker_width shape ≡ maker_words (maker_of all r)
 
 -- before more are counted: some were, and there is room for these
 pub record Counting (shape : List ℕ) (more : List Asker) : Type 0 where
   pub rows : ℕ
   pub all : List Asker
-  pub few : rows ≤ rowCeiling
+  pub few : rows ≤ row_ceiling
   pub room : length all + length more ≤ 65535
   pub under : RowsUnder rows more
   pub held : MakersOf all rows shape
@@ -62,4 +62,4 @@ pub record Counting (shape : List ℕ) (more : List Asker) : Type 0 where
 -- these were counted behind all that were counted before; the words before the table of makers stay
 pub record Counted (shape : List ℕ) (more : List Asker) (shape' : List ℕ) : Type 0 where
   pub held : (rows : ℕ) (all : List Asker) → MakersOf all rows shape → MakersOf (all ++ more) rows shape'
-  pub kept : take makersPackedAt shape' ≡ take makersPackedAt shape
+  pub kept : take makers_packed_at shape' ≡ take makers_packed_at shape

@@ -3,11 +3,11 @@
 ghost use Rattle.std.specs.Prelude.{◌≡◌, ◌+◌, ◌*◌, ◌<◌, ◌≤◌, length, take};
 ghost use mathlib.Core.List.{flat_map};
 ghost use Rattle.std.proofs.lemmas.List.Edits.{sets};
-ghost use Rattle.layout.specs.Layout.{nodeRowCeiling, aggregateCeiling, virtualStorageCeiling, rowCeiling, packedShapeLength, makersPackedAt, makerWidth};
+ghost use Rattle.layout.specs.Layout.{node_row_ceiling, aggregate_ceiling, virtual_storage_ceiling, row_ceiling, packed_shape_length, makers_packed_at, maker_width};
 ghost use Rattle.laws.specs.Part.{part};
-ghost use Rattle.pywr.specs.Makers.{varyingMakers};
-ghost use Rattle.pywr.specs.Written.{makerWords};
-ghost use Rattle.build_sharers.specs.Sharers.{makerIn, oneMore, nodeAsker, entryAsker, askersTo, askersIn, RowsUnder, Counting, Counted};
+ghost use Rattle.pywr.specs.Makers.{varying_makers};
+ghost use Rattle.pywr.specs.Written.{maker_words};
+ghost use Rattle.build_sharers.specs.Sharers.{maker_in, one_more, node_asker, entry_asker, askers_to, askers_in, RowsUnder, Counting, Counted};
 
 use layout::{
     AGGREGATE_WIDTH, AGGREGATES_PACKED_AT, BY_AGGREGATE, BY_NODE, BY_VIRTUAL_STORAGE, MAKER_INDEX,
@@ -17,8 +17,8 @@ use layout::{
 
 // One more that asked for a row: the first is its maker, and all are counted.
 fn add_sharer(shape: &mut [u16], row: usize, kind: u16, index: u16)
-    requires { (row < rowCeiling) × (packedShapeLength ≤ length shape.old) × ((makerIn shape.old row).sharedBy < 65535) }
-    ensures { shape.new ≡ sets shape.old (makersPackedAt + makerWidth * row) (makerWords (oneMore kind index (makerIn shape.old row))) }
+    requires { (row < row_ceiling) × (packed_shape_length ≤ length shape.old) × ((maker_in shape.old row).shared_by < 65535) }
+    ensures { shape.new ≡ sets shape.old (makers_packed_at + maker_width * row) (maker_words (one_more kind index (maker_in shape.old row))) }
 {
     let at = MAKERS_PACKED_AT + MAKER_WIDTH * row;
     let before = shape[at + MAKER_SHARED_BY];
@@ -33,8 +33,8 @@ fn add_sharer(shape: &mut [u16], row: usize, kind: u16, index: u16)
 
 // The nodes asked for the rows of the first `count` node rows.
 fn add_node_sharers(shape: &mut [u16], count: usize)
-    requires { (count ≤ nodeRowCeiling) × (packedShapeLength ≤ length shape.old) × Counting shape.old (askersTo (nodeAsker shape.old) count) }
-    ensures { Counted shape.old (askersTo (nodeAsker shape.old) count) shape.new }
+    requires { (count ≤ node_row_ceiling) × (packed_shape_length ≤ length shape.old) × Counting shape.old (askers_to (node_asker shape.old) count) }
+    ensures { Counted shape.old (askers_to (node_asker shape.old) count) shape.new }
 {
     let mut i: usize = 0;
     while i < count {
@@ -48,9 +48,9 @@ fn add_node_sharers(shape: &mut [u16], count: usize)
 
 // The makers of one kind asked for the rows that stand first in the first `count` entries of a table.
 fn add_sharers(shape: &mut [u16], at: usize, width: usize, count: usize, kind: u16)
-    requires { (at + width * count ≤ makersPackedAt) × (count ≤ aggregateCeiling) × (1 ≤ width) × (packedShapeLength ≤ length shape.old)
-        × Counting shape.old (askersTo (entryAsker shape.old at width kind) count) }
-    ensures { Counted shape.old (askersTo (entryAsker shape.old at width kind) count) shape.new }
+    requires { (at + width * count ≤ makers_packed_at) × (count ≤ aggregate_ceiling) × (1 ≤ width) × (packed_shape_length ≤ length shape.old)
+        × Counting shape.old (askers_to (entry_asker shape.old at width kind) count) }
+    ensures { Counted shape.old (askers_to (entry_asker shape.old at width kind) count) shape.new }
 {
     let mut i: usize = 0;
     while i < count {
@@ -68,11 +68,11 @@ pub fn put_varying_makers(
     aggregates: usize,
     virtual_storages: usize,
 )
-    requires { (rows ≤ rowCeiling) × (node_rows ≤ nodeRowCeiling) × (aggregates ≤ aggregateCeiling) × (virtual_storages ≤ virtualStorageCeiling)
-        × (packedShapeLength ≤ length shape.old) × RowsUnder rows (askersIn shape.old node_rows aggregates virtual_storages) }
-    ensures { (part makersPackedAt (makerWidth * rows) shape.new
-        ≡ flat_map makerWords (varyingMakers (askersIn shape.old node_rows aggregates virtual_storages) 0 rows))
-        × (take makersPackedAt shape.new ≡ take makersPackedAt shape.old) }
+    requires { (rows ≤ row_ceiling) × (node_rows ≤ node_row_ceiling) × (aggregates ≤ aggregate_ceiling) × (virtual_storages ≤ virtual_storage_ceiling)
+        × (packed_shape_length ≤ length shape.old) × RowsUnder rows (askers_in shape.old node_rows aggregates virtual_storages) }
+    ensures { (part makers_packed_at (maker_width * rows) shape.new
+        ≡ flat_map maker_words (varying_makers (askers_in shape.old node_rows aggregates virtual_storages) 0 rows))
+        × (take makers_packed_at shape.new ≡ take makers_packed_at shape.old) }
 {
     // shared by 0: nobody has asked yet
     build_makers::put_makers(shape, 0, rows, 0, 0, 0);

@@ -7,27 +7,27 @@ use native.Mathlib.Omega.{arith}
 use lib.ListN.{length, take, drop, length-drop, length-map}
 use lib.Seq.{take-add, drop_at, length-take-le, take-take, drop-drop}
 use lib.Ieee.{Float}
-use Rattle.layout.specs.Layout.{aggregatesPackedAt, aggregatesMadeAt, nodeRowCeiling, nodeRowsMadeAt, shapeMadeAt, virtualStoragesPackedAt, virtualStoragesMadeAt, wordsLength}
-use Rattle.layout.specs.PackedNodeRow.{unpackedNodeRows}
+use Rattle.layout.specs.Layout.{aggregates_packed_at, aggregates_made_at, node_row_ceiling, node_rows_made_at, shape_made_at, virtual_storages_packed_at, virtual_storages_made_at, words_length}
+use Rattle.layout.specs.PackedNodeRow.{unpacked_node_rows}
 use Rattle.laws.specs.Part.{part}
 use Rattle.pywr.specs.declared.Sentinel.{Sentinel}
 use Rattle.pywr.specs.Network.{Network}
-use Rattle.pywr.specs.Rows.{Element, columnMap, aggregateRow, virtualStorageRow}
-use Rattle.pywr.specs.VariableRows.{addVariableRows}
-use Rattle.pywr.specs.VaryingRows.{RowRequest, requestsFrom, fresh_row}
-use Rattle.pywr.specs.Build.{requestedRow, placedNodeRows, placedVirtualStorages, assemble, programmeOf}
-use Rattle.pywr.specs.Written.{nodeRowWords, virtualStorageWords}
+use Rattle.pywr.specs.Rows.{Element, column_map, aggregate_row, virtual_storage_row}
+use Rattle.pywr.specs.VariableRows.{add_variable_rows}
+use Rattle.pywr.specs.VaryingRows.{RowRequest, requests_from, fresh_row}
+use Rattle.pywr.specs.Build.{requested_row, placed_node_rows, placed_virtual_storages, assemble, programme_of}
+use Rattle.pywr.specs.Written.{node_row_words, virtual_storage_words}
 use Rattle.build_append.specs.declared.Filled.{Filled}
 use Rattle.build_append.specs.declared.RowsAdded.{RowsAdded}
 use Rattle.build_append.specs.declared.RowsAdded.TheVariants.{Done, Full}
-use Rattle.build_append.specs.LpBuilder.{RowsHeld, withinCeilings}
-use Rattle.build_append.proofs.RowsHeldLaws.{over-more}
-use Rattle.pywr.specs.ExclusiveSets.{exclusiveSets}
-use Rattle.pywr.proofs.CountLaws.{requests-few}
-use Rattle.pywr.proofs.ReadLaws.{read-sound}
-use Rattle.build_exclusive_sets.specs.Sets.{setsAt}
+use Rattle.build_append.specs.LpBuilder.{RowsHeld, within_ceilings}
+use Rattle.build_append.proofs.RowsHeldLaws.{over_more}
+use Rattle.pywr.specs.ExclusiveSets.{exclusive_sets}
+use Rattle.pywr.proofs.CountLaws.{requests_few}
+use Rattle.pywr.proofs.ReadLaws.{read_sound}
+use Rattle.build_exclusive_sets.specs.Sets.{sets_at}
 use Rattle.network_record.specs.declared.Counts.{Counts}
-use Rattle.build_node_row.specs.Tables.{networkOf, EdgeTables, MembershipTables}
+use Rattle.build_node_row.specs.Tables.{network_of, EdgeTables, MembershipTables}
 use Rattle.build_join.specs.JoinedRows.{joined, HoldingVarying, AfterVariableRows}
 use Rattle.build_join.proofs.JoinedLaws.{longer}
 use Rattle.build_node_table.specs.declared.NodeRows.{NodeRows}
@@ -55,78 +55,78 @@ map-append f [] ys = refl
 map-append {B} f (x ∷ xs) ys = ap (λ (l : List B). f x ∷ l) (map-append f xs ys)
 
 -- rows over the ceilings stay over them as more are asked for
-over-joined : (s : Sentinel) (rows asked : List (List Element)) → withinCeilings (map (fresh_row s) rows) ≡ false → withinCeilings (map (fresh_row s) (joined asked rows).rows) ≡ false
-over-joined s rows asked e =
+over_joined : (s : Sentinel) (rows asked : List (List Element)) → within_ceilings (map (fresh_row s) rows) ≡ false → within_ceilings (map (fresh_row s) (joined asked rows).rows) ≡ false
+over_joined s rows asked e =
     let l = longer asked (record { rows = rows; places = [] }) in
-    ap (λ (x : List (List Element)). withinCeilings (map (fresh_row s) x)) l.is ∙ ap withinCeilings (map-append (fresh_row s) rows l.new) ∙ over-more (map
+    ap (λ (x : List (List Element)). within_ceilings (map (fresh_row s) x)) l.is ∙ ap within_ceilings (map-append (fresh_row s) rows l.new) ∙ over_more (map
     (fresh_row s) rows) (map (fresh_row s) l.new) e
 
 module _ (s : Sentinel) (net : Network) where
   abbrev pub asks : List RowRequest
-  asks = requestsFrom (columnMap net) 0 net.nodes
+  asks = requests_from (column_map net) 0 net.nodes
 
   abbrev pub rows₁ : List (List Element)
-  rows₁ = (addVariableRows (map requestedRow asks) (record { rows = []; places = [] })).rows
+  rows₁ = (add_variable_rows (map requested_row asks) (record { rows = []; places = [] })).rows
 
-  abbrev pub forAggregates : List (List Element)
-  forAggregates = map (aggregateRow (columnMap net)) net.aggregates
+  abbrev pub for_aggregates : List (List Element)
+  for_aggregates = map (aggregate_row (column_map net)) net.aggregates
 
   abbrev pub rows₂ : List (List Element)
-  rows₂ = (joined forAggregates rows₁).rows
+  rows₂ = (joined for_aggregates rows₁).rows
 
-  abbrev pub forVirtualStorages : List (List Element)
-  forVirtualStorages = map (virtualStorageRow (columnMap net)) net.virtualStorages
+  abbrev pub for_virtual_storages : List (List Element)
+  for_virtual_storages = map (virtual_storage_row (column_map net)) net.virtual_storages
 
-  varying-is : (programmeOf s net).programme.varying ≡ map (fresh_row s) (joined forVirtualStorages rows₂).rows
-  unfolding programmeOf assemble
-  varying-is = refl
+  varying_is : (programme_of s net).programme.varying ≡ map (fresh_row s) (joined for_virtual_storages rows₂).rows
+  unfolding programme_of assemble
+  varying_is = refl
 
   -- each pass that is over the ceilings
-  pub nodes-full : withinCeilings (map (fresh_row s) rows₁) ≡ false → withinCeilings (programmeOf s net).programme.varying ≡ false
-  nodes-full e = ap withinCeilings varying-is ∙ over-joined s rows₂ forVirtualStorages (over-joined s rows₁ forAggregates e)
+  pub nodes_full : within_ceilings (map (fresh_row s) rows₁) ≡ false → within_ceilings (programme_of s net).programme.varying ≡ false
+  nodes_full e = ap within_ceilings varying_is ∙ over_joined s rows₂ for_virtual_storages (over_joined s rows₁ for_aggregates e)
 
-  pub aggregates-full : withinCeilings (map (fresh_row s) rows₂) ≡ false → withinCeilings (programmeOf s net).programme.varying ≡ false
-  aggregates-full e = ap withinCeilings varying-is ∙ over-joined s rows₂ forVirtualStorages e
+  pub aggregates_full : within_ceilings (map (fresh_row s) rows₂) ≡ false → within_ceilings (programme_of s net).programme.varying ≡ false
+  aggregates_full e = ap within_ceilings varying_is ∙ over_joined s rows₂ for_virtual_storages e
 
-  pub virtual-storages-full : withinCeilings (map (fresh_row s) (joined forVirtualStorages rows₂).rows) ≡ false → withinCeilings (programmeOf s net).programme.varying ≡ false
-  virtual-storages-full e = ap withinCeilings varying-is ∙ e
+  pub virtual_storages_full : within_ceilings (map (fresh_row s) (joined for_virtual_storages rows₂).rows) ≡ false → within_ceilings (programme_of s net).programme.varying ≡ false
+  virtual_storages_full e = ap within_ceilings varying_is ∙ e
 
   -- an answer of one case is not the other
-  pub full-only : (words : List ℕ) (numbers : List Float) → withinCeilings (programmeOf s net).programme.varying ≡ false → AfterVarying s net NodeRowsAdded.Full words numbers
-  full-only words numbers e = record { done = λ n q. absurd (let z : ◌≡◌ {A = ℕ} 0 1 = cc in omega arith); full = λ q. e }
+  pub full_only : (words : List ℕ) (numbers : List Float) → within_ceilings (programme_of s net).programme.varying ≡ false → AfterVarying s net NodeRowsAdded.Full words numbers
+  full_only words numbers e = record { done = λ n q. absurd (let z : ◌≡◌ {A = ℕ} 0 1 = cc in omega arith); full = λ q. e }
 
   -- what each pass leaves for the next one
-  pub nodes-holding : (n : NodeRows) (words : List ℕ) (numbers : List Float) → NodeRowsHeld s asks words numbers n → HoldingVarying s words numbers n.filled
-  nodes-holding n words numbers h = record { rows = rows₁; held = h.held }
+  pub nodes_holding : (n : NodeRows) (words : List ℕ) (numbers : List Float) → NodeRowsHeld s asks words numbers n → HoldingVarying s words numbers n.filled
+  nodes_holding n words numbers h = record { rows = rows₁; held = h.held }
 
   module _ (size : ℕ) (words words₁ : List ℕ) (numbers₁ : List Float) (r : RowsAdded) where
-    pub aggregates-holding : AfterVariableRows s rows₁ forAggregates aggregatesMadeAt size (λ places. places) words r words₁ numbers₁ → (g : Filled) → r ≡ Done g → HoldingVarying s words₁ numbers₁ g
-    aggregates-holding a g e = record { rows = rows₂; held = a.held g e }
+    pub aggregates_holding : AfterVariableRows s rows₁ for_aggregates aggregates_made_at size (λ places. places) words r words₁ numbers₁ → (g : Filled) → r ≡ Done g → HoldingVarying s words₁ numbers₁ g
+    aggregates_holding a g e = record { rows = rows₂; held = a.held g e }
 
-  module _ (aggregates virtualStorages : ℕ) (ca : aggregates ≡ length net.aggregates) (cs : virtualStorages ≡ length net.virtualStorages) where
+  module _ (aggregates virtual_storages : ℕ) (ca : aggregates ≡ length net.aggregates) (cs : virtual_storages ≡ length net.virtual_storages) where
     pub all_laid : (n : NodeRows) (g f : Filled) (ra rv : RowsAdded) (words₁ words₂ words₃ : List ℕ) (numbers₁ numbers₂ numbers₃ : List Float)
-        → n.count ≤ nodeRowCeiling → wordsLength ≤ length words₁ → wordsLength ≤ length words₂ → wordsLength ≤ length words₃ → aggregates ≤ 64
+        → n.count ≤ node_row_ceiling → words_length ≤ length words₁ → words_length ≤ length words₂ → words_length ≤ length words₃ → aggregates ≤ 64
         → NodeRowsHeld s asks words₁ numbers₁ n
-        → AfterVariableRows s rows₁ forAggregates aggregatesMadeAt aggregates (λ places. places) words₁ ra words₂ numbers₂
+        → AfterVariableRows s rows₁ for_aggregates aggregates_made_at aggregates (λ places. places) words₁ ra words₂ numbers₂
         → ra ≡ Done g
-        → AfterVariableRows s rows₂ forVirtualStorages virtualStoragesMadeAt (6 * virtualStorages)
-        (λ places. flat_map virtualStorageWords (placedVirtualStorages net.virtualStorages places)) words₂ rv words₃ numbers₃
+        → AfterVariableRows s rows₂ for_virtual_storages virtual_storages_made_at (6 * virtual_storages)
+        (λ places. flat_map virtual_storage_words (placed_virtual_storages net.virtual_storages places)) words₂ rv words₃ numbers₃
         → rv ≡ Done f
         → AfterVarying s net (NodeRowsAdded.Done (record { filled = f; count = n.count })) words₃ numbers₃
-    unfolding programmeOf assemble
+    unfolding programme_of assemble
     all_laid n g f ra rv words₁ words₂ words₃ numbers₁ numbers₂ numbers₃ few l₁ l₂ l₃ fa h a ea v ev =
-        let node-table : part nodeRowsMadeAt (2 * n.count) words₃ ≡ part nodeRowsMadeAt (2 * n.count) words₁ =
-        inside words₂ words₃ shapeMadeAt virtualStoragesPackedAt nodeRowsMadeAt (2 * n.count) (omega arith) (omega arith) (omega arith) (omega arith) v.kept
-        ∙ inside words₁ words₂ shapeMadeAt aggregatesPackedAt nodeRowsMadeAt (2 * n.count) (omega arith) (omega arith) (omega arith) (omega arith) a.kept in
-        let aggregate-table : part aggregatesMadeAt aggregates words₃ ≡ part aggregatesMadeAt aggregates words₂ =
-        inside words₂ words₃ shapeMadeAt virtualStoragesPackedAt aggregatesMadeAt aggregates (omega arith) (omega arith) (omega arith) (omega arith) v.kept in
+        let node-table : part node_rows_made_at (2 * n.count) words₃ ≡ part node_rows_made_at (2 * n.count) words₁ =
+        inside words₂ words₃ shape_made_at virtual_storages_packed_at node_rows_made_at (2 * n.count) (omega arith) (omega arith) (omega arith) (omega arith) v.kept
+        ∙ inside words₁ words₂ shape_made_at aggregates_packed_at node_rows_made_at (2 * n.count) (omega arith) (omega arith) (omega arith) (omega arith) a.kept in
+        let aggregate-table : part aggregates_made_at aggregates words₃ ≡ part aggregates_made_at aggregates words₂ =
+        inside words₂ words₃ shape_made_at virtual_storages_packed_at aggregates_made_at aggregates (omega arith) (omega arith) (omega arith) (omega arith) v.kept in
         let laid : VaryingLaid s net (record { filled = f; count = n.count }) words₃ numbers₃ =
         record {
           held = v.held f ev;
           counted = h.counted;
-          nodeRows = ap unpackedNodeRows node-table ∙ h.table;
-          aggregates = ap (λ (k : ℕ). part aggregatesMadeAt k words₃) (sym ca) ∙ aggregate-table ∙ a.placed g ea;
-          virtualStorages = ap (λ (k : ℕ). part virtualStoragesMadeAt (6 * k) words₃) (sym cs) ∙ v.placed f ev;
+          node_rows = ap unpacked_node_rows node-table ∙ h.table;
+          aggregates = ap (λ (k : ℕ). part aggregates_made_at k words₃) (sym ca) ∙ aggregate-table ∙ a.placed g ea;
+          virtual_storages = ap (λ (k : ℕ). part virtual_storages_made_at (6 * k) words₃) (sym cs) ∙ v.placed f ev;
         } in
         record {
           done = λ m q. let e : record { filled = f; count = n.count } ≡ m = cc in subst (λ (x : NodeRows). VaryingLaid s net x words₃ numbers₃) e laid;
@@ -134,14 +134,14 @@ module _ (s : Sentinel) (net : Network) where
         }
 
 -- at most 128 exclusive sets
-pub sets-few : (file : List ℕ) (c : Counts) (firstMembership nextMembership : List ℕ) → MembershipTables file c firstMembership nextMembership → length (exclusiveSets (networkOf file c)) ≤ 128
-sets-few file c firstMembership nextMembership l =
-    let long : length (setsAt file l.setAt l.sets) ≡ length (take l.sets l.setAt) = simp length-map in
-    omega (arith, long, ap (λ (x : List (List ℕ)). length x) l.tables.held, length-take-le l.sets l.setAt (omega (arith, l.tables.fit.long, l.tables.fit.few)), l.tables.fit.few)
+pub sets_few : (file : List ℕ) (c : Counts) (first_membership next_membership : List ℕ) → MembershipTables file c first_membership next_membership → length (exclusive_sets (network_of file c)) ≤ 128
+sets_few file c first_membership next_membership l =
+    let long : length (sets_at file l.aggregate_set_at l.sets) ≡ length (take l.sets l.aggregate_set_at) = simp length-map in
+    omega (arith, long, ap (λ (x : List (List ℕ)). length x) l.tables.held, length-take-le l.sets l.aggregate_set_at (omega (arith, l.tables.fit.long, l.tables.fit.few)), l.tables.fit.few)
 
 -- the nodes of an accepted network ask for at most 4,352 rows
-pub asks-few : (file : List ℕ) (c : Counts) (firstIn nextIn firstOut nextOut edgeToCol firstMembership nextMembership : List ℕ)
-    → EdgeTables file c firstIn nextIn firstOut nextOut edgeToCol → MembershipTables file c firstMembership nextMembership
-    → length (requestsFrom (columnMap (networkOf file c)) 0 (networkOf file c).nodes) ≤ nodeRowCeiling
-asks-few file c firstIn nextIn firstOut nextOut edgeToCol firstMembership nextMembership t l =
-    requests-few (networkOf file c) (read-sound file (networkOf file c) t.parsed).good (sets-few file c firstMembership nextMembership l)
+pub asks_few : (file : List ℕ) (c : Counts) (first_in next_in first_out next_out edge_to_col first_membership next_membership : List ℕ)
+    → EdgeTables file c first_in next_in first_out next_out edge_to_col → MembershipTables file c first_membership next_membership
+    → length (requests_from (column_map (network_of file c)) 0 (network_of file c).nodes) ≤ node_row_ceiling
+asks_few file c first_in next_in first_out next_out edge_to_col first_membership next_membership t l =
+    requests_few (network_of file c) (read_sound file (network_of file c) t.parsed).good (sets_few file c first_membership next_membership l)

@@ -1,8 +1,8 @@
 // The varying rows of a programme: those of nodes, of aggregates and of virtual storages.
 ghost use Rattle.std.specs.Prelude.{◌≡◌, ◌≤◌, [], length};
-ghost use Rattle.layout.specs.Layout.{wordsLength, numbersLength};
-ghost use Rattle.build_node_row.specs.EdgeColumns.{edgeColumns};
-ghost use Rattle.build_node_row.specs.Tables.{networkOf, EdgeTables, MembershipTables};
+ghost use Rattle.layout.specs.Layout.{words_length, numbers_length};
+ghost use Rattle.build_node_row.specs.EdgeColumns.{edge_columns_of};
+ghost use Rattle.build_node_row.specs.Tables.{network_of, EdgeTables, MembershipTables};
 ghost use Rattle.build_append.specs.LpBuilder.{RowsHeld};
 ghost use Rattle.build_varying.specs.VaryingLaid.{AfterVarying};
 ghost use Rattle.layout.specs.WorkRoom.{WorkRoom};
@@ -32,9 +32,9 @@ pub fn add_varying_rows(
     f: Filled,
 ) -> NodeRowsAdded
     requires { EdgeTables s.now c first_in.now next_in.now first_out.now next_out.now edge_to_col.now
-        × MembershipTables s.now c first_membership.now next_membership.now × (edge_columns ≡ edgeColumns s.now c)
+        × MembershipTables s.now c first_membership.now next_membership.now × (edge_columns ≡ edge_columns_of s.now c)
         × WorkRoom words.old numbers.old × RowsHeld [] words.old numbers.old f }
-    ensures { AfterVarying sentinel (networkOf s.now c) result words.new numbers.new }
+    ensures { AfterVarying sentinel (network_of s.now c) result words.new numbers.new }
 {
     let n = build_nodes::create_node_constraints(
         s,

@@ -1,19 +1,19 @@
 // The rows of the virtual storages (SolverBuilder::create_virtual_storage_constraints of builder.rs).
 ghost use Rattle.std.specs.Prelude.{◌≡◌, List, map, not, ◌+◌, ◌*◌, ◌≤◌, length};
 ghost use Rattle.std.proofs.lemmas.List.Edits.{sets};
-ghost use Rattle.layout.specs.Layout.{columnCeiling, virtualStorageWidth, virtualStoragesPackedAt, virtualStoragesMadeAt, wordsLength, numbersLength};
-ghost use Rattle.pywr.specs.Rows.{Element, columnMap, virtualStorageRow};
+ghost use Rattle.layout.specs.Layout.{column_ceiling, virtual_storage_width, virtual_storages_packed_at, virtual_storages_made_at, words_length, numbers_length};
+ghost use Rattle.pywr.specs.Rows.{Element, column_map, virtual_storage_row};
 ghost use Rattle.pywr.specs.VaryingRows.{fresh_row};
-ghost use Rattle.pywr.specs.Written.{flagWord, virtualStorageWords};
+ghost use Rattle.pywr.specs.Written.{flag_word, virtual_storage_words};
 ghost use Rattle.fields.specs.declared.Checked.TheVariants.{Next};
-ghost use Rattle.network_virtual_storage.specs.VirtualStorage.{virtualStorageAt, virtualStorageEnd, checkVirtualStorage};
-ghost use Rattle.network_virtual_storage.specs.PeriodOf.{periodOf};
+ghost use Rattle.network_virtual_storage.specs.VirtualStorage.{virtual_storage_at, virtual_storage_end, check_virtual_storage};
+ghost use Rattle.network_virtual_storage.specs.PeriodOf.{period_of};
 ghost use Rattle.build_append.specs.LpBuilder.{RowsHeld, Holding};
 ghost use Rattle.build_join.specs.VariableRow.{AfterVariableRow};
-ghost use Rattle.build_node_row.specs.Tables.{networkOf, EdgeTables};
+ghost use Rattle.build_node_row.specs.Tables.{network_of, EdgeTables};
 ghost use Rattle.build_row.specs.Gathered.{Gathered};
 ghost use Rattle.build_join.specs.JoinedRows.{HoldingVarying, AfterVariableRows};
-ghost use Rattle.build_virtual_storages.specs.VirtualStorageRows.{virtualStorageRows, virtualStorageTable};
+ghost use Rattle.build_virtual_storages.specs.VirtualStorageRows.{virtual_storage_rows, virtual_storage_table};
 ghost use Rattle.layout.specs.WorkRoom.{WorkRoom};
 
 use build_append::{Filled, RowsAdded};
@@ -41,8 +41,8 @@ fn virtual_storage_row(
     elements: &mut [f64],
 ) -> usize
     requires { EdgeTables s.now c first_in.now next_in.now first_out.now next_out.now edge_to_col.now
-        × (checkVirtualStorage s.now c.nodes at ≡ Next (virtualStorageEnd s.now at)) × (columnCeiling ≤ length elements.old) }
-    ensures { Gathered (virtualStorageRow (columnMap (networkOf s.now c)) (virtualStorageAt s.now at)) columns.new elements.new result }
+        × (check_virtual_storage s.now c.nodes at ≡ Next (virtual_storage_end s.now at)) × (column_ceiling ≤ length elements.old) }
+    ensures { Gathered (virtual_storage_row (column_map (network_of s.now c)) (virtual_storage_at s.now at)) columns.new elements.new result }
 {
     let parts = network_virtual_storage::part_count(s, at);
     let mut n: usize = 0;
@@ -86,10 +86,10 @@ fn add_virtual_storage_row(
     f: Filled,
 ) -> VariableRow
     requires { EdgeTables s.now c first_in.now next_in.now first_out.now next_out.now edge_to_col.now
-        × (checkVirtualStorage s.now c.nodes at ≡ Next (virtualStorageEnd s.now at))
+        × (check_virtual_storage s.now c.nodes at ≡ Next (virtual_storage_end s.now at))
         × WorkRoom words.old numbers.old × Holding words.old numbers.old f }
     ensures { (rows : List (List Element)) → RowsHeld (map (fresh_row sentinel) rows) words.old numbers.old f
-        → AfterVariableRow sentinel rows (virtualStorageRow (columnMap (networkOf s.now c)) (virtualStorageAt s.now at))
+        → AfterVariableRow sentinel rows (virtual_storage_row (column_map (network_of s.now c)) (virtual_storage_at s.now at))
         words.old result words.new numbers.new }
 {
     let from = ELEMENTS_MADE_AT + f.elements;
@@ -110,7 +110,7 @@ fn add_virtual_storage_row(
 
 // A period's flag in the table: 0 always, 1 a period.
 fn period_word(always: bool) -> u16
-    ensures { result ≡ flagWord (not always) }
+    ensures { result ≡ flag_word (not always) }
 {
     if always {
         return 0;
@@ -120,8 +120,8 @@ fn period_word(always: bool) -> u16
 
 // Virtual storage i of the table: its row, then its period.
 fn put_virtual_storage(shape: &mut [u16], i: usize, row: u16, period: Period)
-    requires { virtualStoragesPackedAt + virtualStorageWidth * i + virtualStorageWidth ≤ length shape.old }
-    ensures { shape.new ≡ sets shape.old (virtualStoragesPackedAt + virtualStorageWidth * i) (virtualStorageWords (record { row = row; period = periodOf period })) }
+    requires { virtual_storages_packed_at + virtual_storage_width * i + virtual_storage_width ≤ length shape.old }
+    ensures { shape.new ≡ sets shape.old (virtual_storages_packed_at + virtual_storage_width * i) (virtual_storage_words (record { row = row; period = period_of period })) }
 {
     let at = VIRTUAL_STORAGES_PACKED_AT + VIRTUAL_STORAGE_WIDTH * i;
     shape[at] = row;
@@ -150,8 +150,8 @@ pub fn create_virtual_storage_constraints(
     requires { EdgeTables s.now c first_in.now next_in.now first_out.now next_out.now edge_to_col.now
         × WorkRoom words.old numbers.old × HoldingVarying sentinel words.old numbers.old f }
     ensures { (rows : List (List Element)) → RowsHeld (map (fresh_row sentinel) rows) words.old numbers.old f
-        → AfterVariableRows sentinel rows (virtualStorageRows (networkOf s.now c)) virtualStoragesMadeAt (virtualStorageWidth * c.virtual_storages)
-        (virtualStorageTable (networkOf s.now c))
+        → AfterVariableRows sentinel rows (virtual_storage_rows (network_of s.now c)) virtual_storages_made_at (virtual_storage_width * c.virtual_storages)
+        (virtual_storage_table (network_of s.now c))
         words.old result words.new numbers.new }
 {
     let mut at = c.virtual_storages_at;

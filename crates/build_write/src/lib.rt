@@ -1,11 +1,11 @@
 // An assembled programme written from the work runs into the store's runs (LpBuilder::build of builder.rs).
 ghost use Rattle.std.specs.Prelude.{◌≡◌, ◌*◌, ◌≤◌, length};
 ghost use Rattle.std.proofs.lemmas.List.Edits.{sets};
-ghost use Rattle.layout.specs.Layout.{columnCeiling, rowCeiling, elementCeiling, nodeRowCeiling, rowStartsLength, shapeLength, wordsLength, elementsMadeAt, numbersLength};
-ghost use Rattle.layout.specs.Layout.{nodeRowsAt, packedNodeRowWidth, packedShapeLength};
-ghost use Rattle.layout.specs.PackedNodeRow.{unpackedNodeRows};
+ghost use Rattle.layout.specs.Layout.{column_ceiling, row_ceiling, element_ceiling, node_row_ceiling, row_starts_length, shape_length, words_length, elements_made_at, numbers_length};
+ghost use Rattle.layout.specs.Layout.{node_rows_at, packed_node_row_width, packed_shape_length};
+ghost use Rattle.layout.specs.PackedNodeRow.{unpacked_node_rows};
 ghost use Rattle.laws.specs.Part.{part};
-ghost use Rattle.build_write.specs.Lp.{Few, RowStarts, ColumnsWritten, RowsWritten, MatrixWritten, shapeTables, shapeWritten};
+ghost use Rattle.build_write.specs.Lp.{Few, RowStarts, ColumnsWritten, RowsWritten, MatrixWritten, shape_tables, shape_written};
 ghost use Rattle.layout.specs.WorkRoom.{WorkRoom};
 
 use layout::{
@@ -39,7 +39,7 @@ pub fn write_columns(
     col_upper: &mut [f64],
     col_obj_coef: &mut [f64],
 )
-    requires { Few z × (columnCeiling ≤ length col_lower.old) × (columnCeiling ≤ length col_upper.old) × (columnCeiling ≤ length col_obj_coef.old) }
+    requires { Few z × (column_ceiling ≤ length col_lower.old) × (column_ceiling ≤ length col_upper.old) × (column_ceiling ≤ length col_obj_coef.old) }
     ensures { ColumnsWritten sentinel z col_lower.old col_upper.old col_obj_coef.old
         col_lower.new col_upper.new col_obj_coef.new }
 {
@@ -53,7 +53,7 @@ pub fn write_columns(
 
 // Row bounds.
 pub fn write_rows(z: Sizes, numbers: &[f64], row_lower: &mut [f64], row_upper: &mut [f64])
-    requires { Few z × (numbersLength ≤ length numbers.now) × (rowCeiling ≤ length row_lower.old) × (rowCeiling ≤ length row_upper.old) }
+    requires { Few z × (numbers_length ≤ length numbers.now) × (row_ceiling ≤ length row_lower.old) × (row_ceiling ≤ length row_upper.old) }
     ensures { RowsWritten z numbers.now row_lower.old row_upper.old row_lower.new row_upper.new }
 {
     let k = z.rows;
@@ -71,8 +71,8 @@ fn write_row(elements: &mut [f64], row: &[f64])
 
 // The elements row by row: each row is written into the element run from its start.
 fn write_elements(z: Sizes, words: &[u16], numbers: &[f64], elements: &mut [f64])
-    requires { Few z × RowStarts z words.now × WorkRoom words.now numbers.now × (elementCeiling ≤ length elements.old) }
-    ensures { elements.new ≡ sets elements.old 0 (part elementsMadeAt z.elements numbers.now) }
+    requires { Few z × RowStarts z words.now × WorkRoom words.now numbers.now × (element_ceiling ≤ length elements.old) }
+    ensures { elements.new ≡ sets elements.old 0 (part elements_made_at z.elements numbers.now) }
 {
     let rows = z.rows;
     let mut r: usize = 0;
@@ -95,7 +95,7 @@ pub fn write_matrix(
     row_starts: &mut [u32],
 )
     requires { Few z × RowStarts z words.now × WorkRoom words.now numbers.now
-        × (elementCeiling ≤ length elements.old) × (elementCeiling ≤ length columns.old) × (rowStartsLength ≤ length row_starts.old) }
+        × (element_ceiling ≤ length elements.old) × (element_ceiling ≤ length columns.old) × (row_starts_length ≤ length row_starts.old) }
     ensures { MatrixWritten z words.now numbers.now elements.old columns.old row_starts.old
         elements.new columns.new row_starts.new }
 {
@@ -108,8 +108,8 @@ pub fn write_matrix(
 
 // The node rows, unpacked. `made` is the part of a build's work run where the shape run's words are made.
 fn write_node_rows(shape: &mut [u16], made: &[u16], count: usize)
-    requires { (shapeLength ≤ length shape.old) × (packedShapeLength ≤ length made.now) × (count ≤ nodeRowCeiling) }
-    ensures { shape.new ≡ sets shape.old nodeRowsAt (unpackedNodeRows (part nodeRowsAt (packedNodeRowWidth * count) made.now)) }
+    requires { (shape_length ≤ length shape.old) × (packed_shape_length ≤ length made.now) × (count ≤ node_row_ceiling) }
+    ensures { shape.new ≡ sets shape.old node_rows_at (unpacked_node_rows (part node_rows_at (packed_node_row_width * count) made.now)) }
 {
     let mut i: usize = 0;
     while i < count {
@@ -126,8 +126,8 @@ fn write_node_rows(shape: &mut [u16], made: &[u16], count: usize)
 
 // The shape run's counts and the tables that steps read.
 fn write_tables(z: Sizes, words: &[u16], shape: &mut [u16])
-    requires { Few z × (wordsLength ≤ length words.now) × (shapeLength ≤ length shape.old) }
-    ensures { shape.new ≡ shapeTables z words.now shape.old }
+    requires { Few z × (words_length ≤ length words.now) × (shape_length ≤ length shape.old) }
+    ensures { shape.new ≡ shape_tables z words.now shape.old }
 {
     let made = &words[SHAPE_MADE_AT..];
     runs::copy_u16(shape, 0, made, 0, COUNTS_LENGTH);
@@ -152,8 +152,8 @@ fn write_tables(z: Sizes, words: &[u16], shape: &mut [u16])
 
 // The shape run: counts and tables, then the rows' makers and the flow order.
 pub fn write_shape(z: Sizes, words: &[u16], shape: &mut [u16])
-    requires { Few z × (wordsLength ≤ length words.now) × (shapeLength ≤ length shape.old) }
-    ensures { shape.new ≡ shapeWritten z words.now shape.old }
+    requires { Few z × (words_length ≤ length words.now) × (shape_length ≤ length shape.old) }
+    ensures { shape.new ≡ shape_written z words.now shape.old }
 {
     write_tables(z, words, shape);
     let made = &words[SHAPE_MADE_AT..];

@@ -21,24 +21,24 @@ pub fn build(
     numbers: &mut [f64],
 ) -> Answer
     ensures { AfterBuild sentinel file.now (record {
-      colLower = col_lower.old;
-      colUpper = col_upper.old;
-      colObjCoef = col_obj_coef.old;
-      rowLower = row_lower.old;
-      rowUpper = row_upper.old;
+      col_lower = col_lower.old;
+      col_upper = col_upper.old;
+      col_obj_coef = col_obj_coef.old;
+      row_lower = row_lower.old;
+      row_upper = row_upper.old;
       elements = elements.old;
       columns = columns.old;
-      rowStarts = row_starts.old;
+      row_starts = row_starts.old;
       shape = shape.old;
     }) words.old numbers.old result (record {
-      colLower = col_lower.new;
-      colUpper = col_upper.new;
-      colObjCoef = col_obj_coef.new;
-      rowLower = row_lower.new;
-      rowUpper = row_upper.new;
+      col_lower = col_lower.new;
+      col_upper = col_upper.new;
+      col_obj_coef = col_obj_coef.new;
+      row_lower = row_lower.new;
+      row_upper = row_upper.new;
       elements = elements.new;
       columns = columns.new;
-      rowStarts = row_starts.new;
+      row_starts = row_starts.new;
       shape = shape.new;
     }) words.new numbers.new }
 {

@@ -29,24 +29,24 @@ pub fn step(
     work: &mut [f64],
 ) -> Answer
     ensures { AfterStep file.now (record {
-      colLower = col_lower.now;
-      colUpper = col_upper.now;
-      colObjCoef = col_obj_coef.old;
-      rowLower = row_lower.old;
-      rowUpper = row_upper.old;
+      col_lower = col_lower.now;
+      col_upper = col_upper.now;
+      col_obj_coef = col_obj_coef.old;
+      row_lower = row_lower.old;
+      row_upper = row_upper.old;
       elements = elements.old;
       columns = columns.now;
-      rowStarts = row_starts.now;
+      row_starts = row_starts.now;
       shape = shape.now;
     }) work.old result (record {
-      colLower = col_lower.now;
-      colUpper = col_upper.now;
-      colObjCoef = col_obj_coef.new;
-      rowLower = row_lower.new;
-      rowUpper = row_upper.new;
+      col_lower = col_lower.now;
+      col_upper = col_upper.now;
+      col_obj_coef = col_obj_coef.new;
+      row_lower = row_lower.new;
+      row_upper = row_upper.new;
       elements = elements.new;
       columns = columns.now;
-      rowStarts = row_starts.now;
+      row_starts = row_starts.now;
       shape = shape.now;
     }) work.new }
 {

@@ -9,7 +9,7 @@ use lib.Dec.{T, not_T, ltb, eqb→eq, eqb_refl}
 use lib.Signed.{le_z, lt_z}
 use lib.Ieee.Fits.{and_i, and_l, and_r}
 use Rattle.laws.proofs.Tests.{tests, same_test, or_l, or_r, or_elim, by_cases, cond_both}
-use Rattle.doubles.specs.Integers.{plus, less, eqZ, maxZ, minZ}
+use Rattle.doubles.specs.Integers.{plus, less, eq_z, max_z, min_z}
 
 -- ---- equality and order as statements on naturals
 
@@ -71,20 +71,20 @@ sum_is (pos a) (negsuc b) = omega (arith, sub_is a (suc b))
 sum_is (negsuc a) (pos b) = omega (arith, sub_is b (suc a))
 sum_is (negsuc a) (negsuc b) = omega arith
 
-pub neg-plus : (a : ℤ) → plus (neg_ℤ a) ≡ less a
-neg-plus (pos zero) = refl
-neg-plus (pos (suc n)) = refl
-neg-plus (negsuc n) = refl
+pub neg_plus : (a : ℤ) → plus (neg_ℤ a) ≡ less a
+neg_plus (pos zero) = refl
+neg_plus (pos (suc n)) = refl
+neg_plus (negsuc n) = refl
 
-pub neg-less : (a : ℤ) → less (neg_ℤ a) ≡ plus a
-neg-less (pos zero) = refl
-neg-less (pos (suc n)) = refl
-neg-less (negsuc n) = refl
+pub neg_less : (a : ℤ) → less (neg_ℤ a) ≡ plus a
+neg_less (pos zero) = refl
+neg_less (pos (suc n)) = refl
+neg_less (negsuc n) = refl
 
 pub mul_is : (a b : ℤ) → plus (a *ℤ b) + (plus a * less b + less a * plus b) ≡ plus a * plus b + less a * less b + less (a *ℤ b)
 mul_is (pos a) (pos b) = omega arith
-mul_is (pos a) (negsuc b) = omega (arith, neg-plus (pos (a * suc b)), neg-less (pos (a * suc b)))
-mul_is (negsuc a) (pos b) = omega (arith, neg-plus (pos (suc a * b)), neg-less (pos (suc a * b)))
+mul_is (pos a) (negsuc b) = omega (arith, neg_plus (pos (a * suc b)), neg_less (pos (a * suc b)))
+mul_is (negsuc a) (pos b) = omega (arith, neg_plus (pos (suc a * b)), neg_less (pos (suc a * b)))
 mul_is (negsuc a) (negsuc b) = omega arith
 
 pub add-mulℤ : (a b c : ℤ) → (a +ℤ b) *ℤ c ≡ a *ℤ c +ℤ b *ℤ c
@@ -100,13 +100,13 @@ neg-mulℤ a b =
       ints,
       mul_is (neg_ℤ a) b,
       mul_is a b,
-      neg-plus (a *ℤ b),
-      neg-less (a *ℤ b),
-      ap (λ (z : ℕ). z * plus b) (neg-plus a),
+      neg_plus (a *ℤ b),
+      neg_less (a *ℤ b),
+      ap (λ (z : ℕ). z * plus b) (neg_plus a),
       ap (λ (z : ℕ). z * less b)
-          (neg-plus a),
-      ap (λ (z : ℕ). z * plus b) (neg-less a),
-      ap (λ (z : ℕ). z * less b) (neg-less a),
+          (neg_plus a),
+      ap (λ (z : ℕ). z * plus b) (neg_less a),
+      ap (λ (z : ℕ). z * less b) (neg_less a),
     )
 
 pub mul-negℤ : (a b : ℤ) → a *ℤ neg_ℤ b ≡ neg_ℤ (a *ℤ b)
@@ -130,86 +130,86 @@ swap-addℤ a b c = omega (ints, sum_is a (b +ℤ c), sum_is b c, sum_is b (a +�
 
 -- ---- order
 
-pub leZ-refl : (a : ℤ) → T (le_z a a)
-leZ-refl a = omega ints
+pub le_z_refl : (a : ℤ) → T (le_z a a)
+le_z_refl a = omega ints
 
-pub leZ-trans : (a b c : ℤ) → T (le_z a b) → T (le_z b c) → T (le_z a c)
-leZ-trans a b c h k = omega ints
+pub le_z_trans : (a b c : ℤ) → T (le_z a b) → T (le_z b c) → T (le_z a c)
+le_z_trans a b c h k = omega ints
 
-pub leZ-antisym : (a b : ℤ) → T (le_z a b) → T (le_z b a) → a ≡ b
-leZ-antisym a b h k = omega ints
+pub le_z_antisym : (a b : ℤ) → T (le_z a b) → T (le_z b a) → a ≡ b
+le_z_antisym a b h k = omega ints
 
-pub leZ-add : (a b c d : ℤ) → T (le_z a b) → T (le_z c d) → T (le_z (a +ℤ c) (b +ℤ d))
-leZ-add a b c d h k = omega (ints, sum_is a c, sum_is b d)
+pub le_z_add : (a b c d : ℤ) → T (le_z a b) → T (le_z c d) → T (le_z (a +ℤ c) (b +ℤ d))
+le_z_add a b c d h k = omega (ints, sum_is a c, sum_is b d)
 
-pub leZ-neg : (a b : ℤ) → le_z (neg_ℤ b) (neg_ℤ a) ≡ le_z a b
-leZ-neg a b =
+pub le_z_neg : (a b : ℤ) → le_z (neg_ℤ b) (neg_ℤ a) ≡ le_z a b
+le_z_neg a b =
     same_test (le_z (neg_ℤ b) (neg_ℤ a)) (le_z a b)
-    (λ h. omega (ints, neg-plus a, neg-less a, neg-plus b, neg-less b), λ h. omega (ints, neg-plus a, neg-less a, neg-plus b, neg-less b))
+    (λ h. omega (ints, neg_plus a, neg_less a, neg_plus b, neg_less b), λ h. omega (ints, neg_plus a, neg_less a, neg_plus b, neg_less b))
 
-pub ltZ-neg : (a b : ℤ) → lt_z (neg_ℤ b) (neg_ℤ a) ≡ lt_z a b
-ltZ-neg a b =
+pub lt_z_neg : (a b : ℤ) → lt_z (neg_ℤ b) (neg_ℤ a) ≡ lt_z a b
+lt_z_neg a b =
     same_test (lt_z (neg_ℤ b) (neg_ℤ a)) (lt_z a b)
-    (λ h. omega (ints, neg-plus a, neg-less a, neg-plus b, neg-less b), λ h. omega (ints, neg-plus a, neg-less a, neg-plus b, neg-less b))
+    (λ h. omega (ints, neg_plus a, neg_less a, neg_plus b, neg_less b), λ h. omega (ints, neg_plus a, neg_less a, neg_plus b, neg_less b))
 
 -- a positive factor
-pub scale-le : (p : ℕ) (a b : ℤ) → 0 < p → le_z (pos p *ℤ a) (pos p *ℤ b) ≡ le_z a b
-scale-le p a b P =
+pub scale_le : (p : ℕ) (a b : ℤ) → 0 < p → le_z (pos p *ℤ a) (pos p *ℤ b) ≡ le_z a b
+scale_le p a b P =
     same_test (le_z (pos p *ℤ a) (pos p *ℤ b)) (le_z a b) (
       λ h. ℕ→le a b (le_of_mul-le-mul_left (omega (arith, mul_is (pos p) a, mul_is (pos p) b, le→ℕ (pos p *ℤ a) (pos p *ℤ b) h)) P),
       λ h. ℕ→le (pos p *ℤ a) (pos p *ℤ b) (omega (arith, mul_is (pos p) a, mul_is (pos p) b, mul-le-mul_left p (le→ℕ a b h))),
     )
 
-pub scale-lt : (p : ℕ) (a b : ℤ) → 0 < p → lt_z (pos p *ℤ a) (pos p *ℤ b) ≡ lt_z a b
-scale-lt p a b P =
+pub scale_lt : (p : ℕ) (a b : ℤ) → 0 < p → lt_z (pos p *ℤ a) (pos p *ℤ b) ≡ lt_z a b
+scale_lt p a b P =
     same_test (lt_z (pos p *ℤ a) (pos p *ℤ b)) (lt_z a b) (
-      λ h. by_cases (lt_z a b) (λ t. t) (λ t. let k = subst T (sym (scale-le p b a P)) (omega ints) in absurd (omega ints)),
-      λ h. by_cases (lt_z (pos p *ℤ a) (pos p *ℤ b)) (λ t. t) (λ t. let k = subst T (scale-le p b a P) (omega ints) in absurd (omega ints)),
+      λ h. by_cases (lt_z a b) (λ t. t) (λ t. let k = subst T (sym (scale_le p b a P)) (omega ints) in absurd (omega ints)),
+      λ h. by_cases (lt_z (pos p *ℤ a) (pos p *ℤ b)) (λ t. t) (λ t. let k = subst T (scale_le p b a P) (omega ints) in absurd (omega ints)),
     )
 
-pub scale-eq : (p : ℕ) (a b : ℤ) → 0 < p → pos p *ℤ a ≡ pos p *ℤ b → a ≡ b
-scale-eq p a b P e =
-    leZ-antisym a b (subst T (scale-le p a b P) (subst (λ (z : ℤ). T (le_z (pos p *ℤ a) z)) e (leZ-refl (pos p *ℤ a))))
-    (subst T (scale-le p b a P) (subst (λ (z : ℤ). T (le_z z (pos p *ℤ a))) e (leZ-refl (pos p *ℤ a))))
+pub scale_eq : (p : ℕ) (a b : ℤ) → 0 < p → pos p *ℤ a ≡ pos p *ℤ b → a ≡ b
+scale_eq p a b P e =
+    le_z_antisym a b (subst T (scale_le p a b P) (subst (λ (z : ℤ). T (le_z (pos p *ℤ a) z)) e (le_z_refl (pos p *ℤ a))))
+    (subst T (scale_le p b a P) (subst (λ (z : ℤ). T (le_z z (pos p *ℤ a))) e (le_z_refl (pos p *ℤ a))))
 
 -- 0 ≤ b - a
-pub difference-le : (a b : ℤ) → le_z (pos 0) (b +ℤ neg_ℤ a) ≡ le_z a b
-difference-le a b =
+pub difference_le : (a b : ℤ) → le_z (pos 0) (b +ℤ neg_ℤ a) ≡ le_z a b
+difference_le a b =
     same_test (le_z (pos 0) (b +ℤ neg_ℤ a)) (le_z a b)
-    (λ h. omega (ints, sum_is b (neg_ℤ a), neg-plus a, neg-less a), λ h. omega (ints, sum_is b (neg_ℤ a), neg-plus a, neg-less a))
+    (λ h. omega (ints, sum_is b (neg_ℤ a), neg_plus a, neg_less a), λ h. omega (ints, sum_is b (neg_ℤ a), neg_plus a, neg_less a))
 
 -- ---- equality as a test
 
-pub eqZ→eq : (a b : ℤ) → T (eqZ a b) → a ≡ b
+pub eqZ→eq : (a b : ℤ) → T (eq_z a b) → a ≡ b
 eqZ→eq (pos a) (pos b) t = ap pos (eqb→eq a b t)
 eqZ→eq (pos a) (negsuc b) t = absurd t
 eqZ→eq (negsuc a) (pos b) t = absurd t
 eqZ→eq (negsuc a) (negsuc b) t = ap negsuc (eqb→eq a b t)
 
-pub eq→eqZ : (a b : ℤ) → a ≡ b → T (eqZ a b)
-eq→eqZ a b e = subst (λ (z : ℤ). T (eqZ a z)) e (self a)
+pub eq→eqZ : (a b : ℤ) → a ≡ b → T (eq_z a b)
+eq→eqZ a b e = subst (λ (z : ℤ). T (eq_z a z)) e (self a)
   where
-    self : (a : ℤ) → T (eqZ a a)
+    self : (a : ℤ) → T (eq_z a a)
     self (pos a) = eqb_refl a
     self (negsuc a) = eqb_refl a
 
-pub leZ-split : (a b : ℤ) → le_z a b ≡ lt_z a b || eqZ a b
-leZ-split a b =
-    same_test (le_z a b) (lt_z a b || eqZ a b) (
-      λ h. by_cases (lt_z a b) (λ t. or_l (lt_z a b) (eqZ a b) t) (λ t. or_r (lt_z a b) (eqZ a b) (eq→eqZ a b (omega ints))),
-      λ h. or_elim (lt_z a b) (eqZ a b) h (λ t. omega ints) (λ t. let e = eqZ→eq a b t in omega ints),
+pub le_z_split : (a b : ℤ) → le_z a b ≡ lt_z a b || eq_z a b
+le_z_split a b =
+    same_test (le_z a b) (lt_z a b || eq_z a b) (
+      λ h. by_cases (lt_z a b) (λ t. or_l (lt_z a b) (eq_z a b) t) (λ t. or_r (lt_z a b) (eq_z a b) (eq→eqZ a b (omega ints))),
+      λ h. or_elim (lt_z a b) (eq_z a b) h (λ t. omega ints) (λ t. let e = eqZ→eq a b t in omega ints),
     )
 
 -- ---- a bound by the smaller, and by the larger, of two
 
-pub le-min : (a b c : ℤ) → le_z a (minZ b c) ≡ le_z a b && le_z a c
-le-min a b c =
+pub le_min : (a b c : ℤ) → le_z a (min_z b c) ≡ le_z a b && le_z a c
+le_min a b c =
     cond_both (λ (z : ℤ). le_z a z ≡ le_z a b && le_z a c) (lt_z c b) c b
     (λ t. same_test (le_z a c) (le_z a b && le_z a c) (λ h. and_i (le_z a b) (le_z a c) (omega ints) h, λ h. and_r (le_z a b) (le_z a c) h))
     (λ t. same_test (le_z a b) (le_z a b && le_z a c) (λ h. and_i (le_z a b) (le_z a c) h (omega ints), λ h. and_l (le_z a b) (le_z a c) h))
 
-pub max-le : (a b c : ℤ) → le_z (maxZ a b) c ≡ le_z a c && le_z b c
-max-le a b c =
+pub max_le : (a b c : ℤ) → le_z (max_z a b) c ≡ le_z a c && le_z b c
+max_le a b c =
     cond_both (λ (z : ℤ). le_z z c ≡ le_z a c && le_z b c) (lt_z a b) b a
     (λ t. same_test (le_z b c) (le_z a c && le_z b c) (λ h. and_i (le_z a c) (le_z b c) (omega ints) h, λ h. and_r (le_z a c) (le_z b c) h))
     (λ t. same_test (le_z a c) (le_z a c && le_z b c) (λ h. and_i (le_z a c) (le_z b c) h (omega ints), λ h. and_l (le_z a c) (le_z b c) h))

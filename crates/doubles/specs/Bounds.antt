@@ -15,11 +15,11 @@ smaller held new = cond (lt new held) new held
 
 -- The amount is a parts, of which p make a unit. A lower bound at or under the low sentinel, or an upper at or over the high, binds nothing;
 -- no amount meets an infinite bound that binds
-abbrev pub meetsLower : Format → ℕ → Float → ℤ → Float → Bool
-meetsLower f p high a l = le l (neg high) || (finite l && le_z (pos p *ℤ rank f l) a)
+abbrev pub meets_lower : Format → ℕ → Float → ℤ → Float → Bool
+meets_lower f p high a l = le l (neg high) || (finite l && le_z (pos p *ℤ rank f l) a)
 
-abbrev pub meetsUpper : Format → ℕ → Float → ℤ → Float → Bool
-meetsUpper f p high a u = le high u || (finite u && le_z a (pos p *ℤ rank f u))
+abbrev pub meets_upper : Format → ℕ → Float → ℤ → Float → Bool
+meets_upper f p high a u = le high u || (finite u && le_z a (pos p *ℤ rank f u))
 
 -- raised to 0.0 at least
 abbrev pub raised : Float → Float

@@ -13,7 +13,7 @@ two = fin false 1 (pos 1)
 -- h is half of x, to within half a unit
 pub record Halved (f : Format) (x h : Float) : Type 0 where
   pub is_finite : T (finite h)
-  pub signIs : sign h ≡ sign x
+  pub sign_is : sign h ≡ sign x
   pub over : 2 * mag f h ≤ mag f x + 1
   pub under : mag f x ≤ 2 * mag f h + 1
 
@@ -28,14 +28,14 @@ pub record Part (x : Float) (e : ℤ) : Type 0 where
   pub within : mag binary64 x ≤ 1000 * 2 ^ 1074
   pub off : Off (twice x) e 2
 
-abbrev pub edgeOff : ℕ
-edgeOff = 2 * 2 ^ 1032 + 4
+abbrev pub edge_off : ℕ
+edge_off = 2 * 2 ^ 1032 + 4
 
 pub record EdgeCost (r : Float) (e : ℤ) : Type 0 where
   pub fit : T (fits binary64 r)
   pub is_finite : T (finite r)
   pub within : mag binary64 r ≤ 2001 * 2 ^ 1074
-  pub off : Off (twice r) e edgeOff
+  pub off : Off (twice r) e edge_off
 
 -- the edges of a column: their exact costs together, and that each edge's cost is near its own
 module _ {A : Type 0} (exact : A → ℤ) where

@@ -10,15 +10,15 @@ abbrev pub less : ℤ → ℕ
 less (pos n) = 0
 less (negsuc n) = suc n
 
-abbrev pub eqZ : ℤ → ℤ → Bool
-eqZ (pos a) (pos b) = eqb a b
-eqZ (pos a) (negsuc b) = false
-eqZ (negsuc a) (pos b) = false
-eqZ (negsuc a) (negsuc b) = eqb a b
+abbrev pub eq_z : ℤ → ℤ → Bool
+eq_z (pos a) (pos b) = eqb a b
+eq_z (pos a) (negsuc b) = false
+eq_z (negsuc a) (pos b) = false
+eq_z (negsuc a) (negsuc b) = eqb a b
 
 -- the first where they are equal
-abbrev pub maxZ : ℤ → ℤ → ℤ
-maxZ a b = cond (lt_z a b) b a
+abbrev pub max_z : ℤ → ℤ → ℤ
+max_z a b = cond (lt_z a b) b a
 
-abbrev pub minZ : ℤ → ℤ → ℤ
-minZ a b = cond (lt_z b a) b a
+abbrev pub min_z : ℤ → ℤ → ℤ
+min_z a b = cond (lt_z b a) b a

@@ -23,12 +23,12 @@ pub record Representable (f : Format) (w : ℕ) : Type 0 where
 pub record Rounds (f : Format) (s : Bool) (w : ℕ) (x : Float) : Type 0 where
   pub fit : T (fits f x)
   pub is_finite : T (finite x)
-  pub signIs : sign x ≡ s
-  pub magIs : mag f x ≡ w
+  pub sign_is : sign x ≡ s
+  pub mag_given : mag f x ≡ w
 
 -- the exact sum of ±a and ±b: its sign, and its magnitude. A sum that is 0 is -0 only where both are negative
-abbrev pub addSign : Bool → ℕ → Bool → ℕ → Bool
-addSign s a t b = cond (beq s t) s (cond (ltb a b) t (s && ltb b a))
+abbrev pub add_sign : Bool → ℕ → Bool → ℕ → Bool
+add_sign s a t b = cond (beq s t) s (cond (ltb a b) t (s && ltb b a))
 
-abbrev pub addMag : Bool → ℕ → Bool → ℕ → ℕ
-addMag s a t b = cond (beq s t) (a + b) (cond (ltb a b) (b - a) (a - b))
+abbrev pub add_mag : Bool → ℕ → Bool → ℕ → ℕ
+add_mag s a t b = cond (beq s t) (a + b) (cond (ltb a b) (b - a) (a - b))

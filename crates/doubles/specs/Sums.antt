@@ -31,8 +31,8 @@ abbrev pub run : (Float → Float → Float) → Float → List Float → Float
 run op acc [] = acc
 run op acc (x ∷ xs) = run op (op acc x) xs
 
-abbrev pub addAll : Format → Float → List Float → Float
-addAll f acc xs = run (add f) acc xs
+abbrev pub add_all : Format → Float → List Float → Float
+add_all f acc xs = run (add f) acc xs
 
 abbrev pub ranks : Format → List Float → ℤ
 ranks f [] = pos 0

@@ -40,8 +40,8 @@ Num f x = T (fits f x) × T (number x)
 abbrev pub zero+ : Float
 zero+ = fin false 0 (pos 0)
 
-abbrev pub notMinusZero : Format → Float → Bool
-notMinusZero f x = not (sign x && eqb (mag f x) 0)
+abbrev pub not_minus_zero : Format → Float → Bool
+not_minus_zero f x = not (sign x && eqb (mag f x) 0)
 
 -- 1.0 and -1.0
 abbrev pub one_of : Bool → Float

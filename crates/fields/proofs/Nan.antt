@@ -2,7 +2,7 @@
 use Rattle.std.proofs.Common.{◌≡◌, ℕ, ◌%◌, ◌<◌, ◌≤◌, Bool, true, false, ◌&&◌, refl, ◌∙◌, arith, le-ltb, lt-ltb}
 use lib.Ieee.{binary64, nan_bits}
 use lib.Ieee.Bits.{nan_bits_above}
-use Rattle.pywr.specs.Numbers.{isFlow, isSmall}
+use Rattle.pywr.specs.Numbers.{is_flow, is_small}
 
 pub is_nan : (b : ℕ) → 9218868437227405312 < b % 9223372036854775808 → nan_bits binary64 b ≡ true
 is_nan b h = nan_bits_above binary64 b ∙ lt-ltb _ _ h
@@ -15,6 +15,6 @@ and_first true b e = refl
 and_first false b e = absurd (let z : ◌≡◌ {A = ℕ} 0 1 = cc in omega arith)
 
 -- a cost, volume or factor is no NaN
-pub small-flow : (b : ℕ) → isSmall b ≡ true → isFlow b ≡ true
-unfolding isSmall
-small-flow b e = and_first (isFlow b) _ e
+pub small_flow : (b : ℕ) → is_small b ≡ true → is_flow b ≡ true
+unfolding is_small
+small_flow b e = and_first (is_flow b) _ e

@@ -1,9 +1,9 @@
 // The fields of a record: little-endian numbers and bit patterns, doubles, and each field of the network file with its refusal.
 ghost use Rattle.std.specs.Prelude.{◌≡◌, ◌+◌, ◌*◌, ◌<◌, ◌≤◌, length};
 ghost use Rattle.pywr.specs.Bytes.{le16, le32, le64, within};
-ghost use Rattle.pywr.specs.NetworkFile.{activeFits};
-ghost use Rattle.pywr.specs.Numbers.{isFlow, isSmall, ofPattern};
-ghost use Rattle.fields.specs.Field.{byteField, nodeField, activeField, checkFactor};
+ghost use Rattle.pywr.specs.NetworkFile.{active_fits};
+ghost use Rattle.pywr.specs.Numbers.{is_flow, is_small, of_pattern};
+ghost use Rattle.fields.specs.Field.{byte_field, node_field, active_field, check_factor};
 
 // A field's value, or a refusal's number and place.
 #[derive(Drop)]
@@ -55,7 +55,7 @@ pub fn is_within(s: &[u8], at: usize, n: usize) -> bool
 
 // A byte from `least` to `most`.
 pub fn byte_field(s: &[u8], place: usize, at: usize, least: usize, most: usize) -> Field
-    ensures { result ≡ byteField s.now place at least most }
+    ensures { result ≡ byte_field s.now place at least most }
 {
     if s.len() <= at {
         return Field::Refused(1, place);
@@ -72,7 +72,7 @@ pub fn byte_field(s: &[u8], place: usize, at: usize, least: usize, most: usize) 
 
 // A node's number.
 pub fn node_field(s: &[u8], place: usize, at: usize, nodes: usize) -> Field
-    ensures { result ≡ nodeField s.now place at nodes }
+    ensures { result ≡ node_field s.now place at nodes }
 {
     if is_within(s, at, 2) {
         let x = widths::wide16(u16_at(s, at));
@@ -85,7 +85,7 @@ pub fn node_field(s: &[u8], place: usize, at: usize, nodes: usize) -> Field
 }
 
 fn active_fits(kind: usize, least: usize, n: usize) -> bool
-    ensures { result ≡ activeFits kind least n }
+    ensures { result ≡ active_fits kind least n }
 {
     if n < least {
         return false;
@@ -98,7 +98,7 @@ fn active_fits(kind: usize, least: usize, n: usize) -> bool
 
 // min_active, or max_active with min_active as `least`.
 pub fn active_field(s: &[u8], place: usize, at: usize, kind: usize, least: usize) -> Field
-    ensures { result ≡ activeField s.now place at kind least }
+    ensures { result ≡ active_field s.now place at kind least }
 {
     if is_within(s, at, 4) {
         let x = widths::wide32(u32_at(s, at));
@@ -112,7 +112,7 @@ pub fn active_field(s: &[u8], place: usize, at: usize, kind: usize, least: usize
 
 // The pattern is no NaN's: without its sign it is at most infinity's.
 pub fn is_flow(bits: u64) -> bool
-    ensures { result ≡ isFlow bits }
+    ensures { result ≡ is_flow bits }
 {
     if 9218868437227405312 < bits % 9223372036854775808 {
         return false;
@@ -123,14 +123,14 @@ pub fn is_flow(bits: u64) -> bool
 // A cost, volume or factor: magnitude at most 1e12. Twice the pattern, which has lost its sign, is at most twice 1e12's. (A mask of the sign in its place
 // is compiled to two loads.)
 pub fn is_small(bits: u64) -> bool
-    ensures { result ≡ isSmall bits }
+    ensures { result ≡ is_small bits }
 {
     std::num::wrapping_add_u64(bits, bits) <= 9573022409280192512
 }
 
 // The factor of a virtual storage's part.
 pub fn check_factor(s: &[u8], place: usize, at: usize) -> Checked
-    ensures { result ≡ checkFactor s.now place at }
+    ensures { result ≡ check_factor s.now place at }
 {
     if is_within(s, at, 8) {
         if is_small(u64_at(s, at)) {
@@ -142,7 +142,7 @@ pub fn check_factor(s: &[u8], place: usize, at: usize) -> Checked
 }
 
 fn of_pattern(bits: u64) -> f64
-    ensures { result ≡ ofPattern bits }
+    ensures { result ≡ of_pattern bits }
 {
     if is_flow(bits) {
         return f64::from_bits(bits);
@@ -152,7 +152,7 @@ fn of_pattern(bits: u64) -> f64
 
 pub fn f64_at(s: &[u8], at: usize) -> f64
     requires { at + 8 ≤ length s.now }
-    ensures { result ≡ ofPattern (le64 s.now at) }
+    ensures { result ≡ of_pattern (le64 s.now at) }
 {
     of_pattern(u64_at(s, at))
 }

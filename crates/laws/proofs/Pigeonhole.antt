@@ -11,7 +11,7 @@ pub pigeonhole : (m n : ℕ) (f : ℕ → ℕ) → ((k : ℕ) → k < m → f k 
 pigeonhole zero n f inside apart = zero-le
 pigeonhole (suc m) zero f inside apart = absurd (not-suc-le-zero (inside 0 (omega arith)))
 pigeonhole (suc m) (suc n) f inside apart =
-    let few = pigeonhole m n given given_inside given-apart in omega arith
+    let few = pigeonhole m n given given_inside given_apart in omega arith
   where
     -- the last one's place goes to whoever has place n
     instead : (k : ℕ) → Dec (f k ≡ n) → ℕ
@@ -31,8 +31,8 @@ pigeonhole (suc m) (suc n) f inside apart =
         go (yes q) = let i = inside m (omega arith) in let w : f m ≢ n = (λ e. not_last k h (q ∙ sym e)) in omega arith
         go (no q) = let i = inside k (omega arith) in let w : f k ≢ n = q in omega arith
 
-    given-apart : (k l : ℕ) → k < m → l < m → given k ≡ given l → k ≡ l
-    given-apart k l h i = go (ℕ_discrete (f k) n) (ℕ_discrete (f l) n)
+    given_apart : (k l : ℕ) → k < m → l < m → given k ≡ given l → k ≡ l
+    given_apart k l h i = go (ℕ_discrete (f k) n) (ℕ_discrete (f l) n)
       where
         go : (d : Dec (f k ≡ n)) (e : Dec (f l ≡ n)) → instead k d ≡ instead l e → k ≡ l
         go (yes p) (yes q) e = apart k l (omega arith) (omega arith) (p ∙ sym q)

@@ -25,16 +25,16 @@ same_test true false h = absurd (h.0 tt)
 same_test false true h = absurd (h.1 tt)
 same_test false false h = refl
 
-pub of-true : (b : Bool) → b ≡ true → T b
-of-true b e = subst T (sym e) tt
+pub of_true : (b : Bool) → b ≡ true → T b
+of_true b e = subst T (sym e) tt
 
-pub to-true : (b : Bool) → T b → b ≡ true
-to-true true t = refl
-to-true false t = absurd t
+pub to_true : (b : Bool) → T b → b ≡ true
+to_true true t = refl
+to_true false t = absurd t
 
-pub to-false : (b : Bool) → T (not b) → b ≡ false
-to-false true t = absurd t
-to-false false t = refl
+pub to_false : (b : Bool) → T (not b) → b ≡ false
+to_false true t = absurd t
+to_false false t = refl
 
 -- ---- either test
 
@@ -64,9 +64,9 @@ pub cond_no : {X : Type 0} (b : Bool) (x y : X) → T (not b) → cond b x y ≡
 cond_no true x y t = absurd t
 cond_no false x y t = refl
 
-pub ap-cond : {X Y : Type 0} (g : X → Y) (b : Bool) (x y : X) → g (cond b x y) ≡ cond b (g x) (g y)
-ap-cond g true x y = refl
-ap-cond g false x y = refl
+pub ap_cond : {X Y : Type 0} (g : X → Y) (b : Bool) (x y : X) → g (cond b x y) ≡ cond b (g x) (g y)
+ap_cond g true x y = refl
+ap_cond g false x y = refl
 
 -- what holds of either answer holds of the answer
 pub cond_both : {X : Type 0} (P : X → Type 0) (b : Bool) (x y : X) → (T b → P x) → (T (not b) → P y) → P (cond b x y)

@@ -4,375 +4,375 @@ use Rattle.std.specs.Prelude.{◌≡◌, refl, ℕ, ◌+◌, ◌*◌, List, get_
 
 -- ---- ceilings
 
-abbrev pub nodeCeiling : ℕ
-nodeCeiling = 256
+abbrev pub node_ceiling : ℕ
+node_ceiling = 256
 
-abbrev pub edgeCeiling : ℕ
-edgeCeiling = 512
+abbrev pub edge_ceiling : ℕ
+edge_ceiling = 512
 
-abbrev pub aggregateCeiling : ℕ
-aggregateCeiling = 64
+abbrev pub aggregate_ceiling : ℕ
+aggregate_ceiling = 64
 
-abbrev pub virtualStorageCeiling : ℕ
-virtualStorageCeiling = 32
+abbrev pub virtual_storage_ceiling : ℕ
+virtual_storage_ceiling = 32
 
 -- the sets that an aggregate lists, and the parts of a virtual storage
-abbrev pub aggregateSetCeiling : ℕ
-aggregateSetCeiling = 16
+abbrev pub aggregate_set_ceiling : ℕ
+aggregate_set_ceiling = 16
 
-abbrev pub partCeiling : ℕ
-partCeiling = 64
+abbrev pub part_ceiling : ℕ
+part_ceiling = 64
 
 -- distinct exclusive sets, and the nodes that a set lists; a membership is a node's place in a set
-abbrev pub setCeiling : ℕ
-setCeiling = 128
+abbrev pub set_ceiling : ℕ
+set_ceiling = 128
 
-abbrev pub setSizeCeiling : ℕ
-setSizeCeiling = 16
+abbrev pub set_size_ceiling : ℕ
+set_size_ceiling = 16
 
-abbrev pub membershipCeiling : ℕ
-membershipCeiling = 2048
+abbrev pub membership_ceiling : ℕ
+membership_ceiling = 2048
 
 -- an edge's columns and the sets'
-abbrev pub columnCeiling : ℕ
-columnCeiling = 640
+abbrev pub column_ceiling : ℕ
+column_ceiling = 640
 
-abbrev pub rowCeiling : ℕ
-rowCeiling = 1024
+abbrev pub row_ceiling : ℕ
+row_ceiling = 1024
 
-abbrev pub elementCeiling : ℕ
-elementCeiling = 4096
+abbrev pub element_ceiling : ℕ
+element_ceiling = 4096
 
 -- of a node in no exclusive set one, of a node in sets two for each membership
-abbrev pub nodeRowCeiling : ℕ
-nodeRowCeiling = 4352
+abbrev pub node_row_ceiling : ℕ
+node_row_ceiling = 4352
 
 -- ---- the store: its runs of columns, of rows and of elements are as long as their ceilings
 
 -- the start of each row, and where the last one ends
-abbrev pub rowStartsLength : ℕ
-rowStartsLength = 1025
+abbrev pub row_starts_length : ℕ
+row_starts_length = 1025
 
-abbrev pub shapeLength : ℕ
-shapeLength = 23307
+abbrev pub shape_length : ℕ
+shape_length = 23307
 
 -- the shape run starts with the sentinel's code and the counts
-abbrev pub sentinelAt : ℕ
-sentinelAt = 0
+abbrev pub sentinel_at : ℕ
+sentinel_at = 0
 
-abbrev pub nodeCountAt : ℕ
-nodeCountAt = 1
+abbrev pub node_count_at : ℕ
+node_count_at = 1
 
-abbrev pub edgeCountAt : ℕ
-edgeCountAt = 2
+abbrev pub edge_count_at : ℕ
+edge_count_at = 2
 
-abbrev pub edgeColumnCountAt : ℕ
-edgeColumnCountAt = 3
+abbrev pub edge_column_count_at : ℕ
+edge_column_count_at = 3
 
-abbrev pub setCountAt : ℕ
-setCountAt = 4
+abbrev pub set_count_at : ℕ
+set_count_at = 4
 
-abbrev pub varyingCountAt : ℕ
-varyingCountAt = 5
+abbrev pub varying_count_at : ℕ
+varying_count_at = 5
 
-abbrev pub fixedCountAt : ℕ
-fixedCountAt = 6
+abbrev pub fixed_count_at : ℕ
+fixed_count_at = 6
 
-abbrev pub elementCountAt : ℕ
-elementCountAt = 7
+abbrev pub element_count_at : ℕ
+element_count_at = 7
 
-abbrev pub nodeRowCountAt : ℕ
-nodeRowCountAt = 8
+abbrev pub node_row_count_at : ℕ
+node_row_count_at = 8
 
-abbrev pub aggregateCountAt : ℕ
-aggregateCountAt = 9
+abbrev pub aggregate_count_at : ℕ
+aggregate_count_at = 9
 
-abbrev pub virtualStorageCountAt : ℕ
-virtualStorageCountAt = 10
+abbrev pub virtual_storage_count_at : ℕ
+virtual_storage_count_at = 10
 
-abbrev pub countsLength : ℕ
-countsLength = 11
+abbrev pub counts_length : ℕ
+counts_length = 11
 
 -- where its tables start
-abbrev pub nodesAt : ℕ
-nodesAt = 11
+abbrev pub nodes_at : ℕ
+nodes_at = 11
 
 abbrev pub edges_at : ℕ
 edges_at = 523
 
-abbrev pub nodeRowsAt : ℕ
-nodeRowsAt = 2059
+abbrev pub node_rows_at : ℕ
+node_rows_at = 2059
 
-abbrev pub aggregatesAt : ℕ
-aggregatesAt = 19467
+abbrev pub aggregates_at : ℕ
+aggregates_at = 19467
 
-abbrev pub virtualStoragesAt : ℕ
-virtualStoragesAt = 19531
+abbrev pub virtual_storages_at : ℕ
+virtual_storages_at = 19531
 
-abbrev pub makersAt : ℕ
-makersAt = 19723
+abbrev pub makers_at : ℕ
+makers_at = 19723
 
-abbrev pub flowOrderAt : ℕ
-flowOrderAt = 22795
+abbrev pub flow_order_at : ℕ
+flow_order_at = 22795
 
 -- how many words an entry of each has
-abbrev pub nodeWidth : ℕ
-nodeWidth = 2
+abbrev pub node_width : ℕ
+node_width = 2
 
-abbrev pub edgeWidth : ℕ
-edgeWidth = 3
+abbrev pub edge_width : ℕ
+edge_width = 3
 
-abbrev pub nodeRowWidth : ℕ
-nodeRowWidth = 4
+abbrev pub node_row_width : ℕ
+node_row_width = 4
 
-abbrev pub aggregateWidth : ℕ
-aggregateWidth = 1
+abbrev pub aggregate_width : ℕ
+aggregate_width = 1
 
-abbrev pub virtualStorageWidth : ℕ
-virtualStorageWidth = 6
+abbrev pub virtual_storage_width : ℕ
+virtual_storage_width = 6
 
-abbrev pub makerWidth : ℕ
-makerWidth = 3
+abbrev pub maker_width : ℕ
+maker_width = 3
 
-abbrev pub flowOrderWidth : ℕ
-flowOrderWidth = 1
+abbrev pub flow_order_width : ℕ
+flow_order_width = 1
 
 -- the counts of a shape run
-abbrev pub sentinelIn : List ℕ → ℕ
-sentinelIn shape = get_or shape sentinelAt 0
+abbrev pub sentinel_in : List ℕ → ℕ
+sentinel_in shape = get_or shape sentinel_at 0
 
-abbrev pub nodesIn : List ℕ → ℕ
-nodesIn shape = get_or shape nodeCountAt 0
+abbrev pub nodes_in : List ℕ → ℕ
+nodes_in shape = get_or shape node_count_at 0
 
-abbrev pub edgesIn : List ℕ → ℕ
-edgesIn shape = get_or shape edgeCountAt 0
+abbrev pub edges_in : List ℕ → ℕ
+edges_in shape = get_or shape edge_count_at 0
 
-abbrev pub edgeColumnsIn : List ℕ → ℕ
-edgeColumnsIn shape = get_or shape edgeColumnCountAt 0
+abbrev pub edge_columns_in : List ℕ → ℕ
+edge_columns_in shape = get_or shape edge_column_count_at 0
 
-abbrev pub setsIn : List ℕ → ℕ
-setsIn shape = get_or shape setCountAt 0
+abbrev pub sets_in : List ℕ → ℕ
+sets_in shape = get_or shape set_count_at 0
 
-abbrev pub varyingIn : List ℕ → ℕ
-varyingIn shape = get_or shape varyingCountAt 0
+abbrev pub varying_in : List ℕ → ℕ
+varying_in shape = get_or shape varying_count_at 0
 
-abbrev pub fixedIn : List ℕ → ℕ
-fixedIn shape = get_or shape fixedCountAt 0
+abbrev pub fixed_in : List ℕ → ℕ
+fixed_in shape = get_or shape fixed_count_at 0
 
-abbrev pub elementsIn : List ℕ → ℕ
-elementsIn shape = get_or shape elementCountAt 0
+abbrev pub elements_in : List ℕ → ℕ
+elements_in shape = get_or shape element_count_at 0
 
-abbrev pub nodeRowsIn : List ℕ → ℕ
-nodeRowsIn shape = get_or shape nodeRowCountAt 0
+abbrev pub node_rows_in : List ℕ → ℕ
+node_rows_in shape = get_or shape node_row_count_at 0
 
-abbrev pub aggregatesIn : List ℕ → ℕ
-aggregatesIn shape = get_or shape aggregateCountAt 0
+abbrev pub aggregates_in : List ℕ → ℕ
+aggregates_in shape = get_or shape aggregate_count_at 0
 
-abbrev pub virtualStoragesIn : List ℕ → ℕ
-virtualStoragesIn shape = get_or shape virtualStorageCountAt 0
+abbrev pub virtual_storages_in : List ℕ → ℕ
+virtual_storages_in shape = get_or shape virtual_storage_count_at 0
 
 -- the words of the entry at `at`: of a node
-abbrev pub nodeKind : List ℕ → ℕ → ℕ
-nodeKind shape at = get_or shape at 0
+abbrev pub node_kind : List ℕ → ℕ → ℕ
+node_kind shape at = get_or shape at 0
 
-abbrev pub nodeFlag : List ℕ → ℕ → ℕ
-nodeFlag shape at = get_or shape (at + 1) 0
+abbrev pub node_flag : List ℕ → ℕ → ℕ
+node_flag shape at = get_or shape (at + 1) 0
 
 -- of an edge
-abbrev pub edgeFrom : List ℕ → ℕ → ℕ
-edgeFrom shape at = get_or shape at 0
+abbrev pub edge_from : List ℕ → ℕ → ℕ
+edge_from shape at = get_or shape at 0
 
-abbrev pub edgeTo : List ℕ → ℕ → ℕ
-edgeTo shape at = get_or shape (at + 1) 0
+abbrev pub edge_to : List ℕ → ℕ → ℕ
+edge_to shape at = get_or shape (at + 1) 0
 
-abbrev pub mappedColumn : List ℕ → ℕ → ℕ
-mappedColumn shape at = get_or shape (at + 2) 0
+abbrev pub mapped_column : List ℕ → ℕ → ℕ
+mapped_column shape at = get_or shape (at + 2) 0
 
 -- of a node row
-abbrev pub nodeRowNode : List ℕ → ℕ → ℕ
-nodeRowNode shape at = get_or shape at 0
+abbrev pub node_row_node : List ℕ → ℕ → ℕ
+node_row_node shape at = get_or shape at 0
 
-abbrev pub nodeRowRow : List ℕ → ℕ → ℕ
-nodeRowRow shape at = get_or shape (at + 1) 0
+abbrev pub node_row_row : List ℕ → ℕ → ℕ
+node_row_row shape at = get_or shape (at + 1) 0
 
-abbrev pub nodeRowType : List ℕ → ℕ → ℕ
-nodeRowType shape at = get_or shape (at + 2) 0
+abbrev pub node_row_type : List ℕ → ℕ → ℕ
+node_row_type shape at = get_or shape (at + 2) 0
 
-abbrev pub nodeRowSet : List ℕ → ℕ → ℕ
-nodeRowSet shape at = get_or shape (at + 3) 0
+abbrev pub node_row_set : List ℕ → ℕ → ℕ
+node_row_set shape at = get_or shape (at + 3) 0
 
 -- of an aggregate or a virtual storage: its row
-abbrev pub entryRow : List ℕ → ℕ → ℕ
-entryRow shape at = get_or shape at 0
+abbrev pub entry_row : List ℕ → ℕ → ℕ
+entry_row shape at = get_or shape at 0
 
 -- of a virtual storage: its period
-abbrev pub periodFlag : List ℕ → ℕ → ℕ
-periodFlag shape at = get_or shape (at + 1) 0
+abbrev pub period_flag : List ℕ → ℕ → ℕ
+period_flag shape at = get_or shape (at + 1) 0
 
-abbrev pub periodStartMonth : List ℕ → ℕ → ℕ
-periodStartMonth shape at = get_or shape (at + 2) 0
+abbrev pub period_start_month : List ℕ → ℕ → ℕ
+period_start_month shape at = get_or shape (at + 2) 0
 
-abbrev pub periodStartDay : List ℕ → ℕ → ℕ
-periodStartDay shape at = get_or shape (at + 3) 0
+abbrev pub period_start_day : List ℕ → ℕ → ℕ
+period_start_day shape at = get_or shape (at + 3) 0
 
-abbrev pub periodEndMonth : List ℕ → ℕ → ℕ
-periodEndMonth shape at = get_or shape (at + 4) 0
+abbrev pub period_end_month : List ℕ → ℕ → ℕ
+period_end_month shape at = get_or shape (at + 4) 0
 
-abbrev pub periodEndDay : List ℕ → ℕ → ℕ
-periodEndDay shape at = get_or shape (at + 5) 0
+abbrev pub period_end_day : List ℕ → ℕ → ℕ
+period_end_day shape at = get_or shape (at + 5) 0
 
 -- of a row's maker
-abbrev pub makerKind : List ℕ → ℕ → ℕ
-makerKind shape at = get_or shape at 0
+abbrev pub maker_kind : List ℕ → ℕ → ℕ
+maker_kind shape at = get_or shape at 0
 
-abbrev pub makerIndex : List ℕ → ℕ → ℕ
-makerIndex shape at = get_or shape (at + 1) 0
+abbrev pub maker_index : List ℕ → ℕ → ℕ
+maker_index shape at = get_or shape (at + 1) 0
 
-abbrev pub makerSharedBy : List ℕ → ℕ → ℕ
-makerSharedBy shape at = get_or shape (at + 2) 0
+abbrev pub maker_shared_by : List ℕ → ℕ → ℕ
+maker_shared_by shape at = get_or shape (at + 2) 0
 
 -- of the flow order: an edge's number
-abbrev pub flowOrderEdge : List ℕ → ℕ → ℕ
-flowOrderEdge shape at = get_or shape at 0
+abbrev pub flow_order_edge : List ℕ → ℕ → ℕ
+flow_order_edge shape at = get_or shape at 0
 
 -- ---- the build's work area
 
 -- a run of words: the elements' columns from 0, the row starts, then the shape run's words with each node row packed in two words
-abbrev pub startsMadeAt : ℕ
-startsMadeAt = 4096
+abbrev pub starts_made_at : ℕ
+starts_made_at = 4096
 
-abbrev pub shapeMadeAt : ℕ
-shapeMadeAt = 5121
+abbrev pub shape_made_at : ℕ
+shape_made_at = 5121
 
 -- where the tables behind the packed node rows start, and how long the whole is
-abbrev pub aggregatesPackedAt : ℕ
-aggregatesPackedAt = 10763
+abbrev pub aggregates_packed_at : ℕ
+aggregates_packed_at = 10763
 
-abbrev pub virtualStoragesPackedAt : ℕ
-virtualStoragesPackedAt = 10827
+abbrev pub virtual_storages_packed_at : ℕ
+virtual_storages_packed_at = 10827
 
-abbrev pub makersPackedAt : ℕ
-makersPackedAt = 11019
+abbrev pub makers_packed_at : ℕ
+makers_packed_at = 11019
 
-abbrev pub flowOrderPackedAt : ℕ
-flowOrderPackedAt = 14091
+abbrev pub flow_order_packed_at : ℕ
+flow_order_packed_at = 14091
 
-abbrev pub packedShapeLength : ℕ
-packedShapeLength = 14603
+abbrev pub packed_shape_length : ℕ
+packed_shape_length = 14603
 
-abbrev pub packedNodeRowWidth : ℕ
-packedNodeRowWidth = 2
+abbrev pub packed_node_row_width : ℕ
+packed_node_row_width = 2
 
 -- and where each starts in the run of words
-abbrev pub nodesMadeAt : ℕ
-nodesMadeAt = shapeMadeAt + nodesAt
+abbrev pub nodes_made_at : ℕ
+nodes_made_at = shape_made_at + nodes_at
 
-abbrev pub edgesMadeAt : ℕ
-edgesMadeAt = shapeMadeAt + edges_at
+abbrev pub edges_made_at : ℕ
+edges_made_at = shape_made_at + edges_at
 
-abbrev pub nodeRowsMadeAt : ℕ
-nodeRowsMadeAt = shapeMadeAt + nodeRowsAt
+abbrev pub node_rows_made_at : ℕ
+node_rows_made_at = shape_made_at + node_rows_at
 
-abbrev pub aggregatesMadeAt : ℕ
-aggregatesMadeAt = shapeMadeAt + aggregatesPackedAt
+abbrev pub aggregates_made_at : ℕ
+aggregates_made_at = shape_made_at + aggregates_packed_at
 
-abbrev pub virtualStoragesMadeAt : ℕ
-virtualStoragesMadeAt = shapeMadeAt + virtualStoragesPackedAt
+abbrev pub virtual_storages_made_at : ℕ
+virtual_storages_made_at = shape_made_at + virtual_storages_packed_at
 
-abbrev pub makersMadeAt : ℕ
-makersMadeAt = shapeMadeAt + makersPackedAt
+abbrev pub makers_made_at : ℕ
+makers_made_at = shape_made_at + makers_packed_at
 
-abbrev pub flowOrderMadeAt : ℕ
-flowOrderMadeAt = shapeMadeAt + flowOrderPackedAt
+abbrev pub flow_order_made_at : ℕ
+flow_order_made_at = shape_made_at + flow_order_packed_at
 
-abbrev pub wordsLength : ℕ
-wordsLength = 19724
+abbrev pub words_length : ℕ
+words_length = 19724
 
 -- a run of doubles: the rows' lower bounds from 0, their upper bounds, then the elements, with room for the row that is being gathered
-abbrev pub uppersMadeAt : ℕ
-uppersMadeAt = 1024
+abbrev pub uppers_made_at : ℕ
+uppers_made_at = 1024
 
-abbrev pub elementsMadeAt : ℕ
-elementsMadeAt = 2048
+abbrev pub elements_made_at : ℕ
+elements_made_at = 2048
 
-abbrev pub numbersLength : ℕ
-numbersLength = 6784
+abbrev pub numbers_length : ℕ
+numbers_length = 6784
 
 -- ---- the step's work area: the lower bounds of the intervals, the nodes' from 0, then the aggregates' and the virtual storages'; then all upper bounds
 
-abbrev pub aggregatesHeldAt : ℕ
-aggregatesHeldAt = 256
+abbrev pub aggregates_held_at : ℕ
+aggregates_held_at = 256
 
-abbrev pub virtualStoragesHeldAt : ℕ
-virtualStoragesHeldAt = 320
+abbrev pub virtual_storages_held_at : ℕ
+virtual_storages_held_at = 320
 
-abbrev pub uppersAt : ℕ
-uppersAt = 352
+abbrev pub uppers_at : ℕ
+uppers_at = 352
 
-abbrev pub stepWorkLength : ℕ
-stepWorkLength = 704
+abbrev pub step_work_length : ℕ
+step_work_length = 704
 
 -- ---- each number with those that it follows from
 
 pub record Follows : Type 0 where
-  pub memberships : membershipCeiling ≡ setSizeCeiling * setCeiling
-  pub columns : columnCeiling ≡ edgeCeiling + setCeiling
-  pub node-rows : nodeRowCeiling ≡ nodeCeiling + 2 * membershipCeiling
-  pub row-starts : rowStartsLength ≡ rowCeiling + 1
-  pub counts : countsLength ≡ virtualStorageCountAt + 1
-  pub nodes : nodesAt ≡ countsLength
-  pub edges : edges_at ≡ nodesAt + nodeWidth * nodeCeiling
-  pub nodeRows : nodeRowsAt ≡ edges_at + edgeWidth * edgeCeiling
-  pub aggregates : aggregatesAt ≡ nodeRowsAt + nodeRowWidth * nodeRowCeiling
-  pub virtualStorages : virtualStoragesAt ≡ aggregatesAt + aggregateWidth * aggregateCeiling
-  pub makers : makersAt ≡ virtualStoragesAt + virtualStorageWidth * virtualStorageCeiling
-  pub flow-order : flowOrderAt ≡ makersAt + makerWidth * rowCeiling
-  pub shape : shapeLength ≡ flowOrderAt + flowOrderWidth * edgeCeiling
-  pub starts-made : startsMadeAt ≡ elementCeiling
-  pub shape-made : shapeMadeAt ≡ startsMadeAt + rowStartsLength
-  pub aggregates-packed : aggregatesPackedAt ≡ nodeRowsAt + packedNodeRowWidth * nodeRowCeiling
-  pub virtualStorages-packed : virtualStoragesPackedAt ≡ aggregatesPackedAt + aggregateWidth * aggregateCeiling
-  pub makers-packed : makersPackedAt ≡ virtualStoragesPackedAt + virtualStorageWidth * virtualStorageCeiling
-  pub flow-order-packed : flowOrderPackedAt ≡ makersPackedAt + makerWidth * rowCeiling
-  pub packed-shape : packedShapeLength ≡ flowOrderPackedAt + flowOrderWidth * edgeCeiling
-  pub words : wordsLength ≡ shapeMadeAt + packedShapeLength
-  pub uppers-made : uppersMadeAt ≡ rowCeiling
-  pub elements-made : elementsMadeAt ≡ uppersMadeAt + rowCeiling
-  pub numbers : numbersLength ≡ elementsMadeAt + elementCeiling + columnCeiling
-  pub aggregates-held : aggregatesHeldAt ≡ nodeCeiling
-  pub virtualStorages-held : virtualStoragesHeldAt ≡ aggregatesHeldAt + aggregateCeiling
-  pub uppers : uppersAt ≡ virtualStoragesHeldAt + virtualStorageCeiling
-  pub step-work : stepWorkLength ≡ 2 * uppersAt
+  pub memberships : membership_ceiling ≡ set_size_ceiling * set_ceiling
+  pub columns : column_ceiling ≡ edge_ceiling + set_ceiling
+  pub node_rows_lem : node_row_ceiling ≡ node_ceiling + 2 * membership_ceiling
+  pub row_starts_lem : row_starts_length ≡ row_ceiling + 1
+  pub counts : counts_length ≡ virtual_storage_count_at + 1
+  pub nodes : nodes_at ≡ counts_length
+  pub edges : edges_at ≡ nodes_at + node_width * node_ceiling
+  pub node_rows : node_rows_at ≡ edges_at + edge_width * edge_ceiling
+  pub aggregates : aggregates_at ≡ node_rows_at + node_row_width * node_row_ceiling
+  pub virtual_storages : virtual_storages_at ≡ aggregates_at + aggregate_width * aggregate_ceiling
+  pub makers : makers_at ≡ virtual_storages_at + virtual_storage_width * virtual_storage_ceiling
+  pub flow_order_lem : flow_order_at ≡ makers_at + maker_width * row_ceiling
+  pub shape : shape_length ≡ flow_order_at + flow_order_width * edge_ceiling
+  pub starts_made : starts_made_at ≡ element_ceiling
+  pub shape_made : shape_made_at ≡ starts_made_at + row_starts_length
+  pub aggregates_packed : aggregates_packed_at ≡ node_rows_at + packed_node_row_width * node_row_ceiling
+  pub virtual_storages_packed : virtual_storages_packed_at ≡ aggregates_packed_at + aggregate_width * aggregate_ceiling
+  pub makers_packed : makers_packed_at ≡ virtual_storages_packed_at + virtual_storage_width * virtual_storage_ceiling
+  pub flow_order_packed : flow_order_packed_at ≡ makers_packed_at + maker_width * row_ceiling
+  pub packed_shape : packed_shape_length ≡ flow_order_packed_at + flow_order_width * edge_ceiling
+  pub words : words_length ≡ shape_made_at + packed_shape_length
+  pub uppers_made : uppers_made_at ≡ row_ceiling
+  pub elements_made : elements_made_at ≡ uppers_made_at + row_ceiling
+  pub numbers : numbers_length ≡ elements_made_at + element_ceiling + column_ceiling
+  pub aggregates_held : aggregates_held_at ≡ node_ceiling
+  pub virtual_storages_held_lem : virtual_storages_held_at ≡ aggregates_held_at + aggregate_ceiling
+  pub uppers : uppers_at ≡ virtual_storages_held_at + virtual_storage_ceiling
+  pub step_work_lem : step_work_length ≡ 2 * uppers_at
 
 pub follows : Follows
 follows =
     record {
       memberships = refl;
       columns = refl;
-      node-rows = refl;
-      row-starts = refl;
+      node_rows_lem = refl;
+      row_starts_lem = refl;
       counts = refl;
       nodes = refl;
       edges = refl;
-      nodeRows = refl;
+      node_rows = refl;
       aggregates = refl;
-      virtualStorages = refl;
+      virtual_storages = refl;
       makers = refl;
-      flow-order = refl;
+      flow_order_lem = refl;
       shape = refl;
-      starts-made = refl;
-      shape-made = refl;
-      aggregates-packed = refl;
-      virtualStorages-packed = refl;
-      makers-packed = refl;
-      flow-order-packed = refl;
-      packed-shape = refl;
+      starts_made = refl;
+      shape_made = refl;
+      aggregates_packed = refl;
+      virtual_storages_packed = refl;
+      makers_packed = refl;
+      flow_order_packed = refl;
+      packed_shape = refl;
       words = refl;
-      uppers-made = refl;
-      elements-made = refl;
+      uppers_made = refl;
+      elements_made = refl;
       numbers = refl;
-      aggregates-held = refl;
-      virtualStorages-held = refl;
+      aggregates_held = refl;
+      virtual_storages_held_lem = refl;
       uppers = refl;
-      step-work = refl;
+      step_work_lem = refl;
     }

@@ -6,32 +6,32 @@ use native.Mathlib.Numerals.{add-one}
 use native.Mathlib.Omega.{arith}
 use lib.ListN.{length, get_or, length-append}
 use lib.Ieee.{Float}
-use Rattle.pywr.specs.Store.{Store, columnCount, rowCount, varyingCount, elementsKept}
-use Rattle.listing_lines.specs.Lines.{programmeLine}
-use Rattle.listing_stored.specs.Stored.{columnText}
-use Rattle.listing_rows.specs.Rows.{rowsText, listedRows}
-use Rattle.listing.specs.Listing.{columnsText, listedColumns, programmeText}
+use Rattle.pywr.specs.Store.{Store, column_count, row_count, varying_count, elements_kept}
+use Rattle.listing_lines.specs.Lines.{programme_line}
+use Rattle.listing_stored.specs.Stored.{column_text}
+use Rattle.listing_rows.specs.Rows.{rows_text, listed_rows}
+use Rattle.listing.specs.Listing.{columns_text, listed_columns, programme_text}
 
-pub columns-none : (s : Store) → 0 ≡ length (columnsText s 0)
-unfolding columnsText
-columns-none s = refl
+pub columns_none : (s : Store) → 0 ≡ length (columns_text s 0)
+unfolding columns_text
+columns_none s = refl
 
-pub columns-more : (s : Store) (i : ℕ) → length (columnsText s (i + 1)) ≡ length (columnsText s i) + length (columnText s i)
-unfolding columnsText
-columns-more s i = rw (add-one i) (length-append (columnsText s i) (columnText s i))
+pub columns_more : (s : Store) (i : ℕ) → length (columns_text s (i + 1)) ≡ length (columns_text s i) + length (column_text s i)
+unfolding columns_text
+columns_more s i = rw (add-one i) (length-append (columns_text s i) (column_text s i))
 
-pub columns-listed : (s : Store) (lower upper cost : List Float) (shape : List ℕ) (n : ℕ)
+pub columns_listed : (s : Store) (lower upper cost : List Float) (shape : List ℕ) (n : ℕ)
     → n ≡ min (min (get_or shape 3 0 + get_or shape 4 0) (length lower)) (min (length upper) (length cost))
-    → s.colLower ≡ lower → s.colUpper ≡ upper → s.colObjCoef ≡ cost → s.shape ≡ shape → n ≡ listedColumns s
-unfolding listedColumns
-columns-listed s lower upper cost shape n e el eu ec eh = rw (el, eu, ec, eh) e
+    → s.col_lower ≡ lower → s.col_upper ≡ upper → s.col_obj_coef ≡ cost → s.shape ≡ shape → n ≡ listed_columns s
+unfolding listed_columns
+columns_listed s lower upper cost shape n e el eu ec eh = rw (el, eu, ec, eh) e
 
-pub listing-bytes : (s : Store)
-    → length (programmeText s)
-    ≡ length (programmeLine (columnCount s) (rowCount s) (varyingCount s) (elementsKept s)) + length (columnsText s (listedColumns s)) + length (rowsText s (listedRows s))
-unfolding programmeText
-listing-bytes s =
-    let p = programmeLine (columnCount s) (rowCount s) (varyingCount s) (elementsKept s) in
-    let c = columnsText s (listedColumns s) in
-    let r = rowsText s (listedRows s) in
+pub listing_bytes : (s : Store)
+    → length (programme_text s)
+    ≡ length (programme_line (column_count s) (row_count s) (varying_count s) (elements_kept s)) + length (columns_text s (listed_columns s)) + length (rows_text s (listed_rows s))
+unfolding programme_text
+listing_bytes s =
+    let p = programme_line (column_count s) (row_count s) (varying_count s) (elements_kept s) in
+    let c = columns_text s (listed_columns s) in
+    let r = rows_text s (listed_rows s) in
     omega (arith, length-append p (c ++ r), length-append c r)

@@ -3,11 +3,11 @@
 // standard output. That the bytes go out is not stated: output is outside the logic. Where a write fails the answer says so, the rest is not
 // written, and errno says why.
 ghost use Rattle.std.specs.Prelude.{◌≡◌, ◌+◌, ◌<◌, ◌≤◌, ◌^◌, min, length};
-ghost use Rattle.layout.specs.Layout.{edgeColumnsIn, setsIn};
+ghost use Rattle.layout.specs.Layout.{edge_columns_in, sets_in};
 ghost use Rattle.pywr.specs.Store.{Store};
 ghost use Rattle.listing_fields.specs.Fields.{PutWithin};
-ghost use Rattle.listing_lines.specs.Lines.{lineRoom, refusalLine, stepLine};
-ghost use Rattle.listing.specs.Listing.{columnsText, listedColumns, programmeText};
+ghost use Rattle.listing_lines.specs.Lines.{line_room, refusal_line, step_line};
+ghost use Rattle.listing.specs.Listing.{columns_text, listed_columns, programme_text};
 
 use layout::{EDGE_COLUMN_COUNT_AT, SET_COUNT_AT};
 use listing_rows::{Listed, least, list_rows, spare, write_out};
@@ -22,7 +22,7 @@ pub struct Output {
 
 // How many columns are listed of a store whose runs have these lengths.
 fn listed_columns(shape: &[u16], lower: usize, upper: usize, cost: usize) -> usize
-    ensures { (result ≡ min (min (edgeColumnsIn shape.now + setsIn shape.now) lower) (min upper cost))
+    ensures { (result ≡ min (min (edge_columns_in shape.now + sets_in shape.now) lower) (min upper cost))
         × (result ≤ lower) × (result ≤ upper) × (result ≤ cost) × (result < 131072) }
 {
     let columns = word(shape, EDGE_COLUMN_COUNT_AT) + word(shape, SET_COUNT_AT);
@@ -37,9 +37,9 @@ fn list_columns(
     col_obj_coef: &[f64],
     shape: &[u16],
 ) -> Listed
-    requires { (lineRoom ≤ length out.old) × (from ≤ length out.old) }
-    ensures { ((s : Store) → s.colLower ≡ col_lower.now → s.colUpper ≡ col_upper.now
-        → s.colObjCoef ≡ col_obj_coef.now → s.shape ≡ shape.now → result.bytes ≡ length (columnsText s (listedColumns s)))
+    requires { (line_room ≤ length out.old) × (from ≤ length out.old) }
+    ensures { ((s : Store) → s.col_lower ≡ col_lower.now → s.col_upper ≡ col_upper.now
+        → s.col_obj_coef ≡ col_obj_coef.now → s.shape ≡ shape.now → result.bytes ≡ length (columns_text s (listed_columns s)))
         × (result.at ≤ length out.old) × (result.bytes < 2 ^ 25) }
 {
     let end = listed_columns(shape, col_lower.len(), col_upper.len(), col_obj_coef.len());
@@ -70,16 +70,16 @@ fn list(
     row_starts: &[u32],
     shape: &[u16],
 ) -> Output
-    requires { lineRoom ≤ length out.old }
-    ensures { result.bytes ≡ length (programmeText (record {
-      colLower = col_lower.now;
-      colUpper = col_upper.now;
-      colObjCoef = col_obj_coef.now;
-      rowLower = row_lower.now;
-      rowUpper = row_upper.now;
+    requires { line_room ≤ length out.old }
+    ensures { result.bytes ≡ length (programme_text (record {
+      col_lower = col_lower.now;
+      col_upper = col_upper.now;
+      col_obj_coef = col_obj_coef.now;
+      row_lower = row_lower.now;
+      row_upper = row_upper.now;
       elements = elements.now;
       columns = columns.now;
-      rowStarts = row_starts.now;
+      row_starts = row_starts.now;
       shape = shape.now;
     })) }
 {
@@ -114,15 +114,15 @@ pub fn list_programme(
     row_starts: &[u32],
     shape: &[u16],
 ) -> Output
-    ensures { result.bytes ≡ length (programmeText (record {
-      colLower = col_lower.now;
-      colUpper = col_upper.now;
-      colObjCoef = col_obj_coef.now;
-      rowLower = row_lower.now;
-      rowUpper = row_upper.now;
+    ensures { result.bytes ≡ length (programme_text (record {
+      col_lower = col_lower.now;
+      col_upper = col_upper.now;
+      col_obj_coef = col_obj_coef.now;
+      row_lower = row_lower.now;
+      row_upper = row_upper.now;
       elements = elements.now;
       columns = columns.now;
-      rowStarts = row_starts.now;
+      row_starts = row_starts.now;
       shape = shape.now;
     })) }
 {
@@ -143,8 +143,8 @@ pub fn list_programme(
 
 // Writes the line that stands at the front of the buffer when it returns, and answers its length.
 fn write_refusal(out: &mut [u8], number: usize, place: usize) -> Output
-    requires { lineRoom ≤ length out.old }
-    ensures { PutWithin lineRoom (refusalLine number place) out.old 0 out.new result.bytes }
+    requires { line_room ≤ length out.old }
+    ensures { PutWithin line_room (refusal_line number place) out.old 0 out.new result.bytes }
 {
     let end = listing_lines::put_refusal(out, 0, number, place);
     Output {
@@ -154,8 +154,8 @@ fn write_refusal(out: &mut [u8], number: usize, place: usize) -> Output
 }
 
 fn write_step(out: &mut [u8], k: usize) -> Output
-    requires { lineRoom ≤ length out.old }
-    ensures { PutWithin lineRoom (stepLine k) out.old 0 out.new result.bytes }
+    requires { line_room ≤ length out.old }
+    ensures { PutWithin line_room (step_line k) out.old 0 out.new result.bytes }
 {
     let end = listing_lines::put_step(out, 0, k);
     Output {
@@ -166,7 +166,7 @@ fn write_step(out: &mut [u8], k: usize) -> Output
 
 // Writes the N line of a refusal.
 pub fn list_refusal(number: u8, place: usize) -> Output
-    ensures { result.bytes ≡ length (refusalLine number place) }
+    ensures { result.bytes ≡ length (refusal_line number place) }
 {
     let mut out = io::buffer();
     write_refusal(&mut out, widths::wide8(number), place)
@@ -174,7 +174,7 @@ pub fn list_refusal(number: u8, place: usize) -> Output
 
 // Writes the S line of step k, which stands in front of its listing or refusal.
 pub fn list_step(k: usize) -> Output
-    ensures { result.bytes ≡ length (stepLine k) }
+    ensures { result.bytes ≡ length (step_line k) }
 {
     let mut out = io::buffer();
     write_step(&mut out, k)

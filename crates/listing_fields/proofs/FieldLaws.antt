@@ -12,8 +12,8 @@ use lib.ListN.{length, take, length-append}
 use lib.Ieee as Ieee
 use lib.Ieee.{Float, nan, inf, fin, binary64, to_bits}
 use Rattle.io.specs.Digits.{hex_digit_ascii, last_digits, IsDigitCount}
-use Rattle.text.specs.Text.{Put, DecimalPut, sixteenDigits}
-use Rattle.listing_fields.specs.Fields.{PutWithin, decimalWithin, decimal}
+use Rattle.text.specs.Text.{Put, DecimalPut, sixteen_digits}
+use Rattle.listing_fields.specs.Fields.{PutWithin, decimal_within, decimal}
 
 -- ---- one text behind another
 
@@ -32,14 +32,14 @@ length_digits b (suc k) n =
     length-append (last_digits b k (n / b)) (hex_digit_ascii (n % b) ∷ []) ∙ ap (λ (j : ℕ). j + 1) (length_digits b k (n / b)) ∙ add-one k
 
 -- the fewest digits that hold a number, one by one
-fewest-decimal : (k places n : ℕ) → places ≤ k → IsDigitCount 10 1 n places → last_digits 10 places n ≡ decimalWithin k n
-unfolding decimalWithin
-fewest-decimal k zero n h f = absurd (omega (arith, f.0))
-fewest-decimal zero (suc p) n h f = absurd (omega arith)
-fewest-decimal (suc k) (suc zero) n h f =
+fewest_decimal : (k places n : ℕ) → places ≤ k → IsDigitCount 10 1 n places → last_digits 10 places n ≡ decimal_within k n
+unfolding decimal_within
+fewest_decimal k zero n h f = absurd (omega (arith, f.0))
+fewest_decimal zero (suc p) n h f = absurd (omega arith)
+fewest_decimal (suc k) (suc zero) n h f =
     let small : n < 10 = f.1 in
     rw (mod-eq_of_lt small, lt-ltb n 10 small)
-fewest-decimal (suc k) (suc (suc p)) n h f =
+fewest_decimal (suc k) (suc (suc p)) n h f =
     let e : suc (suc p) - 1 ≡ suc p = omega arith in
     let over : 10 ^ suc p ≤ n = subst (λ (j : ℕ). 10 ^ j ≤ n) e (f.2 (omega arith)) in
     let power = pow-suc 10 p in
@@ -48,33 +48,33 @@ fewest-decimal (suc k) (suc (suc p)) n h f =
     let under : n / 10 < 10 ^ suc p = (div-lt_iff_lt-mul {x = n} {y = 10 ^ suc p} (lit< {m = 0} {n = 10} tt)).1 (rw (pow-suc 10 (suc p)) at f.1) in
     let back : suc p - 1 ≡ p = omega arith in
     let above : 10 ^ p ≤ n / 10 = (le-div_iff_mul-le {x = 10 ^ p} {y = n} (lit< {m = 0} {n = 10} tt)).1 (omega arith) in
-    rw (le-ltb n 10 more, fewest-decimal k (suc p) (n / 10) (omega arith) (omega arith, under, λ _. subst (λ (j : ℕ). 10 ^ j ≤ n / 10) (sym back) above))
+    rw (le-ltb n 10 more, fewest_decimal k (suc p) (n / 10) (omega arith) (omega arith, under, λ _. subst (λ (j : ℕ). 10 ^ j ≤ n / 10) (sym back) above))
 
-pub put-decimal : {n at r : ℕ} {out out' : List ℕ} → DecimalPut n out at out' r → PutWithin 20 (decimal n) out at out' r
+pub put_decimal : {n at r : ℕ} {out out' : List ℕ} → DecimalPut n out at out' r → PutWithin 20 (decimal n) out at out' r
 unfolding decimal
-put-decimal {n} {at} {r} {out} {out'} d =
+put_decimal {n} {at} {r} {out} {out'} d =
     record {
-      put = subst (λ (t : List ℕ). Put t out at out' r) (fewest-decimal 20 d.places n d.few d.fewest) d.put;
+      put = subst (λ (t : List ℕ). Put t out at out' r) (fewest_decimal 20 d.places n d.few d.fewest) d.put;
       end = omega (arith, d.few, d.put.next, length_digits 10 d.places n);
     }
 
-pub put-sixteen : (n m : ℕ) {at r : ℕ} {out out' : List ℕ} → n ≡ m → Put (sixteenDigits n) out at out' r → PutWithin 16 (sixteenDigits m) out at out' r
-unfolding sixteenDigits
-put-sixteen n m {at} {r} {out} {out'} e p =
+pub put_sixteen : (n m : ℕ) {at r : ℕ} {out out' : List ℕ} → n ≡ m → Put (sixteen_digits n) out at out' r → PutWithin 16 (sixteen_digits m) out at out' r
+unfolding sixteen_digits
+put_sixteen n m {at} {r} {out} {out'} e p =
     record { put = subst (λ (j : ℕ). Put (last_digits 16 16 j) out at out' r) e p; end = omega (arith, p.next, length_digits 16 16 n) }
 
 -- ---- doubles
 
 -- a double that equals itself is a number
-pub a-number : (x : Float) → Ieee.eq x x ≡ true → T (not (Ieee.is_nan x))
+pub a_number : (x : Float) → Ieee.eq x x ≡ true → T (not (Ieee.is_nan x))
 unfolding Ieee.eq Ieee.is_nan
-a-number nan h = subst (λ (b : Bool). T b) (sym h) tt
-a-number (inf s) h = tt
-a-number (fin s m e) h = tt
+a_number nan h = subst (λ (b : Bool). T b) (sym h) tt
+a_number (inf s) h = tt
+a_number (fin s m e) h = tt
 
-level-self : (s : Bool) (a : ℕ) → Ieee.level s a s a ≡ true
-level-self true a = rw (eq-eqb a a refl)
-level-self false a = rw (eq-eqb a a refl)
+level_self : (s : Bool) (a : ℕ) → Ieee.level s a s a ≡ true
+level_self true a = rw (eq-eqb a a refl)
+level_self false a = rw (eq-eqb a a refl)
 
 -- and one that does not is the NaN
 pub no_number : (x : Float) → Ieee.eq x x ≡ false → 0x7ff8000000000000 ≡ to_bits binary64 x
@@ -82,4 +82,4 @@ unfolding Ieee.eq to_bits
 no_number nan h = refl
 no_number (inf true) h = let z : ◌≡◌ {A = ℕ} 0 1 = cc in absurd (omega arith)
 no_number (inf false) h = let z : ◌≡◌ {A = ℕ} 0 1 = cc in absurd (omega arith)
-no_number (fin s m e) h = let t = level-self s (m * Ieee.up e * Ieee.down e) in let z : ◌≡◌ {A = ℕ} 0 1 = cc in absurd (omega arith)
+no_number (fin s m e) h = let t = level_self s (m * Ieee.up e * Ieee.down e) in let z : ◌≡◌ {A = ℕ} 0 1 = cc in absurd (omega arith)

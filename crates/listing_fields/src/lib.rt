@@ -2,7 +2,7 @@
 ghost use Rattle.std.specs.Prelude.{◌≡◌, ◌+◌, ◌≤◌, length};
 ghost use Rattle.std.specs.Float.{binary64};
 ghost use Rattle.std.specs.Float.Ieee.{to_bits};
-ghost use Rattle.listing_fields.specs.Fields.{PutWithin, numberField, doubleField, letterField, boundsFields, headFields};
+ghost use Rattle.listing_fields.specs.Fields.{PutWithin, number_field, double_field, letter_field, bounds_fields, head_fields};
 
 // The bits of a double; one pattern for every NaN.
 fn bits(x: f64) -> u64
@@ -17,7 +17,7 @@ fn bits(x: f64) -> u64
 // A blank and a number.
 pub fn put_number(out: &mut [u8], at: usize, n: usize) -> usize
     requires { at + 21 ≤ length out.old }
-    ensures { PutWithin 21 (numberField n) out.old at out.new result }
+    ensures { PutWithin 21 (number_field n) out.old at out.new result }
 {
     let a = text::put(out, at, b' ');
     text::put_decimal(out, a, widths::usize_to_u64(n))
@@ -26,7 +26,7 @@ pub fn put_number(out: &mut [u8], at: usize, n: usize) -> usize
 // A blank and a double.
 pub fn put_double(out: &mut [u8], at: usize, x: f64) -> usize
     requires { at + 17 ≤ length out.old }
-    ensures { PutWithin 17 (doubleField x) out.old at out.new result }
+    ensures { PutWithin 17 (double_field x) out.old at out.new result }
 {
     let a = text::put(out, at, b' ');
     text::put_hex(out, a, bits(x))
@@ -35,7 +35,7 @@ pub fn put_double(out: &mut [u8], at: usize, x: f64) -> usize
 // A blank and a letter.
 pub fn put_letter(out: &mut [u8], at: usize, letter: u8) -> usize
     requires { at + 2 ≤ length out.old }
-    ensures { PutWithin 2 (letterField letter) out.old at out.new result }
+    ensures { PutWithin 2 (letter_field letter) out.old at out.new result }
 {
     let a = text::put(out, at, b' ');
     text::put(out, a, letter)
@@ -43,7 +43,7 @@ pub fn put_letter(out: &mut [u8], at: usize, letter: u8) -> usize
 
 pub fn put_bounds(out: &mut [u8], at: usize, lower: f64, upper: f64) -> usize
     requires { at + 34 ≤ length out.old }
-    ensures { PutWithin 34 (boundsFields lower upper) out.old at out.new result }
+    ensures { PutWithin 34 (bounds_fields lower upper) out.old at out.new result }
 {
     let a = put_double(out, at, lower);
     put_double(out, a, upper)
@@ -52,7 +52,7 @@ pub fn put_bounds(out: &mut [u8], at: usize, lower: f64, upper: f64) -> usize
 // A line's letter and first number.
 pub fn put_head(out: &mut [u8], at: usize, letter: u8, n: usize) -> usize
     requires { at + 22 ≤ length out.old }
-    ensures { PutWithin 22 (headFields letter n) out.old at out.new result }
+    ensures { PutWithin 22 (head_fields letter n) out.old at out.new result }
 {
     let a = text::put(out, at, letter);
     put_number(out, a, n)

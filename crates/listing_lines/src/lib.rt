@@ -1,7 +1,7 @@
 // The lines of a listing, each put into a buffer that the caller lends.
 ghost use Rattle.std.specs.Prelude.{◌≡◌, ◌+◌, ◌≤◌, length};
 ghost use Rattle.listing_fields.specs.Fields.{PutWithin};
-ghost use Rattle.listing_lines.specs.Lines.{lineRoom, toMaker, kindLetter, varyingFlag, programmeLine, columnLine, makerFields, row_line, elementLine, refusalLine, stepLine};
+ghost use Rattle.listing_lines.specs.Lines.{line_room, to_maker, kind_letter, varying_flag, programme_line, column_line, maker_fields, row_line, element_line, refusal_line, step_line};
 
 use listing_fields::{put_bounds, put_double, put_head, put_letter, put_number};
 
@@ -17,13 +17,13 @@ pub struct RowMaker {
 }
 
 fn kind_letter(integer: bool) -> u8
-    ensures { result ≡ kindLetter integer }
+    ensures { result ≡ kind_letter integer }
 {
     if integer { b'i' } else { b'c' }
 }
 
 fn varying_flag(varying: bool) -> usize
-    ensures { result ≡ varyingFlag varying }
+    ensures { result ≡ varying_flag varying }
 {
     if varying { 1 } else { 0 }
 }
@@ -36,8 +36,8 @@ pub fn put_programme(
     varying: usize,
     elements: usize,
 ) -> usize
-    requires { at + lineRoom ≤ length out.old }
-    ensures { PutWithin lineRoom (programmeLine columns rows varying elements) out.old at out.new result }
+    requires { at + line_room ≤ length out.old }
+    ensures { PutWithin line_room (programme_line columns rows varying elements) out.old at out.new result }
 {
     let a = put_head(out, at, b'P', columns);
     let b = put_number(out, a, rows);
@@ -55,8 +55,8 @@ pub fn put_column(
     upper: f64,
     cost: f64,
 ) -> usize
-    requires { at + lineRoom ≤ length out.old }
-    ensures { PutWithin lineRoom (columnLine index integer lower upper cost) out.old at out.new result }
+    requires { at + line_room ≤ length out.old }
+    ensures { PutWithin line_room (column_line index integer lower upper cost) out.old at out.new result }
 {
     let a = put_head(out, at, b'C', index);
     let b = put_letter(out, a, kind_letter(integer));
@@ -67,7 +67,7 @@ pub fn put_column(
 
 fn put_maker_fields(out: &mut [u8], at: usize, maker: RowMaker) -> usize
     requires { at + 63 ≤ length out.old }
-    ensures { PutWithin 63 (makerFields (toMaker maker)) out.old at out.new result }
+    ensures { PutWithin 63 (maker_fields (to_maker maker)) out.old at out.new result }
 {
     let a = put_number(out, at, maker.kind);
     let b = put_number(out, a, maker.index);
@@ -84,8 +84,8 @@ pub fn put_row(
     elements: usize,
     maker: RowMaker,
 ) -> usize
-    requires { at + lineRoom ≤ length out.old }
-    ensures { PutWithin lineRoom (row_line index varying lower upper elements (toMaker maker)) out.old at out.new result }
+    requires { at + line_room ≤ length out.old }
+    ensures { PutWithin line_room (row_line index varying lower upper elements (to_maker maker)) out.old at out.new result }
 {
     let a = put_head(out, at, b'R', index);
     let b = put_number(out, a, varying_flag(varying));
@@ -96,8 +96,8 @@ pub fn put_row(
 }
 
 pub fn put_element(out: &mut [u8], at: usize, column: usize, value: f64) -> usize
-    requires { at + lineRoom ≤ length out.old }
-    ensures { PutWithin lineRoom (elementLine column value) out.old at out.new result }
+    requires { at + line_room ≤ length out.old }
+    ensures { PutWithin line_room (element_line column value) out.old at out.new result }
 {
     let a = put_head(out, at, b'E', column);
     let b = put_double(out, a, value);
@@ -105,8 +105,8 @@ pub fn put_element(out: &mut [u8], at: usize, column: usize, value: f64) -> usiz
 }
 
 pub fn put_refusal(out: &mut [u8], at: usize, number: usize, place: usize) -> usize
-    requires { at + lineRoom ≤ length out.old }
-    ensures { PutWithin lineRoom (refusalLine number place) out.old at out.new result }
+    requires { at + line_room ≤ length out.old }
+    ensures { PutWithin line_room (refusal_line number place) out.old at out.new result }
 {
     let a = put_head(out, at, b'N', number);
     let b = put_number(out, a, place);
@@ -114,8 +114,8 @@ pub fn put_refusal(out: &mut [u8], at: usize, number: usize, place: usize) -> us
 }
 
 pub fn put_step(out: &mut [u8], at: usize, k: usize) -> usize
-    requires { at + lineRoom ≤ length out.old }
-    ensures { PutWithin lineRoom (stepLine k) out.old at out.new result }
+    requires { at + line_room ≤ length out.old }
+    ensures { PutWithin line_room (step_line k) out.old at out.new result }
 {
     let a = put_head(out, at, b'S', k);
     text::put(out, a, b'\n')

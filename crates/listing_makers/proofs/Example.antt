@@ -7,30 +7,30 @@ use mathlib.Core.Bool.{false}
 use lib.Ieee.{fin}
 use lib.IntN.{negsuc}
 use lib.ListN.{replicate}
-use Rattle.layout.specs.Layout.{numbersLength, wordsLength}
+use Rattle.layout.specs.Layout.{numbers_length, words_length}
 use Rattle.pywr.specs.declared.Sentinel.TheVariants.{Infinity}
 use Rattle.pywr.specs.Numbers.{zero64}
 use Rattle.pywr.specs.Network.{input, output}
-use Rattle.pywr.specs.Programme.{byVirtualStorage, byExclusivity}
-use Rattle.pywr.specs.Store.{Store, rowCount}
-use Rattle.pywr.specs.Calls.{buildStore}
+use Rattle.pywr.specs.Programme.{by_virtual_storage, by_exclusivity}
+use Rattle.pywr.specs.Store.{Store, row_count}
+use Rattle.pywr.specs.Calls.{build_store}
 use Rattle.pywr.specs.FileBytes.{varying, constant, edge}
 use Rattle.pywr.specs.Compute.{computing}
 use Rattle.pywr.specs.Cases.{blank}
-use Rattle.listing_fields.specs.Fields.{decimalWithin, decimal, numberField}
-use Rattle.listing_makers.specs.Makers.{kindWords, sharedWords, makerLine, makersText}
+use Rattle.listing_fields.specs.Fields.{decimal_within, decimal, number_field}
+use Rattle.listing_makers.specs.Makers.{kind_words, shared_words, maker_line, makers_text}
 
 built : Store
 built =
-    buildStore Infinity (varying input ++ constant output zero64 (fin false 97 (negsuc 0)) ++ edge 0 1) blank (replicate wordsLength 0) (replicate numbersLength zero64)
+    build_store Infinity (varying input ++ constant output zero64 (fin false 97 (negsuc 0)) ++ edge 0 1) blank (replicate words_length 0) (replicate numbers_length zero64)
 
 -- row 0: node 0
-firstRow : List ℕ
-firstRow = 114 ∷ 111 ∷ 119 ∷ 32 ∷ 48 ∷ 58 ∷ 32 ∷ 110 ∷ 111 ∷ 100 ∷ 101 ∷ 32 ∷ 48 ∷ 10 ∷ []
+first_row : List ℕ
+first_row = 114 ∷ 111 ∷ 119 ∷ 32 ∷ 48 ∷ 58 ∷ 32 ∷ 110 ∷ 111 ∷ 100 ∷ 101 ∷ 32 ∷ 48 ∷ 10 ∷ []
 
 -- row 1: node 1
-secondRow : List ℕ
-secondRow = 114 ∷ 111 ∷ 119 ∷ 32 ∷ 49 ∷ 58 ∷ 32 ∷ 110 ∷ 111 ∷ 100 ∷ 101 ∷ 32 ∷ 49 ∷ 10 ∷ []
+second_row : List ℕ
+second_row = 114 ∷ 111 ∷ 119 ∷ 32 ∷ 49 ∷ 58 ∷ 32 ∷ 110 ∷ 111 ∷ 100 ∷ 101 ∷ 32 ∷ 49 ∷ 10 ∷ []
 
 -- row 7: virtual storage 0, shared by 2
 licences : List ℕ
@@ -45,14 +45,14 @@ exclusive =
     114 ∷ 111 ∷ 119 ∷ 32 ∷ 49 ∷ 57 ∷ 58 ∷ 32
     ∷ 101 ∷ 120 ∷ 99 ∷ 108 ∷ 117 ∷ 115 ∷ 105 ∷ 118 ∷ 105 ∷ 116 ∷ 121 ∷ 32 ∷ 111 ∷ 102 ∷ 32 ∷ 97 ∷ 103 ∷ 103 ∷ 114 ∷ 101 ∷ 103 ∷ 97 ∷ 116 ∷ 101 ∷ 32 ∷ 48 ∷ 10 ∷ []
 
-document : makersText built (rowCount built) ≡ firstRow ++ secondRow
-unfolding computing blank decimalWithin decimal numberField kindWords sharedWords makerLine makersText built firstRow secondRow
+document : makers_text built (row_count built) ≡ first_row ++ second_row
+unfolding computing blank decimal_within decimal number_field kind_words shared_words maker_line makers_text built first_row second_row
 document = refl
 
-shared-row : makerLine 7 (record { kind = byVirtualStorage; index = 0; sharedBy = 2 }) ≡ licences
-unfolding decimalWithin decimal numberField kindWords sharedWords makerLine licences
-shared-row = refl
+shared_row_lem : maker_line 7 (record { kind = by_virtual_storage; index = 0; shared_by = 2 }) ≡ licences
+unfolding decimal_within decimal number_field kind_words shared_words maker_line licences
+shared_row_lem = refl
 
-exclusive-row : makerLine 19 (record { kind = byExclusivity; index = 0; sharedBy = 1 }) ≡ exclusive
-unfolding decimalWithin decimal numberField kindWords sharedWords makerLine exclusive
-exclusive-row = refl
+exclusive_row : maker_line 19 (record { kind = by_exclusivity; index = 0; shared_by = 1 }) ≡ exclusive
+unfolding decimal_within decimal number_field kind_words shared_words maker_line exclusive
+exclusive_row = refl

@@ -6,77 +6,77 @@ use native.Mathlib.Numerals.{add-one}
 use native.Mathlib.Omega.{arith}
 use borrow.Author.Tests.{eq-eqb, ne_eqb, lt-ltb, le-ltb}
 use lib.ListN.{length, take, length-append}
-use Rattle.layout.specs.Layout.{varyingIn, fixedIn}
-use Rattle.pywr.specs.Programme.{Maker, byMass, byNode, byAggregate, byVirtualStorage}
-use Rattle.pywr.specs.Store.{Store, rowCount, rowMaker}
+use Rattle.layout.specs.Layout.{varying_in, fixed_in}
+use Rattle.pywr.specs.Programme.{Maker, by_mass, by_node, by_aggregate, by_virtual_storage}
+use Rattle.pywr.specs.Store.{Store, row_count, row_maker}
 use Rattle.text.specs.Text.{Put}
 use Rattle.text.proofs.Placed.{put_as}
-use Rattle.listing_fields.specs.Fields.{PutWithin, numberField}
-use Rattle.listing_lines.specs.Lines.{refusalLine}
-use Rattle.listing_makers.specs.Makers.{massBalance, node, aggregate, virtualStorage, exclusivity, shared, kindWords, sharedWords, makerLine, makersText, makerText}
+use Rattle.listing_fields.specs.Fields.{PutWithin, number_field}
+use Rattle.listing_lines.specs.Lines.{refusal_line}
+use Rattle.listing_makers.specs.Makers.{mass_balance, node, aggregate, virtual_storage, exclusivity, shared, kind_words, shared_words, maker_line, makers_text, maker_text}
 
-pub put-words : {most : ℕ} {text text' out out' : List ℕ} {at r : ℕ} → text ≡ text' → length text ≤ most → Put text out at out' r → PutWithin most text' out at out' r
-put-words e h p = record { put = put_as e p; end = omega (arith, p.next) }
+pub put_words : {most : ℕ} {text text' out out' : List ℕ} {at r : ℕ} → text ≡ text' → length text ≤ most → Put text out at out' r → PutWithin most text' out at out' r
+put_words e h p = record { put = put_as e p; end = omega (arith, p.next) }
 
 -- nothing is put
-pub put-nothing : {most : ℕ} {text out : List ℕ} {at : ℕ} → [] ≡ text → PutWithin most text out at out at
-put-nothing {most} {text} {out} {at} e =
+pub put_nothing : {most : ℕ} {text out : List ℕ} {at : ℕ} → [] ≡ text → PutWithin most text out at out at
+put_nothing {most} {text} {out} {at} e =
     let p : Put [] out at out at = record { next = omega arith; written = sym (append-nil (take at out)) } in
     record { put = put_as e p; end = omega arith }
 
 -- ---- the kinds in words
 
 module _ (kind : ℕ) where
-  pub by-mass : kind ≡ byMass → massBalance ≡ kindWords kind
-  unfolding kindWords
-  by-mass e = rw (eq-eqb kind byMass e)
+  pub by_mass_lem : kind ≡ by_mass → mass_balance ≡ kind_words kind
+  unfolding kind_words
+  by_mass_lem e = rw (eq-eqb kind by_mass e)
 
-  module _ (no-mass : kind ≡ byMass → ⊥) where
-    pub by-node : kind ≡ byNode → node ≡ kindWords kind
-    unfolding kindWords
-    by-node e = rw (ne_eqb kind byMass no-mass, eq-eqb kind byNode e)
+  module _ (no-mass : kind ≡ by_mass → ⊥) where
+    pub by_node_lem : kind ≡ by_node → node ≡ kind_words kind
+    unfolding kind_words
+    by_node_lem e = rw (ne_eqb kind by_mass no-mass, eq-eqb kind by_node e)
 
-    module _ (no_Node : kind ≡ byNode → ⊥) where
-      pub by-aggregate : kind ≡ byAggregate → aggregate ≡ kindWords kind
-      unfolding kindWords
-      by-aggregate e = rw (ne_eqb kind byMass no-mass, ne_eqb kind byNode no_Node, eq-eqb kind byAggregate e)
+    module _ (no_Node : kind ≡ by_node → ⊥) where
+      pub by_aggregate_lem : kind ≡ by_aggregate → aggregate ≡ kind_words kind
+      unfolding kind_words
+      by_aggregate_lem e = rw (ne_eqb kind by_mass no-mass, ne_eqb kind by_node no_Node, eq-eqb kind by_aggregate e)
 
-      module _ (no-aggregate : kind ≡ byAggregate → ⊥) where
-        pub by-virtual-storage : kind ≡ byVirtualStorage → virtualStorage ≡ kindWords kind
-        unfolding kindWords
-        by-virtual-storage e = rw (ne_eqb kind byMass no-mass, ne_eqb kind byNode no_Node, ne_eqb kind byAggregate no-aggregate, eq-eqb kind byVirtualStorage e)
+      module _ (no-aggregate : kind ≡ by_aggregate → ⊥) where
+        pub by_virtual_storage_lem : kind ≡ by_virtual_storage → virtual_storage ≡ kind_words kind
+        unfolding kind_words
+        by_virtual_storage_lem e = rw (ne_eqb kind by_mass no-mass, ne_eqb kind by_node no_Node, ne_eqb kind by_aggregate no-aggregate, eq-eqb kind by_virtual_storage e)
 
-        pub by-exclusivity : (kind ≡ byVirtualStorage → ⊥) → exclusivity ≡ kindWords kind
-        unfolding kindWords
-        by-exclusivity h = rw (ne_eqb kind byMass no-mass, ne_eqb kind byNode no_Node, ne_eqb kind byAggregate no-aggregate, ne_eqb kind byVirtualStorage h)
+        pub by_exclusivity_lem : (kind ≡ by_virtual_storage → ⊥) → exclusivity ≡ kind_words kind
+        unfolding kind_words
+        by_exclusivity_lem h = rw (ne_eqb kind by_mass no-mass, ne_eqb kind by_node no_Node, ne_eqb kind by_aggregate no-aggregate, ne_eqb kind by_virtual_storage h)
 
 -- ---- how many share a row
 
-pub one-maker : (count : ℕ) → count ≡ 1 → [] ≡ sharedWords count
-unfolding sharedWords
-one-maker count e = rw (eq-eqb count 1 e)
+pub one_maker : (count : ℕ) → count ≡ 1 → [] ≡ shared_words count
+unfolding shared_words
+one_maker count e = rw (eq-eqb count 1 e)
 
-pub more-makers : (count : ℕ) → (count ≡ 1 → ⊥) → shared ++ numberField count ≡ sharedWords count
-unfolding sharedWords
-more-makers count h = rw (ne_eqb count 1 h)
+pub more_makers : (count : ℕ) → (count ≡ 1 → ⊥) → shared ++ number_field count ≡ shared_words count
+unfolding shared_words
+more_makers count h = rw (ne_eqb count 1 h)
 
 -- ---- the first rows, and one row
 
-pub makers-none : (s : Store) → 0 ≡ length (makersText s 0)
-unfolding makersText
-makers-none s = refl
+pub makers_none : (s : Store) → 0 ≡ length (makers_text s 0)
+unfolding makers_text
+makers_none s = refl
 
-pub makers-more : (s : Store) (i : ℕ) (m : Maker) → m ≡ rowMaker s i → length (makersText s (i + 1)) ≡ length (makersText s i) + length (makerLine i m)
-unfolding makersText
-makers-more s i m e = rw (add-one i, e) (length-append (makersText s i) (makerLine i (rowMaker s i)))
+pub makers_more : (s : Store) (i : ℕ) (m : Maker) → m ≡ row_maker s i → length (makers_text s (i + 1)) ≡ length (makers_text s i) + length (maker_line i m)
+unfolding makers_text
+makers_more s i m e = rw (add-one i, e) (length-append (makers_text s i) (maker_line i (row_maker s i)))
 
-pub rows-counted : (s : Store) (shape : List ℕ) (n : ℕ) → n ≡ varyingIn shape + fixedIn shape → s.shape ≡ shape → n ≡ rowCount s
-rows-counted s shape n e es = rw es e
+pub rows_counted : (s : Store) (shape : List ℕ) (n : ℕ) → n ≡ varying_in shape + fixed_in shape → s.shape ≡ shape → n ≡ row_count s
+rows_counted s shape n e es = rw es e
 
-pub there : (s : Store) (row : ℕ) → row < rowCount s → makerLine row (rowMaker s row) ≡ makerText s row
-unfolding makerText
-there s row h = rw (lt-ltb row (rowCount s) h)
+pub there : (s : Store) (row : ℕ) → row < row_count s → maker_line row (row_maker s row) ≡ maker_text s row
+unfolding maker_text
+there s row h = rw (lt-ltb row (row_count s) h)
 
-pub not_there : (s : Store) (row : ℕ) → rowCount s ≤ row → refusalLine 18 row ≡ makerText s row
-unfolding makerText
-not_there s row h = rw (le-ltb row (rowCount s) h)
+pub not_there : (s : Store) (row : ℕ) → row_count s ≤ row → refusal_line 18 row ≡ maker_text s row
+unfolding maker_text
+not_there s row h = rw (le-ltb row (row_count s) h)

@@ -2,11 +2,11 @@
 // What stands in each line is proved, and how many bytes the lines have together. That the bytes go out is not stated: output is outside the logic.
 // Where a write fails the answer says so, the rest is not written, and errno says why.
 ghost use Rattle.std.specs.Prelude.{◌≡◌, ◌+◌, ◌<◌, ◌≤◌, ◌^◌, length};
-ghost use Rattle.pywr.specs.Store.{Store, rowCount, rowMaker};
+ghost use Rattle.pywr.specs.Store.{Store, row_count, row_maker};
 ghost use Rattle.text.specs.Text.{Put};
 ghost use Rattle.listing_fields.specs.Fields.{PutWithin};
-ghost use Rattle.listing_lines.specs.Lines.{lineRoom, toMaker};
-ghost use Rattle.listing_makers.specs.Makers.{kindWords, sharedWords, makerLine, makersText, makerText};
+ghost use Rattle.listing_lines.specs.Lines.{line_room, to_maker};
+ghost use Rattle.listing_makers.specs.Makers.{kind_words, shared_words, maker_line, makers_text, maker_text};
 
 use layout::{BY_AGGREGATE, BY_MASS, BY_NODE, BY_VIRTUAL_STORAGE};
 use listing::Output;
@@ -28,7 +28,7 @@ const VIRTUAL_STORAGE: usize = BY_VIRTUAL_STORAGE as usize;
 // The words of a kind, at most 24 bytes.
 fn put_kind(out: &mut [u8], at: usize, kind: usize) -> usize
     requires { at + 24 ≤ length out.old }
-    ensures { PutWithin 24 (kindWords kind) out.old at out.new result }
+    ensures { PutWithin 24 (kind_words kind) out.old at out.new result }
 {
     if kind == MASS {
         return put_all(out, at, b"mass balance of node");
@@ -48,7 +48,7 @@ fn put_kind(out: &mut [u8], at: usize, kind: usize) -> usize
 // How many share a row, at most 11 bytes and a number's 21.
 fn put_shared(out: &mut [u8], at: usize, shared_by: usize) -> usize
     requires { at + 32 ≤ length out.old }
-    ensures { PutWithin 32 (sharedWords shared_by) out.old at out.new result }
+    ensures { PutWithin 32 (shared_words shared_by) out.old at out.new result }
 {
     if shared_by == 1 {
         return at;
@@ -59,8 +59,8 @@ fn put_shared(out: &mut [u8], at: usize, shared_by: usize) -> usize
 
 // The line of a row.
 fn put_maker(out: &mut [u8], at: usize, row: usize, maker: RowMaker) -> usize
-    requires { at + lineRoom ≤ length out.old }
-    ensures { PutWithin lineRoom (makerLine row (toMaker maker)) out.old at out.new result }
+    requires { at + line_room ≤ length out.old }
+    ensures { PutWithin line_room (maker_line row (to_maker maker)) out.old at out.new result }
 {
     let a = put_all(out, at, b"row");
     let b = put_number(out, a, row);
@@ -72,8 +72,8 @@ fn put_maker(out: &mut [u8], at: usize, row: usize, maker: RowMaker) -> usize
 }
 
 fn write_makers(out: &mut [u8], shape: &[u16]) -> Output
-    requires { lineRoom ≤ length out.old }
-    ensures { (s : Store) → s.shape ≡ shape.now → result.bytes ≡ length (makersText s (rowCount s)) }
+    requires { line_room ≤ length out.old }
+    ensures { (s : Store) → s.shape ≡ shape.now → result.bytes ≡ length (makers_text s (row_count s)) }
 {
     let end = row_count(shape);
     let mut at: usize = 0;
@@ -96,7 +96,7 @@ fn write_makers(out: &mut [u8], shape: &[u16]) -> Output
 
 // Writes the line of each row.
 pub fn list_makers(shape: &[u16]) -> Output
-    ensures { (s : Store) → s.shape ≡ shape.now → result.bytes ≡ length (makersText s (rowCount s)) }
+    ensures { (s : Store) → s.shape ≡ shape.now → result.bytes ≡ length (makers_text s (row_count s)) }
 {
     let mut out = io::large_buffer();
     write_makers(&mut out, shape)
@@ -104,8 +104,8 @@ pub fn list_makers(shape: &[u16]) -> Output
 
 // Writes the line that stands at the front of the buffer when it returns, and answers its length.
 fn write_maker(out: &mut [u8], shape: &[u16], row: usize) -> Output
-    requires { (lineRoom ≤ length out.old) × (row < 2 ^ 32) }
-    ensures { (s : Store) → s.shape ≡ shape.now → Put (makerLine row (rowMaker s row)) out.old 0 out.new result.bytes }
+    requires { (line_room ≤ length out.old) × (row < 2 ^ 32) }
+    ensures { (s : Store) → s.shape ≡ shape.now → Put (maker_line row (row_maker s row)) out.old 0 out.new result.bytes }
 {
     let end = put_maker(out, 0, row, row_maker(shape, row));
     Output {
@@ -116,7 +116,7 @@ fn write_maker(out: &mut [u8], shape: &[u16], row: usize) -> Output
 
 // Writes the line of one row, or the N line of a row that is not there.
 pub fn list_maker(shape: &[u16], row: usize) -> Output
-    ensures { (s : Store) → s.shape ≡ shape.now → result.bytes ≡ length (makerText s row) }
+    ensures { (s : Store) → s.shape ≡ shape.now → result.bytes ≡ length (maker_text s row) }
 {
     if row < row_count(shape) {
         let mut out = io::buffer();

@@ -2,30 +2,30 @@
 -- Assumes nothing.
 use Rattle.std.specs.Prelude.{ℕ, zero, suc, ◌-◌, min, cond, List, [], ◌∷◌, ◌++◌, ltb, length}
 use Rattle.pywr.specs.Rows.{Element}
-use Rattle.pywr.specs.Store.{Store, rowCount, rowEntry}
-use Rattle.listing_lines.specs.Lines.{lineRoom, elementLine}
-use Rattle.listing_stored.specs.Stored.{rowText}
+use Rattle.pywr.specs.Store.{Store, row_count, row_entry}
+use Rattle.listing_lines.specs.Lines.{line_room, element_line}
+use Rattle.listing_stored.specs.Stored.{row_text}
 
--- where the next line goes in a buffer of so many bytes: at its front where fewer than `lineRoom` are left
+-- where the next line goes in a buffer of so many bytes: at its front where fewer than `line_room` are left
 unfoldable pub line_at : ℕ → ℕ → ℕ
-line_at room at = cond (ltb (room - at) lineRoom) 0 at
+line_at room at = cond (ltb (room - at) line_room) 0 at
 
-unfoldable pub elementText : Element → List ℕ
-elementText e = elementLine e.column e.value
+unfoldable pub element_text : Element → List ℕ
+element_text e = element_line e.column e.value
 
-unfoldable pub elementsText : List Element → List ℕ
-elementsText [] = []
-elementsText (e ∷ es) = elementText e ++ elementsText es
+unfoldable pub elements_text : List Element → List ℕ
+elements_text [] = []
+elements_text (e ∷ es) = element_text e ++ elements_text es
 
 -- the line of a row and, behind it, those of its elements
 unfoldable pub row_lines : Store → ℕ → List ℕ
-row_lines s r = rowText s r (length (rowEntry s r).elements) ++ elementsText (rowEntry s r).elements
+row_lines s r = row_text s r (length (row_entry s r).elements) ++ elements_text (row_entry s r).elements
 
 -- the first k rows
-unfoldable pub rowsText : Store → ℕ → List ℕ
-rowsText s zero = []
-rowsText s (suc k) = rowsText s k ++ row_lines s k
+unfoldable pub rows_text : Store → ℕ → List ℕ
+rows_text s zero = []
+rows_text s (suc k) = rows_text s k ++ row_lines s k
 
 -- all rows; of a misshapen store, those whose bounds, start and end its runs hold
-unfoldable pub listedRows : Store → ℕ
-listedRows s = min (min (rowCount s) (length s.rowStarts - 1)) (min (length s.rowLower) (length s.rowUpper))
+unfoldable pub listed_rows : Store → ℕ
+listed_rows s = min (min (row_count s) (length s.row_starts - 1)) (min (length s.row_lower) (length s.row_upper))

@@ -4,10 +4,10 @@
 // write failed, nothing more is written, and errno says why.
 ghost use Rattle.std.specs.Prelude.{◌≡◌, false, ◌+◌, ◌-◌, ◌*◌, ◌<◌, ◌≤◌, ◌^◌, min, length, get_or};
 ghost use Rattle.std.proofs.Math.Seq.{slice};
-ghost use Rattle.layout.specs.Layout.{varyingIn, fixedIn};
-ghost use Rattle.pywr.specs.Store.{Store, elementsOf};
-ghost use Rattle.listing_lines.specs.Lines.{lineRoom};
-ghost use Rattle.listing_rows.specs.Rows.{line_at, elementsText, row_lines, rowsText, listedRows};
+ghost use Rattle.layout.specs.Layout.{varying_in, fixed_in};
+ghost use Rattle.pywr.specs.Store.{Store, elements_of};
+ghost use Rattle.listing_lines.specs.Lines.{line_room};
+ghost use Rattle.listing_rows.specs.Rows.{line_at, elements_text, row_lines, rows_text, listed_rows};
 
 use listing_lines::LINE_ROOM;
 use listing_stored::{put_stored_row, row_count};
@@ -47,8 +47,8 @@ pub fn write_out(out: &[u8], end: usize, written: bool) -> bool
 
 // Room for a line: where fewer than LINE_ROOM bytes are left, writes out what there is. Answers where the line goes.
 pub fn spare(out: &[u8], at: usize, written: bool) -> Room
-    requires { (lineRoom ≤ length out.now) × (at ≤ length out.now) }
-    ensures { (result.at ≡ line_at (length out.now) at) × (result.at + lineRoom ≤ length out.now) × (written ≡ false → result.written ≡ false) }
+    requires { (line_room ≤ length out.now) × (at ≤ length out.now) }
+    ensures { (result.at ≡ line_at (length out.now) at) × (result.at + line_room ≤ length out.now) × (written ≡ false → result.written ≡ false) }
 {
     if out.len() - at < LINE_ROOM {
         return Room {
@@ -68,9 +68,9 @@ fn list_elements(
     first: usize,
     end: usize,
 ) -> Listed
-    requires { (lineRoom ≤ length out.old) × (from ≤ length out.old) × (end ≤ length columns.now) × (end ≤ length elements.now) × (first ≤ end) × (end < 2 ^ 32) }
-    ensures { (result.bytes ≡ length (elementsText (elementsOf (slice first end columns.now) (slice first end elements.now))))
-        × (result.at ≤ length out.old) × (result.bytes ≤ lineRoom * (end - first)) × (so_far ≡ false → result.written ≡ false) }
+    requires { (line_room ≤ length out.old) × (from ≤ length out.old) × (end ≤ length columns.now) × (end ≤ length elements.now) × (first ≤ end) × (end < 2 ^ 32) }
+    ensures { (result.bytes ≡ length (elements_text (elements_of (slice first end columns.now) (slice first end elements.now))))
+        × (result.at ≤ length out.old) × (result.bytes ≤ line_room * (end - first)) × (so_far ≡ false → result.written ≡ false) }
 {
     let mut at = from;
     let mut written = so_far;
@@ -108,9 +108,9 @@ fn list_row(
     shape: &[u16],
     row: usize,
 ) -> Listed
-    requires { (at + lineRoom ≤ length out.old) × (row < length row_lower.now) × (row < length row_upper.now) × (row + 1 < length row_starts.now) × (row < 2 ^ 32) }
-    ensures { ((s : Store) → s.rowLower ≡ row_lower.now → s.rowUpper ≡ row_upper.now → s.elements ≡ elements.now
-        → s.columns ≡ columns.now → s.rowStarts ≡ row_starts.now → s.shape ≡ shape.now → result.bytes ≡ length (row_lines s row))
+    requires { (at + line_room ≤ length out.old) × (row < length row_lower.now) × (row < length row_upper.now) × (row + 1 < length row_starts.now) × (row < 2 ^ 32) }
+    ensures { ((s : Store) → s.row_lower ≡ row_lower.now → s.row_upper ≡ row_upper.now → s.elements ≡ elements.now
+        → s.columns ≡ columns.now → s.row_starts ≡ row_starts.now → s.shape ≡ shape.now → result.bytes ≡ length (row_lines s row))
         × (result.at ≤ length out.old) × (result.bytes ≤ 2 ^ 40) × (so_far ≡ false → result.written ≡ false) }
 {
     let known = least(columns.len(), elements.len());
@@ -127,7 +127,7 @@ fn list_row(
 
 // How many rows are listed of a store whose runs have these lengths.
 fn listed_rows(shape: &[u16], starts: usize, lower: usize, upper: usize) -> usize
-    ensures { (result ≡ min (min (varyingIn shape.now + fixedIn shape.now) (starts - 1)) (min lower upper))
+    ensures { (result ≡ min (min (varying_in shape.now + fixed_in shape.now) (starts - 1)) (min lower upper))
         × (result ≤ lower) × (result ≤ upper) × (result ≤ starts - 1) × (result < 131072) }
 {
     if starts == 0 {
@@ -148,9 +148,9 @@ pub fn list_rows(
     row_starts: &[u32],
     shape: &[u16],
 ) -> Listed
-    requires { (lineRoom ≤ length out.old) × (from ≤ length out.old) }
-    ensures { ((s : Store) → s.rowLower ≡ row_lower.now → s.rowUpper ≡ row_upper.now → s.elements ≡ elements.now
-        → s.columns ≡ columns.now → s.rowStarts ≡ row_starts.now → s.shape ≡ shape.now → result.bytes ≡ length (rowsText s (listedRows s)))
+    requires { (line_room ≤ length out.old) × (from ≤ length out.old) }
+    ensures { ((s : Store) → s.row_lower ≡ row_lower.now → s.row_upper ≡ row_upper.now → s.elements ≡ elements.now
+        → s.columns ≡ columns.now → s.row_starts ≡ row_starts.now → s.shape ≡ shape.now → result.bytes ≡ length (rows_text s (listed_rows s)))
         × (result.at ≤ length out.old) × (result.bytes < 2 ^ 57) × (so_far ≡ false → result.written ≡ false) }
 {
     let end = listed_rows(shape, row_starts.len(), row_lower.len(), row_upper.len());

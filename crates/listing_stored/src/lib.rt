@@ -1,10 +1,10 @@
 // The lines of what a store holds: its counts, a column, a row; and who made a row.
 ghost use Rattle.std.specs.Prelude.{◌≡◌, ◌+◌, ◌<◌, ◌≤◌, ◌^◌, length, get_or};
-ghost use Rattle.layout.specs.Layout.{varyingIn, fixedIn};
-ghost use Rattle.pywr.specs.Store.{Store, columnCount, rowCount, varyingCount, elementsKept, rowMaker};
+ghost use Rattle.layout.specs.Layout.{varying_in, fixed_in};
+ghost use Rattle.pywr.specs.Store.{Store, column_count, row_count, varying_count, elements_kept, row_maker};
 ghost use Rattle.text.specs.Text.{Put};
-ghost use Rattle.listing_lines.specs.Lines.{lineRoom, toMaker, programmeLine};
-ghost use Rattle.listing_stored.specs.Stored.{columnText, rowText};
+ghost use Rattle.listing_lines.specs.Lines.{line_room, to_maker, programme_line};
+ghost use Rattle.listing_stored.specs.Stored.{column_text, row_text};
 
 use layout::{
     EDGE_COLUMN_COUNT_AT, ELEMENT_COUNT_AT, FIXED_COUNT_AT, MAKER_INDEX, MAKER_SHARED_BY,
@@ -25,7 +25,7 @@ pub fn word(shape: &[u16], at: usize) -> usize
 
 // How many rows the store says it has.
 pub fn row_count(shape: &[u16]) -> usize
-    ensures { (result ≡ varyingIn shape.now + fixedIn shape.now) × (result < 131072) }
+    ensures { (result ≡ varying_in shape.now + fixed_in shape.now) × (result < 131072) }
 {
     word(shape, VARYING_COUNT_AT) + word(shape, FIXED_COUNT_AT)
 }
@@ -33,7 +33,7 @@ pub fn row_count(shape: &[u16]) -> usize
 // Who made a row.
 pub fn row_maker(shape: &[u16], row: usize) -> RowMaker
     requires { row < 2 ^ 32 }
-    ensures { (s : Store) → s.shape ≡ shape.now → toMaker result ≡ rowMaker s row }
+    ensures { (s : Store) → s.shape ≡ shape.now → to_maker result ≡ row_maker s row }
 {
     let at = MAKERS_AT + MAKER_WIDTH * row;
     RowMaker {
@@ -45,9 +45,9 @@ pub fn row_maker(shape: &[u16], row: usize) -> RowMaker
 
 // The P line of a store.
 pub fn put_counts(out: &mut [u8], at: usize, shape: &[u16]) -> usize
-    requires { at + lineRoom ≤ length out.old }
+    requires { at + line_room ≤ length out.old }
     ensures { ((s : Store) → s.shape ≡ shape.now
-        → Put (programmeLine (columnCount s) (rowCount s) (varyingCount s) (elementsKept s)) out.old at out.new result) × (result ≤ at + lineRoom) }
+        → Put (programme_line (column_count s) (row_count s) (varying_count s) (elements_kept s)) out.old at out.new result) × (result ≤ at + line_room) }
 {
     let columns = word(shape, EDGE_COLUMN_COUNT_AT) + word(shape, SET_COUNT_AT);
     let rows = row_count(shape);
@@ -66,10 +66,10 @@ pub fn put_stored_column(
     shape: &[u16],
     c: usize,
 ) -> usize
-    requires { (at + lineRoom ≤ length out.old) × (c < length col_lower.now) × (c < length col_upper.now) × (c < length col_obj_coef.now) }
-    ensures { ((s : Store) → s.colLower ≡ col_lower.now → s.colUpper ≡ col_upper.now
-        → s.colObjCoef ≡ col_obj_coef.now → s.shape ≡ shape.now
-        → Put (columnText s c) out.old at out.new result) × (result ≤ at + lineRoom) }
+    requires { (at + line_room ≤ length out.old) × (c < length col_lower.now) × (c < length col_upper.now) × (c < length col_obj_coef.now) }
+    ensures { ((s : Store) → s.col_lower ≡ col_lower.now → s.col_upper ≡ col_upper.now
+        → s.col_obj_coef ≡ col_obj_coef.now → s.shape ≡ shape.now
+        → Put (column_text s c) out.old at out.new result) × (result ≤ at + line_room) }
 {
     let integer = word(shape, EDGE_COLUMN_COUNT_AT) <= c;
     listing_lines::put_column(
@@ -93,9 +93,9 @@ pub fn put_stored_row(
     row: usize,
     elements: usize,
 ) -> usize
-    requires { (at + lineRoom ≤ length out.old) × (row < length row_lower.now) × (row < length row_upper.now) × (row < 2 ^ 32) }
-    ensures { ((s : Store) → s.rowLower ≡ row_lower.now → s.rowUpper ≡ row_upper.now → s.shape ≡ shape.now
-        → Put (rowText s row elements) out.old at out.new result) × (result ≤ at + lineRoom) }
+    requires { (at + line_room ≤ length out.old) × (row < length row_lower.now) × (row < length row_upper.now) × (row < 2 ^ 32) }
+    ensures { ((s : Store) → s.row_lower ≡ row_lower.now → s.row_upper ≡ row_upper.now → s.shape ≡ shape.now
+        → Put (row_text s row elements) out.old at out.new result) × (result ≤ at + line_room) }
 {
     let varying = row < word(shape, VARYING_COUNT_AT);
     let maker = row_maker(shape, row);

@@ -8,272 +8,272 @@ use lib.ListN.{length}
 use Rattle.pywr.specs.Result.{Result, value, refused, ◌>>=◌}
 use Rattle.pywr.specs.Bytes.{byte}
 use Rattle.pywr.specs.Network.{Network}
-use Rattle.pywr.specs.NetworkFile.{Reading, readRecord, readRecords, withNode, withEdge, withAggregate, withVirtualStorage}
-use Rattle.fields.specs.Records.{recordsAt, recordsEnd, AllPass}
-use Rattle.fields.proofs.RecordLaws.{records-more, end-fixed, end_more, end_none, end_after, none_pass, one-pass}
-use Rattle.network_node.specs.Node.{nodeAt, checkNode}
-use Rattle.network_edge.specs.Edge.{edge_at, checkEdge}
-use Rattle.network_aggregate.specs.AggregatedNode.{setEnd, aggregateAt, aggregateEnd, checkAggregate}
-use Rattle.network_virtual_storage.specs.VirtualStorage.{virtualStorageAt, virtualStorageEnd, checkVirtualStorage}
-use Rattle.network_laws.specs.NetworkAt.{aggregateStart, networkAt}
-use Rattle.network_laws.proofs.Passed.{node_end, edge-end, aggregate-end, virtual-storage-end}
-use Rattle.network_record.specs.Record.{checkRecord, RecordPassed}
+use Rattle.pywr.specs.NetworkFile.{Reading, read_record, read_records, with_node, with_edge, with_aggregate, with_virtual_storage}
+use Rattle.fields.specs.Records.{records_at, records_end, AllPass}
+use Rattle.fields.proofs.RecordLaws.{records_more, end_fixed, end_more, end_none, end_after, none_pass, one_pass}
+use Rattle.network_node.specs.Node.{node_at, check_node}
+use Rattle.network_edge.specs.Edge.{edge_at, check_edge}
+use Rattle.network_aggregate.specs.AggregatedNode.{set_end, aggregate_at, aggregate_end, check_aggregate}
+use Rattle.network_virtual_storage.specs.VirtualStorage.{virtual_storage_at, virtual_storage_end, check_virtual_storage}
+use Rattle.network_laws.specs.NetworkAt.{aggregate_start, network_at}
+use Rattle.network_laws.proofs.Passed.{node_end, edge_end, aggregate_end_lem, virtual_storage_end_lem}
+use Rattle.network_record.specs.Record.{check_record, RecordPassed}
 use Rattle.network_record.specs.declared.Record.{Record}
-use Rattle.network_record.proofs.RecordLaw.{after, record-law}
+use Rattle.network_record.proofs.RecordLaw.{after, record_law}
 use Rattle.network.specs.Loaded.{start, Placed}
 use Rattle.network.specs.declared.Loaded.{Loaded}
 
 abbrev reading : List ℕ → ℕ → ℕ → ℕ → ℕ → ℕ → ℕ → Reading
-reading file at stage n e a v = record { network = networkAt file n e a v; at = at; stage = stage }
+reading file at stage n e a v = record { network = network_at file n e a v; at = at; stage = stage }
 
 -- at the loop's head; `left` is what is left of the definition's count
 pub record ScanInvariant (file : List ℕ) (at stage n e a v place : ℕ) : Type 0 where
   pub left : ℕ
   pub enough : length file ≤ left + at
-  pub from : readRecords (length file) file start ≡ readRecords left file (reading file at stage n e a v)
-  pub virtualStorages : place ≡ aggregateStart file n e a
-  pub stands : at ≡ recordsEnd (virtualStorageEnd file) v place
+  pub from : read_records (length file) file start ≡ read_records left file (reading file at stage n e a v)
+  pub virtual_storages : place ≡ aggregate_start file n e a
+  pub stands : at ≡ records_end (virtual_storage_end file) v place
   pub no_edges : stage < 1 → e ≡ 0
-  pub no-aggregates : stage < 2 → a ≡ 0
-  pub no-virtual-storages : stage < 3 → v ≡ 0
-  pub few-nodes : n ≤ 256
-  pub few-edges : e ≤ 512
-  pub few-aggregates : a ≤ 64
-  pub few-virtual-storages : v ≤ 32
+  pub no_aggregates : stage < 2 → a ≡ 0
+  pub no_virtual_storages : stage < 3 → v ≡ 0
+  pub few_nodes : n ≤ 256
+  pub few_edges : e ≤ 512
+  pub few_aggregates_lem : a ≤ 64
+  pub few_virtual_storages_lem : v ≤ 32
   pub inside : at ≤ length file
-  pub nodes-pass : AllPass (λ i. checkNode file) (λ at. at + 20) n 0
-  pub edges-pass : AllPass (checkEdge file n) (λ at. at + 6) e (20 * n)
-  pub aggregates-pass : AllPass (λ i. checkAggregate file n) (aggregateEnd file) a (20 * n + 6 * e)
-  pub virtual-storages-pass : AllPass (λ i. checkVirtualStorage file n) (virtualStorageEnd file) v place
+  pub nodes_pass : AllPass (λ i. check_node file) (λ at. at + 20) n 0
+  pub edges_pass : AllPass (check_edge file n) (λ at. at + 6) e (20 * n)
+  pub aggregates_pass : AllPass (λ i. check_aggregate file n) (aggregate_end file) a (20 * n + 6 * e)
+  pub virtual_storages_pass : AllPass (λ i. check_virtual_storage file n) (virtual_storage_end file) v place
 
-network-start : (file : List ℕ) → networkAt file 0 0 0 0 ≡ start.network
-unfolding networkAt recordsAt
-network-start file = refl
+network_start : (file : List ℕ) → network_at file 0 0 0 0 ≡ start.network
+unfolding network_at records_at
+network_start file = refl
 
 pub first : (file : List ℕ) → ScanInvariant file 0 0 0 0 0 0 0
-unfolding recordsEnd
+unfolding records_end
 first file = record {
   left = length file;
   enough = omega arith;
-  from = ap (λ (net : Network). readRecords (length file) file (record { network = net; at = 0; stage = 0 })) (sym (network-start file));
-  virtualStorages = refl;
+  from = ap (λ (net : Network). read_records (length file) file (record { network = net; at = 0; stage = 0 })) (sym (network_start file));
+  virtual_storages = refl;
   stands = refl;
   no_edges = λ _. refl;
-  no-aggregates = λ _. refl;
-  no-virtual-storages = λ _. refl;
-  few-nodes = omega arith;
-  few-edges = omega arith;
-  few-aggregates = omega arith;
-  few-virtual-storages = omega arith;
+  no_aggregates = λ _. refl;
+  no_virtual_storages = λ _. refl;
+  few_nodes = omega arith;
+  few_edges = omega arith;
+  few_aggregates_lem = omega arith;
+  few_virtual_storages_lem = omega arith;
   inside = omega arith;
-  nodes-pass = none_pass (λ i. checkNode file) (λ at. at + 20) 0 0 refl;
-  edges-pass = none_pass (checkEdge file 0) (λ at. at + 6) 0 0 refl;
-  aggregates-pass = none_pass (λ i. checkAggregate file 0) (aggregateEnd file) 0 0 refl;
-  virtual-storages-pass = none_pass (λ i. checkVirtualStorage file 0) (virtualStorageEnd file) 0 0 refl;
+  nodes_pass = none_pass (λ i. check_node file) (λ at. at + 20) 0 0 refl;
+  edges_pass = none_pass (check_edge file 0) (λ at. at + 6) 0 0 refl;
+  aggregates_pass = none_pass (λ i. check_aggregate file 0) (aggregate_end file) 0 0 refl;
+  virtual_storages_pass = none_pass (λ i. check_virtual_storage file 0) (virtual_storage_end file) 0 0 refl;
 }
 
 -- how the definition goes on
 module _ (file : List ℕ) (r : Reading) where
-  records-next : (left : ℕ) → r.at < length file → readRecords (suc left) file r ≡ (readRecord file r >>= λ next. readRecords left file next)
-  unfolding readRecords
-  records-next left lt = rw (lt-ltb r.at (length file) lt, readRecords)
+  records_next : (left : ℕ) → r.at < length file → read_records (suc left) file r ≡ (read_record file r >>= λ next. read_records left file next)
+  unfolding read_records
+  records_next left lt = rw (lt-ltb r.at (length file) lt, read_records)
 
-  records-end : (left : ℕ) → length file ≤ r.at → readRecords left file r ≡ value r.network
-  unfolding readRecords
-  records-end zero le = refl
-  records-end (suc left) le = rw (le-ltb r.at (length file) le, readRecords)
+  records_end_lem : (left : ℕ) → length file ≤ r.at → read_records left file r ≡ value r.network
+  unfolding read_records
+  records_end_lem zero le = refl
+  records_end_lem (suc left) le = rw (le-ltb r.at (length file) le, read_records)
 
 -- one node, edge, aggregate, virtual storage more
 module _ (file : List ℕ) (n e a v at x : ℕ) where
   abbrev here : Network
-  here = networkAt file n e a v
+  here = network_at file n e a v
 
-  with-node : e ≡ 0 → a ≡ 0 → v ≡ 0 → at ≡ 20 * n → (withNode here (record { item = nodeAt file at; next = x })).item ≡ networkAt file (n + 1) e a v
-  unfolding withNode networkAt recordsAt
-  with-node qe qa qv q =
-      let p : recordsEnd (λ at. at + 20) n 0 ≡ at = end-fixed 20 n 0 ∙ omega arith in
-      rw (qe, qa, qv, records-more (nodeAt file) (λ at. at + 20) n 0, p)
+  with_node_lem : e ≡ 0 → a ≡ 0 → v ≡ 0 → at ≡ 20 * n → (with_node here (record { item = node_at file at; next = x })).item ≡ network_at file (n + 1) e a v
+  unfolding with_node network_at records_at
+  with_node_lem qe qa qv q =
+      let p : records_end (λ at. at + 20) n 0 ≡ at = end_fixed 20 n 0 ∙ omega arith in
+      rw (qe, qa, qv, records_more (node_at file) (λ at. at + 20) n 0, p)
 
-  with-edge : a ≡ 0 → v ≡ 0 → at ≡ 20 * n + 6 * e → (withEdge here (record { item = edge_at file at; next = x })).item ≡ networkAt file n (e + 1) a v
-  unfolding withEdge networkAt recordsAt
-  with-edge qa qv q =
-      let p : recordsEnd (λ at. at + 6) e (20 * n) ≡ at = end-fixed 6 e (20 * n) ∙ omega arith in
-      rw (qa, qv, records-more (edge_at file) (λ at. at + 6) e (20 * n), p)
+  with_edge_lem : a ≡ 0 → v ≡ 0 → at ≡ 20 * n + 6 * e → (with_edge here (record { item = edge_at file at; next = x })).item ≡ network_at file n (e + 1) a v
+  unfolding with_edge network_at records_at
+  with_edge_lem qa qv q =
+      let p : records_end (λ at. at + 6) e (20 * n) ≡ at = end_fixed 6 e (20 * n) ∙ omega arith in
+      rw (qa, qv, records_more (edge_at file) (λ at. at + 6) e (20 * n), p)
 
-  with-aggregate : v ≡ 0 → at ≡ recordsEnd (aggregateEnd file) a (20 * n + 6 * e)
-      → (withAggregate here (record { item = aggregateAt file at; next = x })).item ≡ networkAt file n e (a + 1) v
-  unfolding withAggregate networkAt recordsAt
-  with-aggregate qv q = rw (qv, records-more (aggregateAt file) (aggregateEnd file) a (20 * n + 6 * e), q)
+  with_aggregate_lem : v ≡ 0 → at ≡ records_end (aggregate_end file) a (20 * n + 6 * e)
+      → (with_aggregate here (record { item = aggregate_at file at; next = x })).item ≡ network_at file n e (a + 1) v
+  unfolding with_aggregate network_at records_at
+  with_aggregate_lem qv q = rw (qv, records_more (aggregate_at file) (aggregate_end file) a (20 * n + 6 * e), q)
 
-  with-virtual-storage : at ≡ recordsEnd (virtualStorageEnd file) v (aggregateStart file n e a)
-      → (withVirtualStorage here (record { item = virtualStorageAt file at; next = x })).item ≡ networkAt file n e a (v + 1)
-  unfolding withVirtualStorage networkAt
-  with-virtual-storage q = rw (records-more (virtualStorageAt file) (virtualStorageEnd file) v (aggregateStart file n e a), q)
+  with_virtual_storage_lem : at ≡ records_end (virtual_storage_end file) v (aggregate_start file n e a)
+      → (with_virtual_storage here (record { item = virtual_storage_at file at; next = x })).item ≡ network_at file n e a (v + 1)
+  unfolding with_virtual_storage network_at
+  with_virtual_storage_lem q = rw (records_more (virtual_storage_at file) (virtual_storage_end file) v (aggregate_start file n e a), q)
 
-aggregate-after : (file : List ℕ) (x : ℕ) → x ≤ aggregateEnd file x
-aggregate-after file x = let h = end_after (setEnd file) (λ y. omega arith) (byte file (x + 3)) (x + 12) in omega (arith, h)
+aggregate_after : (file : List ℕ) (x : ℕ) → x ≤ aggregate_end file x
+aggregate_after file x = let h = end_after (set_end file) (λ y. omega arith) (byte file (x + 3)) (x + 12) in omega (arith, h)
 
 module _ (file : List ℕ) (at stage n e a v place : ℕ) (h : ScanInvariant file at stage n e a v place) where
   -- before the aggregates, the records so far have a fixed length
-  pub fixed-at : stage < 2 → at ≡ 20 * n + 6 * e
-  fixed-at lt =
-      h.stands ∙ end_none (virtualStorageEnd file) v place (h.no-virtual-storages (omega arith))
-      ∙ h.virtualStorages ∙ end_none (aggregateEnd file) a (20 * n + 6 * e) (h.no-aggregates lt)
+  pub fixed_at : stage < 2 → at ≡ 20 * n + 6 * e
+  fixed_at lt =
+      h.stands ∙ end_none (virtual_storage_end file) v place (h.no_virtual_storages (omega arith))
+      ∙ h.virtual_storages ∙ end_none (aggregate_end file) a (20 * n + 6 * e) (h.no_aggregates lt)
 
   more_left : at < length file → h.left ≡ suc (h.left - 1)
   more_left lt = omega (arith, h.enough)
 
-  read-on : (net : Network) (x stage' : ℕ) → at < length file
-      → after (networkAt file n e a v) file at (checkRecord file at n e a v stage) ≡ value (record { network = net; at = x; stage = stage' })
-      → readRecords (length file) file start ≡ readRecords (h.left - 1) file (record { network = net; at = x; stage = stage' })
+  read_on_lem : (net : Network) (x stage' : ℕ) → at < length file
+      → after (network_at file n e a v) file at (check_record file at n e a v stage) ≡ value (record { network = net; at = x; stage = stage' })
+      → read_records (length file) file start ≡ read_records (h.left - 1) file (record { network = net; at = x; stage = stage' })
   unfolding ◌>>=◌
-  read-on net x stage' lt q =
-      h.from ∙ ap (λ (k : ℕ). readRecords k file (reading file at stage n e a v)) (more_left lt)
-      ∙ records-next file (reading file at stage n e a v) (h.left - 1) lt
-      ∙ ap (λ (r : Result Reading). r >>= λ next. readRecords (h.left - 1) file next) (record-law file at stage n e a v ∙ q)
+  read_on_lem net x stage' lt q =
+      h.from ∙ ap (λ (k : ℕ). read_records k file (reading file at stage n e a v)) (more_left lt)
+      ∙ records_next file (reading file at stage n e a v) (h.left - 1) lt
+      ∙ ap (λ (r : Result Reading). r >>= λ next. read_records (h.left - 1) file next) (record_law file at stage n e a v ∙ q)
 
-  pub node-more : (x : ℕ) → at < length file → checkRecord file at n e a v stage ≡ Record.Node x → RecordPassed file at n e a v stage (Record.Node x) → ScanInvariant file x 0 (n + 1) e a v x
-  node-more x lt q t =
+  pub node_more : (x : ℕ) → at < length file → check_record file at n e a v stage ≡ Record.Node x → RecordPassed file at n e a v stage (Record.Node x) → ScanInvariant file x 0 (n + 1) e a v x
+  node_more x lt q t =
       let qe = h.no_edges (omega (arith, t.0)) in
-      let qa = h.no-aggregates (omega (arith, t.0)) in
-      let qv = h.no-virtual-storages (omega (arith, t.0)) in
-      let f = fixed-at (omega (arith, t.0)) in
+      let qa = h.no_aggregates (omega (arith, t.0)) in
+      let qv = h.no_virtual_storages (omega (arith, t.0)) in
+      let f = fixed_at (omega (arith, t.0)) in
       let d = node_end file at x t.2 in
       let w : at ≡ 20 * n = omega (arith, f, qe) in
       let s : x ≡ 20 * (n + 1) + 6 * e = omega (arith, f, d) in
-      let p : at ≡ recordsEnd (λ at. at + 20) n 0 = omega (arith, w, end-fixed 20 n 0) in
+      let p : at ≡ records_end (λ at. at + 20) n 0 = omega (arith, w, end_fixed 20 n 0) in
       record {
         left = h.left - 1;
         enough = omega (arith, h.enough, d);
-        from = read-on _ x 0 lt (ap (after (networkAt file n e a v) file at) q)
-            ∙ ap (λ (net : Network). readRecords (h.left - 1) file (record { network = net; at = x; stage = 0 })) (with-node file n e a v at x qe qa qv w);
-        virtualStorages = s ∙ sym (end_none (aggregateEnd file) a (20 * (n + 1) + 6 * e) qa);
-        stands = sym (end_none (virtualStorageEnd file) v x qv);
+        from = read_on_lem _ x 0 lt (ap (after (network_at file n e a v) file at) q)
+            ∙ ap (λ (net : Network). read_records (h.left - 1) file (record { network = net; at = x; stage = 0 })) (with_node_lem file n e a v at x qe qa qv w);
+        virtual_storages = s ∙ sym (end_none (aggregate_end file) a (20 * (n + 1) + 6 * e) qa);
+        stands = sym (end_none (virtual_storage_end file) v x qv);
         no_edges = λ _. qe;
-        no-aggregates = λ _. qa;
-        no-virtual-storages = λ _. qv;
-        few-nodes = omega (arith, t.1);
-        few-edges = h.few-edges;
-        few-aggregates = h.few-aggregates;
-        few-virtual-storages = h.few-virtual-storages;
+        no_aggregates = λ _. qa;
+        no_virtual_storages = λ _. qv;
+        few_nodes = omega (arith, t.1);
+        few_edges = h.few_edges;
+        few_aggregates_lem = h.few_aggregates_lem;
+        few_virtual_storages_lem = h.few_virtual_storages_lem;
         inside = t.3;
-        nodes-pass = one-pass (λ i. checkNode file) (λ at. at + 20) n 0 at x h.nodes-pass p d t.2;
-        edges-pass = none_pass (checkEdge file (n + 1)) (λ at. at + 6) e _ qe;
-        aggregates-pass = none_pass (λ i. checkAggregate file (n + 1)) (aggregateEnd file) a _ qa;
-        virtual-storages-pass = none_pass (λ i. checkVirtualStorage file (n + 1)) (virtualStorageEnd file) v _ qv;
+        nodes_pass = one_pass (λ i. check_node file) (λ at. at + 20) n 0 at x h.nodes_pass p d t.2;
+        edges_pass = none_pass (check_edge file (n + 1)) (λ at. at + 6) e _ qe;
+        aggregates_pass = none_pass (λ i. check_aggregate file (n + 1)) (aggregate_end file) a _ qa;
+        virtual_storages_pass = none_pass (λ i. check_virtual_storage file (n + 1)) (virtual_storage_end file) v _ qv;
       }
 
-  pub edge_more : (x : ℕ) → at < length file → checkRecord file at n e a v stage ≡ Record.Edge x → RecordPassed file at n e a v stage (Record.Edge x) → ScanInvariant file x 1 n (e + 1) a v x
+  pub edge_more : (x : ℕ) → at < length file → check_record file at n e a v stage ≡ Record.Edge x → RecordPassed file at n e a v stage (Record.Edge x) → ScanInvariant file x 1 n (e + 1) a v x
   edge_more x lt q t =
-      let qa = h.no-aggregates (omega (arith, t.0)) in
-      let qv = h.no-virtual-storages (omega (arith, t.0)) in
-      let f = fixed-at (omega (arith, t.0)) in
-      let d = edge-end file n e at x t.2 in
+      let qa = h.no_aggregates (omega (arith, t.0)) in
+      let qv = h.no_virtual_storages (omega (arith, t.0)) in
+      let f = fixed_at (omega (arith, t.0)) in
+      let d = edge_end file n e at x t.2 in
       let s : x ≡ 20 * n + 6 * (e + 1) = omega (arith, f, d) in
-      let p : at ≡ recordsEnd (λ at. at + 6) e (20 * n) = omega (arith, f, end-fixed 6 e (20 * n)) in
+      let p : at ≡ records_end (λ at. at + 6) e (20 * n) = omega (arith, f, end_fixed 6 e (20 * n)) in
       record {
         left = h.left - 1;
         enough = omega (arith, h.enough, d);
-        from = read-on _ x 1 lt (ap (after (networkAt file n e a v) file at) q)
-            ∙ ap (λ (net : Network). readRecords (h.left - 1) file (record { network = net; at = x; stage = 1 })) (with-edge file n e a v at x qa qv f);
-        virtualStorages = s ∙ sym (end_none (aggregateEnd file) a (20 * n + 6 * (e + 1)) qa);
-        stands = sym (end_none (virtualStorageEnd file) v x qv);
+        from = read_on_lem _ x 1 lt (ap (after (network_at file n e a v) file at) q)
+            ∙ ap (λ (net : Network). read_records (h.left - 1) file (record { network = net; at = x; stage = 1 })) (with_edge_lem file n e a v at x qa qv f);
+        virtual_storages = s ∙ sym (end_none (aggregate_end file) a (20 * n + 6 * (e + 1)) qa);
+        stands = sym (end_none (virtual_storage_end file) v x qv);
         no_edges = λ l. absurd (omega (arith, l));
-        no-aggregates = λ _. qa;
-        no-virtual-storages = λ _. qv;
-        few-nodes = h.few-nodes;
-        few-edges = omega (arith, t.1);
-        few-aggregates = h.few-aggregates;
-        few-virtual-storages = h.few-virtual-storages;
+        no_aggregates = λ _. qa;
+        no_virtual_storages = λ _. qv;
+        few_nodes = h.few_nodes;
+        few_edges = omega (arith, t.1);
+        few_aggregates_lem = h.few_aggregates_lem;
+        few_virtual_storages_lem = h.few_virtual_storages_lem;
         inside = t.3;
-        nodes-pass = h.nodes-pass;
-        edges-pass = one-pass (checkEdge file n) (λ at. at + 6) e (20 * n) at x h.edges-pass p d t.2;
-        aggregates-pass = none_pass (λ i. checkAggregate file n) (aggregateEnd file) a _ qa;
-        virtual-storages-pass = none_pass (λ i. checkVirtualStorage file n) (virtualStorageEnd file) v _ qv;
+        nodes_pass = h.nodes_pass;
+        edges_pass = one_pass (check_edge file n) (λ at. at + 6) e (20 * n) at x h.edges_pass p d t.2;
+        aggregates_pass = none_pass (λ i. check_aggregate file n) (aggregate_end file) a _ qa;
+        virtual_storages_pass = none_pass (λ i. check_virtual_storage file n) (virtual_storage_end file) v _ qv;
       }
 
-  pub aggregate-more : (x : ℕ) → at < length file → checkRecord file at n e a v stage ≡ Record.Aggregate x
+  pub aggregate_more : (x : ℕ) → at < length file → check_record file at n e a v stage ≡ Record.Aggregate x
       → RecordPassed file at n e a v stage (Record.Aggregate x) → ScanInvariant file x 2 n e (a + 1) v x
-  aggregate-more x lt q t =
-      let qv = h.no-virtual-storages (omega (arith, t.0)) in
-      let w : at ≡ recordsEnd (aggregateEnd file) a (20 * n + 6 * e) = h.stands ∙ end_none (virtualStorageEnd file) v place qv ∙ h.virtualStorages in
-      let d = aggregate-end file n at x t.2 in
-      let g : at + 12 ≤ aggregateEnd file at = end_after (setEnd file) (λ y. omega arith) _ (at + 12) in
+  aggregate_more x lt q t =
+      let qv = h.no_virtual_storages (omega (arith, t.0)) in
+      let w : at ≡ records_end (aggregate_end file) a (20 * n + 6 * e) = h.stands ∙ end_none (virtual_storage_end file) v place qv ∙ h.virtual_storages in
+      let d = aggregate_end_lem file n at x t.2 in
+      let g : at + 12 ≤ aggregate_end file at = end_after (set_end file) (λ y. omega arith) _ (at + 12) in
       record {
         left = h.left - 1;
         enough = omega (arith, h.enough, d, g);
-        from = read-on _ x 2 lt (ap (after (networkAt file n e a v) file at) q)
-            ∙ ap (λ (net : Network). readRecords (h.left - 1) file (record { network = net; at = x; stage = 2 })) (with-aggregate file n e a v at x qv w);
-        virtualStorages = d ∙ ap (aggregateEnd file) w ∙ sym (end_more (aggregateEnd file) a (20 * n + 6 * e));
-        stands = sym (end_none (virtualStorageEnd file) v x qv);
+        from = read_on_lem _ x 2 lt (ap (after (network_at file n e a v) file at) q)
+            ∙ ap (λ (net : Network). read_records (h.left - 1) file (record { network = net; at = x; stage = 2 })) (with_aggregate_lem file n e a v at x qv w);
+        virtual_storages = d ∙ ap (aggregate_end file) w ∙ sym (end_more (aggregate_end file) a (20 * n + 6 * e));
+        stands = sym (end_none (virtual_storage_end file) v x qv);
         no_edges = λ l. absurd (omega (arith, l));
-        no-aggregates = λ l. absurd (omega (arith, l));
-        no-virtual-storages = λ _. qv;
-        few-nodes = h.few-nodes;
-        few-edges = h.few-edges;
-        few-aggregates = omega (arith, t.1);
-        few-virtual-storages = h.few-virtual-storages;
+        no_aggregates = λ l. absurd (omega (arith, l));
+        no_virtual_storages = λ _. qv;
+        few_nodes = h.few_nodes;
+        few_edges = h.few_edges;
+        few_aggregates_lem = omega (arith, t.1);
+        few_virtual_storages_lem = h.few_virtual_storages_lem;
         inside = t.3;
-        nodes-pass = h.nodes-pass;
-        edges-pass = h.edges-pass;
-        aggregates-pass = one-pass (λ i. checkAggregate file n) (aggregateEnd file) a (20 * n + 6 * e) at x h.aggregates-pass w d t.2;
-        virtual-storages-pass = none_pass (λ i. checkVirtualStorage file n) (virtualStorageEnd file) v _ qv;
+        nodes_pass = h.nodes_pass;
+        edges_pass = h.edges_pass;
+        aggregates_pass = one_pass (λ i. check_aggregate file n) (aggregate_end file) a (20 * n + 6 * e) at x h.aggregates_pass w d t.2;
+        virtual_storages_pass = none_pass (λ i. check_virtual_storage file n) (virtual_storage_end file) v _ qv;
       }
 
-  pub virtual-storage-more : (x : ℕ) → at < length file → checkRecord file at n e a v stage ≡ Record.VirtualStorage x
+  pub virtual_storage_more : (x : ℕ) → at < length file → check_record file at n e a v stage ≡ Record.VirtualStorage x
       → RecordPassed file at n e a v stage (Record.VirtualStorage x) → ScanInvariant file x 3 n e a (v + 1) place
-  virtual-storage-more x lt q t =
-      let w : at ≡ recordsEnd (virtualStorageEnd file) v (aggregateStart file n e a) = h.stands ∙ ap (recordsEnd (virtualStorageEnd file) v) h.virtualStorages in
-      let d = virtual-storage-end file n at x t.2 in
+  virtual_storage_more x lt q t =
+      let w : at ≡ records_end (virtual_storage_end file) v (aggregate_start file n e a) = h.stands ∙ ap (records_end (virtual_storage_end file) v) h.virtual_storages in
+      let d = virtual_storage_end_lem file n at x t.2 in
       record {
         left = h.left - 1;
         enough = omega (arith, h.enough, d);
-        from = read-on _ x 3 lt (ap (after (networkAt file n e a v) file at) q)
-            ∙ ap (λ (net : Network). readRecords (h.left - 1) file (record { network = net; at = x; stage = 3 })) (with-virtual-storage file n e a v at x w);
-        virtualStorages = h.virtualStorages;
-        stands = d ∙ ap (virtualStorageEnd file) h.stands ∙ sym (end_more (virtualStorageEnd file) v place);
+        from = read_on_lem _ x 3 lt (ap (after (network_at file n e a v) file at) q)
+            ∙ ap (λ (net : Network). read_records (h.left - 1) file (record { network = net; at = x; stage = 3 })) (with_virtual_storage_lem file n e a v at x w);
+        virtual_storages = h.virtual_storages;
+        stands = d ∙ ap (virtual_storage_end file) h.stands ∙ sym (end_more (virtual_storage_end file) v place);
         no_edges = λ l. absurd (omega (arith, l));
-        no-aggregates = λ l. absurd (omega (arith, l));
-        no-virtual-storages = λ l. absurd (omega (arith, l));
-        few-nodes = h.few-nodes;
-        few-edges = h.few-edges;
-        few-aggregates = h.few-aggregates;
-        few-virtual-storages = omega (arith, t.1);
+        no_aggregates = λ l. absurd (omega (arith, l));
+        no_virtual_storages = λ l. absurd (omega (arith, l));
+        few_nodes = h.few_nodes;
+        few_edges = h.few_edges;
+        few_aggregates_lem = h.few_aggregates_lem;
+        few_virtual_storages_lem = omega (arith, t.1);
         inside = t.3;
-        nodes-pass = h.nodes-pass;
-        edges-pass = h.edges-pass;
-        aggregates-pass = h.aggregates-pass;
-        virtual-storages-pass = one-pass (λ i. checkVirtualStorage file n) (virtualStorageEnd file) v place at x h.virtual-storages-pass h.stands d t.2;
+        nodes_pass = h.nodes_pass;
+        edges_pass = h.edges_pass;
+        aggregates_pass = h.aggregates_pass;
+        virtual_storages_pass = one_pass (λ i. check_virtual_storage file n) (virtual_storage_end file) v place at x h.virtual_storages_pass h.stands d t.2;
       }
 
   -- a refusal ends the scan
-  pub refusal : (k p : ℕ) → at < length file → checkRecord file at n e a v stage ≡ Record.Refused k p → readRecords (length file) file start ≡ refused k p
+  pub refusal : (k p : ℕ) → at < length file → check_record file at n e a v stage ≡ Record.Refused k p → read_records (length file) file start ≡ refused k p
   unfolding ◌>>=◌
   refusal k p lt q =
-      h.from ∙ ap (λ (k : ℕ). readRecords k file (reading file at stage n e a v)) (more_left lt)
-      ∙ records-next file (reading file at stage n e a v) (h.left - 1) lt
-      ∙ ap (λ (r : Result Reading). r >>= λ next. readRecords (h.left - 1) file next) (record-law file at stage n e a v ∙ ap (after (networkAt file n e a v) file at) q)
+      h.from ∙ ap (λ (k : ℕ). read_records k file (reading file at stage n e a v)) (more_left lt)
+      ∙ records_next file (reading file at stage n e a v) (h.left - 1) lt
+      ∙ ap (λ (r : Result Reading). r >>= λ next. read_records (h.left - 1) file next) (record_law file at stage n e a v ∙ ap (after (network_at file n e a v) file at) q)
 
   -- the file's end
-  pub accepted : length file ≤ at → readRecords (length file) file start ≡ value (networkAt file n e a v)
-  accepted le = h.from ∙ records-end file (reading file at stage n e a v) h.left le
+  pub accepted : length file ≤ at → read_records (length file) file start ≡ value (network_at file n e a v)
+  accepted le = h.from ∙ records_end_lem file (reading file at stage n e a v) h.left le
 
   pub placed : length file ≤ at → Placed file (Loaded.Accepted (record { nodes = n; edges = e; aggregates = a; virtual_storages = v; virtual_storages_at = place }))
   placed le =
-      let f : 20 * n + 6 * e ≤ recordsEnd (aggregateEnd file) a (20 * n + 6 * e) = end_after (aggregateEnd file) (aggregate-after file) a (20 * n + 6 * e) in
-      let g : place ≤ recordsEnd (virtualStorageEnd file) v place = end_after (virtualStorageEnd file) (λ y. omega arith) v place in
+      let f : 20 * n + 6 * e ≤ records_end (aggregate_end file) a (20 * n + 6 * e) = end_after (aggregate_end file) (aggregate_after file) a (20 * n + 6 * e) in
+      let g : place ≤ records_end (virtual_storage_end file) v place = end_after (virtual_storage_end file) (λ y. omega arith) v place in
       let w : at ≡ length file = omega (arith, le, h.inside) in
       record {
-        few-nodes = h.few-nodes;
-        few-edges = h.few-edges;
-        few-aggregates = h.few-aggregates;
-        few-virtual-storages = h.few-virtual-storages;
-        fixed = subst (λ (y : ℕ). 20 * n + 6 * e ≤ y) (sym h.virtualStorages) f;
+        few_nodes = h.few_nodes;
+        few_edges = h.few_edges;
+        few_aggregates_lem = h.few_aggregates_lem;
+        few_virtual_storages_lem = h.few_virtual_storages_lem;
+        fixed = subst (λ (y : ℕ). 20 * n + 6 * e ≤ y) (sym h.virtual_storages) f;
         inside = subst (λ (y : ℕ). place ≤ y) (sym h.stands ∙ w) g;
-        virtualStorages = h.virtualStorages;
+        virtual_storages = h.virtual_storages;
         ends = sym h.stands ∙ w;
-        nodes-pass = h.nodes-pass;
-        edges-pass = h.edges-pass;
-        aggregates-pass = h.aggregates-pass;
-        virtual-storages-pass = h.virtual-storages-pass;
+        nodes_pass = h.nodes_pass;
+        edges_pass = h.edges_pass;
+        aggregates_pass = h.aggregates_pass;
+        virtual_storages_pass = h.virtual_storages_pass;
       }

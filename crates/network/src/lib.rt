@@ -1,6 +1,6 @@
 // The network file: read once from the first record to the last, with its refusal or its counts.
 ghost use Rattle.std.specs.Prelude.{◌≡◌, ◌<◌, length};
-ghost use Rattle.pywr.specs.NetworkFile.{readRecords, parseNetwork};
+ghost use Rattle.pywr.specs.NetworkFile.{read_records, parse_network};
 ghost use Rattle.network.specs.Loaded.{start, result_of, Placed};
 
 use network_checks::Refusal;
@@ -15,7 +15,7 @@ pub enum Loaded {
 
 // The records up to the file's end: refusals 1 to 6, 19 and 20.
 pub fn scan(s: &[u8]) -> Loaded
-    ensures { (readRecords (length s.now) s.now start ≡ result_of s.now result) × Placed s.now result }
+    ensures { (read_records (length s.now) s.now start ≡ result_of s.now result) × Placed s.now result }
 {
     let mut at: usize = 0;
     let mut stage: usize = 0;
@@ -66,7 +66,7 @@ pub fn scan(s: &[u8]) -> Loaded
 
 // The whole file: refusals 1 to 10, 19 and 20.
 pub fn load(s: &[u8]) -> Loaded
-    ensures { (parseNetwork s.now ≡ result_of s.now result) × Placed s.now result }
+    ensures { (parse_network s.now ≡ result_of s.now result) × Placed s.now result }
 {
     let r = scan(s);
     match r {

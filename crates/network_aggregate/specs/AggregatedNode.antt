@@ -1,72 +1,72 @@
 -- An `AG` record by its bytes: what it holds, where it ends, and its check, which answers where the next record starts or the refusal.
 -- Assumes nothing.
 use Rattle.std.specs.Prelude.{ℕ, ◌+◌, ◌*◌, List, eqb}
-use Rattle.layout.specs.Layout.{aggregateSetCeiling, setSizeCeiling}
+use Rattle.layout.specs.Layout.{aggregate_set_ceiling, set_size_ceiling}
 use Rattle.pywr.specs.Bytes.{byte, le16, le32}
 use Rattle.pywr.specs.Network.{Aggregate}
-use Rattle.fields.specs.Field.{byteField, nodeField, activeField, fieldThen}
-use Rattle.fields.specs.Records.{recordsAt, recordsEnd, checkEach}
+use Rattle.fields.specs.Field.{byte_field, node_field, active_field, field_then}
+use Rattle.fields.specs.Records.{records_at, records_end, check_each}
 use Rattle.fields.specs.declared.Checked.{Checked}
 
 -- where its fields and its sets stand in it
-abbrev pub exclusiveOffset : ℕ
-exclusiveOffset = 2
+abbrev pub exclusive_offset : ℕ
+exclusive_offset = 2
 
-abbrev pub setCountOffset : ℕ
-setCountOffset = 3
+abbrev pub set_count_offset : ℕ
+set_count_offset = 3
 
-abbrev pub minActiveOffset : ℕ
-minActiveOffset = 4
+abbrev pub min_active_offset : ℕ
+min_active_offset = 4
 
-abbrev pub maxActiveOffset : ℕ
-maxActiveOffset = 8
+abbrev pub max_active_offset : ℕ
+max_active_offset = 8
 
-abbrev pub setsOffset : ℕ
-setsOffset = 12
+abbrev pub sets_offset : ℕ
+sets_offset = 12
 
--- a set: its size, then its nodes, node k at `memberPlace`
-abbrev pub membersOffset : ℕ
-membersOffset = 1
+-- a set: its size, then its nodes, node k at `member_place`
+abbrev pub members_offset : ℕ
+members_offset = 1
 
-abbrev pub memberLength : ℕ
-memberLength = 2
+abbrev pub member_length : ℕ
+member_length = 2
 
-abbrev pub memberPlace : ℕ → ℕ → ℕ
-memberPlace at k = at + membersOffset + memberLength * k
+abbrev pub member_place : ℕ → ℕ → ℕ
+member_place at k = at + members_offset + member_length * k
 
 module _ (file : List ℕ) where
-  abbrev pub setAt : ℕ → List ℕ
-  setAt at = recordsAt (le16 file) (λ at. at + memberLength) (byte file at) (at + membersOffset)
+  abbrev pub aggregate_set_at : ℕ → List ℕ
+  aggregate_set_at at = records_at (le16 file) (λ at. at + member_length) (byte file at) (at + members_offset)
 
-  abbrev pub setEnd : ℕ → ℕ
-  setEnd at = memberPlace at (byte file at)
+  abbrev pub set_end : ℕ → ℕ
+  set_end at = member_place at (byte file at)
 
-  abbrev pub aggregateAt : ℕ → Aggregate
-  aggregateAt at =
+  abbrev pub aggregate_at : ℕ → Aggregate
+  aggregate_at at =
       record {
-        exclusive = eqb (byte file (at + exclusiveOffset)) 1;
-        minActive = le32 file (at + minActiveOffset);
-        maxActive = le32 file (at + maxActiveOffset);
-        sets = recordsAt setAt setEnd (byte file (at + setCountOffset)) (at + setsOffset);
+        exclusive = eqb (byte file (at + exclusive_offset)) 1;
+        min_active = le32 file (at + min_active_offset);
+        max_active = le32 file (at + max_active_offset);
+        sets = records_at aggregate_set_at set_end (byte file (at + set_count_offset)) (at + sets_offset);
       }
 
-  abbrev pub aggregateEnd : ℕ → ℕ
-  aggregateEnd at = recordsEnd setEnd (byte file (at + setCountOffset)) (at + setsOffset)
+  abbrev pub aggregate_end : ℕ → ℕ
+  aggregate_end at = records_end set_end (byte file (at + set_count_offset)) (at + sets_offset)
 
 module _ (file : List ℕ) (place nodes : ℕ) where
   -- a node of a set
-  unfoldable pub checkMember : ℕ → Checked
-  checkMember at = fieldThen (nodeField file place at nodes) (λ n. Checked.Next (at + memberLength))
+  unfoldable pub check_member : ℕ → Checked
+  check_member at = field_then (node_field file place at nodes) (λ n. Checked.Next (at + member_length))
 
   -- a set: its size 1..16 and its nodes
-  unfoldable pub checkSet : ℕ → Checked
-  checkSet at = fieldThen (byteField file place at 1 setSizeCeiling) (λ size. checkEach checkMember size (at + membersOffset))
+  unfoldable pub check_set : ℕ → Checked
+  check_set at = field_then (byte_field file place at 1 set_size_ceiling) (λ size. check_each check_member size (at + members_offset))
 
 -- the record at `at`, its mark apart
-unfoldable pub checkAggregate : List ℕ → ℕ → ℕ → Checked
-checkAggregate file nodes at =
-    fieldThen (byteField file at (at + exclusiveOffset) 0 1) (λ kind.
-    fieldThen (byteField file at (at + setCountOffset) 1 aggregateSetCeiling) (λ sets.
-    fieldThen (activeField file at (at + minActiveOffset) kind 0) (λ least.
-    fieldThen (activeField file at (at + maxActiveOffset) kind least) (λ most.
-    checkEach (checkSet file at nodes) sets (at + setsOffset)))))
+unfoldable pub check_aggregate : List ℕ → ℕ → ℕ → Checked
+check_aggregate file nodes at =
+    field_then (byte_field file at (at + exclusive_offset) 0 1) (λ kind.
+    field_then (byte_field file at (at + set_count_offset) 1 aggregate_set_ceiling) (λ sets.
+    field_then (active_field file at (at + min_active_offset) kind 0) (λ least.
+    field_then (active_field file at (at + max_active_offset) kind least) (λ most.
+    check_each (check_set file at nodes) sets (at + sets_offset)))))

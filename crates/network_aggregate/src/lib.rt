@@ -2,8 +2,8 @@
 ghost use Rattle.std.specs.Prelude.{◌≡◌, ◌+◌, ◌<◌, ◌≤◌, ◌^◌, length};
 ghost use Rattle.pywr.specs.Bytes.{byte, le16};
 ghost use Rattle.fields.specs.Field.{NextWithin};
-ghost use Rattle.fields.specs.Records.{checkEach};
-ghost use Rattle.network_aggregate.specs.AggregatedNode.{setEnd, aggregateAt, aggregateEnd, checkMember, checkSet, checkAggregate, setCountOffset, setsOffset, memberPlace};
+ghost use Rattle.fields.specs.Records.{check_each};
+ghost use Rattle.network_aggregate.specs.AggregatedNode.{set_end, aggregate_at, aggregate_end, check_member, check_set, check_aggregate, set_count_offset, sets_offset, member_place};
 
 use fields::{Checked, Field};
 use layout::{AGGREGATE_SET_CEILING, SET_SIZE_CEILING};
@@ -28,7 +28,7 @@ const MEMBER_LENGTH: usize = 2;
 // `count` nodes of a set, from `at`.
 fn check_members(s: &[u8], place: usize, nodes: usize, count: usize, at: usize) -> Checked
     requires { at ≤ length s.now }
-    ensures { (result ≡ checkEach (checkMember s.now place nodes) count at) × NextWithin result (length s.now) }
+    ensures { (result ≡ check_each (check_member s.now place nodes) count at) × NextWithin result (length s.now) }
 {
     let mut here = at;
     let mut i: usize = 0;
@@ -50,7 +50,7 @@ fn check_members(s: &[u8], place: usize, nodes: usize, count: usize, at: usize) 
 // `count` sets, from `at`.
 fn check_sets(s: &[u8], place: usize, nodes: usize, count: usize, at: usize) -> Checked
     requires { at ≤ length s.now }
-    ensures { (result ≡ checkEach (checkSet s.now place nodes) count at) × NextWithin result (length s.now) }
+    ensures { (result ≡ check_each (check_set s.now place nodes) count at) × NextWithin result (length s.now) }
 {
     let mut here = at;
     let mut i: usize = 0;
@@ -80,7 +80,7 @@ fn check_sets(s: &[u8], place: usize, nodes: usize, count: usize, at: usize) -> 
 // The aggregate whose record stands at `at`, of a network with `nodes` nodes.
 pub fn check_aggregate(s: &[u8], nodes: usize, at: usize) -> Checked
     requires { at + 2 ≤ length s.now }
-    ensures { (result ≡ checkAggregate s.now nodes at) × NextWithin result (length s.now) }
+    ensures { (result ≡ check_aggregate s.now nodes at) × NextWithin result (length s.now) }
 {
     let k = fields::byte_field(s, at, at + EXCLUSIVE_OFFSET, 0, 1);
     match k {
@@ -115,37 +115,37 @@ pub fn check_aggregate(s: &[u8], nodes: usize, at: usize) -> Checked
 
 // The fields of the record at `at`.
 pub fn is_exclusive(s: &[u8], at: usize) -> bool
-    requires { at + setsOffset ≤ length s.now }
-    ensures { result ≡ (aggregateAt s.now at).exclusive }
+    requires { at + sets_offset ≤ length s.now }
+    ensures { result ≡ (aggregate_at s.now at).exclusive }
 {
     s[at + EXCLUSIVE_OFFSET] == 1
 }
 
 pub fn set_count(s: &[u8], at: usize) -> usize
-    requires { at + setsOffset ≤ length s.now }
-    ensures { (result ≡ byte s.now (at + setCountOffset)) × (result < 256) }
+    requires { at + sets_offset ≤ length s.now }
+    ensures { (result ≡ byte s.now (at + set_count_offset)) × (result < 256) }
 {
     widths::wide8(s[at + SET_COUNT_OFFSET])
 }
 
 pub fn min_active(s: &[u8], at: usize) -> u32
-    requires { at + setsOffset ≤ length s.now }
-    ensures { result ≡ (aggregateAt s.now at).minActive }
+    requires { at + sets_offset ≤ length s.now }
+    ensures { result ≡ (aggregate_at s.now at).min_active }
 {
     fields::u32_at(s, at + MIN_ACTIVE_OFFSET)
 }
 
 pub fn max_active(s: &[u8], at: usize) -> u32
-    requires { at + setsOffset ≤ length s.now }
-    ensures { result ≡ (aggregateAt s.now at).maxActive }
+    requires { at + sets_offset ≤ length s.now }
+    ensures { result ≡ (aggregate_at s.now at).max_active }
 {
     fields::u32_at(s, at + MAX_ACTIVE_OFFSET)
 }
 
 // Where its sets start.
 pub fn sets_at(at: usize) -> usize
-    requires { at + setsOffset < 2 ^ 64 }
-    ensures { result ≡ at + setsOffset }
+    requires { at + sets_offset < 2 ^ 64 }
+    ensures { result ≡ at + sets_offset }
 {
     at + SETS_OFFSET
 }
@@ -159,23 +159,23 @@ pub fn set_size(s: &[u8], at: usize) -> usize
 }
 
 pub fn member(s: &[u8], at: usize, k: usize) -> NodeIndex
-    requires { (setEnd s.now at ≤ length s.now) × (k < byte s.now at) }
-    ensures { result.0 ≡ le16 s.now (memberPlace at k) }
+    requires { (set_end s.now at ≤ length s.now) × (k < byte s.now at) }
+    ensures { result.0 ≡ le16 s.now (member_place at k) }
 {
     NodeIndex(fields::u16_at(s, at + MEMBERS_OFFSET + MEMBER_LENGTH * k))
 }
 
 pub fn set_end(s: &[u8], at: usize) -> usize
     requires { at < length s.now }
-    ensures { result ≡ setEnd s.now at }
+    ensures { result ≡ set_end s.now at }
 {
     at + MEMBERS_OFFSET + MEMBER_LENGTH * set_size(s, at)
 }
 
 // Where the record at `at` ends.
 pub fn aggregate_end(s: &[u8], at: usize) -> usize
-    requires { aggregateEnd s.now at ≤ length s.now }
-    ensures { result ≡ aggregateEnd s.now at }
+    requires { aggregate_end s.now at ≤ length s.now }
+    ensures { result ≡ aggregate_end s.now at }
 {
     let count = set_count(s, at);
     let mut here = at + SETS_OFFSET;

@@ -8,36 +8,36 @@ use native.Mathlib.Omega.{arith}
 use borrow.Author.Tests.{lt-ltb, le-ltb}
 use lib.ListN.{length}
 use lib.Dec.{ltb}
-use Rattle.pywr.specs.Result.{refused, ◌>>=◌, need, firstRefused, refusedIf}
+use Rattle.pywr.specs.Result.{refused, ◌>>=◌, need, first_refused, refused_if}
 use Rattle.pywr.specs.Network.{Network}
-use Rattle.pywr.specs.NetworkFile.{unconnectedLink, badConstant, checkNetwork}
+use Rattle.pywr.specs.NetworkFile.{unconnected_link, bad_constant, check_network}
 use Rattle.network_laws.proofs.Index.{edge_count}
-use Rattle.network_record.specs.Counts.{networkOf}
+use Rattle.network_record.specs.Counts.{network_of}
 use Rattle.network_record.specs.declared.Counts.{Counts}
-use Rattle.network_checks.specs.Refusal.{foundBy, resultWith}
+use Rattle.network_checks.specs.Refusal.{found_by, result_with}
 use Rattle.network_checks.specs.declared.Refusal.{Refusal}
 
-pub edges-of : (file : List ℕ) (c : Counts) → length (networkOf file c).edges ≡ c.edges
-edges-of file c = edge_count file c.nodes c.edges c.aggregates c.virtual_storages
+pub edges_of_lem : (file : List ℕ) (c : Counts) → length (network_of file c).edges ≡ c.edges
+edges_of_lem file c = edge_count file c.nodes c.edges c.aggregates c.virtual_storages
 
-refused-by : (net : Network) (r : Refusal) → refusedIf net (foundBy r) ≡ resultWith net r
-unfolding refusedIf
-refused-by net Refusal.Nothing = refl
-refused-by net (Refusal.At n p) = refl
+refused_by : (net : Network) (r : Refusal) → refused_if net (found_by r) ≡ result_with net r
+unfolding refused_if
+refused_by net Refusal.Nothing = refl
+refused_by net (Refusal.At n p) = refl
 
 module _ (net : Network) where
-  pub no_edges : length net.edges ≡ 0 → checkNetwork net ≡ refused 7 0
-  unfolding checkNetwork need ◌>>=◌
+  pub no_edges : length net.edges ≡ 0 → check_network net ≡ refused 7 0
+  unfolding check_network need ◌>>=◌
   no_edges q = rw (le-ltb 0 (length net.edges) (omega arith))
 
   module _ (some_edges : length net.edges ≡ 0 → ⊥) where
-    has-edges : ltb 0 (length net.edges) ≡ true
-    has-edges = lt-ltb 0 (length net.edges) (omega arith)
+    has_edges : ltb 0 (length net.edges) ≡ true
+    has_edges = lt-ltb 0 (length net.edges) (omega arith)
 
-    pub link-refused : (n p : ℕ) → firstRefused (unconnectedLink net) 0 net.nodes ≡ some (n, p) → checkNetwork net ≡ refused n p
-    unfolding checkNetwork need ◌>>=◌ refusedIf
-    link-refused n p e = rw (has-edges, e)
+    pub link_refused : (n p : ℕ) → first_refused (unconnected_link net) 0 net.nodes ≡ some (n, p) → check_network net ≡ refused n p
+    unfolding check_network need ◌>>=◌ refused_if
+    link_refused n p e = rw (has_edges, e)
 
-    pub links-pass : (r : Refusal) → firstRefused (unconnectedLink net) 0 net.nodes ≡ none → firstRefused (badConstant net) 0 net.nodes ≡ foundBy r → checkNetwork net ≡ resultWith net r
-    unfolding checkNetwork need ◌>>=◌ refusedIf
-    links-pass r e f = rw (has-edges, e, f) (refused-by net r)
+    pub links_pass : (r : Refusal) → first_refused (unconnected_link net) 0 net.nodes ≡ none → first_refused (bad_constant net) 0 net.nodes ≡ found_by r → check_network net ≡ result_with net r
+    unfolding check_network need ◌>>=◌ refused_if
+    links_pass r e f = rw (has_edges, e, f) (refused_by net r)

@@ -4,19 +4,19 @@ use mathlib.Core.Path.{◌≡◌}
 use mathlib.Core.Bool.{Bool, true, false, ◌&&◌, ◌||◌}
 use mathlib.Core.Option.{none, some}
 use lib.Ieee.{inf, lt, eq}
-use Rattle.pywr.specs.Network.{Node, Network, isExclusive}
-use Rattle.pywr.specs.NetworkFile.{badConstant}
+use Rattle.pywr.specs.Network.{Node, Network, is_exclusive}
+use Rattle.pywr.specs.NetworkFile.{bad_constant}
 
 module _ (net : Network) (i : ℕ) (x : Node) where
-  pub crossed : (x.constant && lt x.max x.min) ≡ true → badConstant net i x ≡ some 9
-  unfolding badConstant
+  pub crossed : (x.constant && lt x.max x.min) ≡ true → bad_constant net i x ≡ some 9
+  unfolding bad_constant
   crossed e = rw e
 
-  module _ (mark : Bool) (p : mark ≡ isExclusive net.aggregates i) (e : (x.constant && lt x.max x.min) ≡ false) where
-    pub unbounded : (x.constant && mark && (eq x.max (inf true) || eq x.min (inf false))) ≡ true → badConstant net i x ≡ some 10
-    unfolding badConstant
+  module _ (mark : Bool) (p : mark ≡ is_exclusive net.aggregates i) (e : (x.constant && lt x.max x.min) ≡ false) where
+    pub unbounded : (x.constant && mark && (eq x.max (inf true) || eq x.min (inf false))) ≡ true → bad_constant net i x ≡ some 10
+    unfolding bad_constant
     unbounded f = rw (e, ← p, f)
 
-    pub bounded : (x.constant && mark && (eq x.max (inf true) || eq x.min (inf false))) ≡ false → badConstant net i x ≡ none
-    unfolding badConstant
+    pub bounded : (x.constant && mark && (eq x.max (inf true) || eq x.min (inf false))) ≡ false → bad_constant net i x ≡ none
+    unfolding bad_constant
     bounded f = rw (e, ← p, f)

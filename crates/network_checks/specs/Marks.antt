@@ -3,19 +3,19 @@ use Rattle.std.specs.Prelude.{ℕ, ◌<◌, ◌≡◌, List, [], ◌∷◌, Bool
 use Rattle.pywr.specs.Network.{Aggregate}
 
 -- the nodes of a list
-unfoldable pub markAll : List ℕ → List Bool → List Bool
-markAll [] marks = marks
-markAll (n ∷ ns) marks = markAll ns (set marks n true)
+unfoldable pub mark_all : List ℕ → List Bool → List Bool
+mark_all [] marks = marks
+mark_all (n ∷ ns) marks = mark_all ns (set marks n true)
 
 -- those of every set
-unfoldable pub markSets : List (List ℕ) → List Bool → List Bool
-markSets [] marks = marks
-markSets (s ∷ ss) marks = markSets ss (markAll s marks)
+unfoldable pub mark_sets : List (List ℕ) → List Bool → List Bool
+mark_sets [] marks = marks
+mark_sets (s ∷ ss) marks = mark_sets ss (mark_all s marks)
 
 -- those of every exclusive aggregate
-unfoldable pub markExclusive : List Aggregate → List Bool → List Bool
-markExclusive [] marks = marks
-markExclusive (a ∷ rest) marks = markExclusive rest (cond a.exclusive (markSets a.sets marks) marks)
+unfoldable pub mark_exclusive : List Aggregate → List Bool → List Bool
+mark_exclusive [] marks = marks
+mark_exclusive (a ∷ rest) marks = mark_exclusive rest (cond a.exclusive (mark_sets a.sets marks) marks)
 
 -- each of the n nodes is marked exactly if it passes the test
 abbrev pub MarkedBy : (ℕ → Bool) → ℕ → List Bool → Type 0

@@ -6,11 +6,11 @@ use Rattle.pywr.specs.Network.{Network}
 use Rattle.network_checks.specs.declared.Refusal.{Refusal}
 
 -- what is found of the nodes
-abbrev pub foundBy : Refusal → Option (ℕ × ℕ)
-foundBy Refusal.Nothing = none
-foundBy (Refusal.At n p) = some (n, p)
+abbrev pub found_by : Refusal → Option (ℕ × ℕ)
+found_by Refusal.Nothing = none
+found_by (Refusal.At n p) = some (n, p)
 
 -- the network's result
-abbrev pub resultWith : Network → Refusal → Result Network
-resultWith net Refusal.Nothing = value net
-resultWith net (Refusal.At n p) = refused n p
+abbrev pub result_with : Network → Refusal → Result Network
+result_with net Refusal.Nothing = value net
+result_with net (Refusal.At n p) = refused n p

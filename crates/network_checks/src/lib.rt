@@ -2,19 +2,19 @@
 ghost use Rattle.std.specs.Prelude.{◌≡◌, true, false, not, ◌&&◌, ◌||◌, map, ℕ, ◌+◌, ◌<◌, ◌≤◌, length, get_or, eqb};
 ghost use Rattle.std.specs.Float.{inf};
 ghost use Rattle.std.specs.Float.Ieee.{lt, eq};
-ghost use Rattle.layout.specs.Layout.{nodeCeiling, edgeCeiling};
-ghost use Rattle.pywr.specs.Network.{link, source, target, incoming, outgoing, isExclusive};
-ghost use Rattle.pywr.specs.Result.{firstRefused};
-ghost use Rattle.pywr.specs.NetworkFile.{is_empty, unconnectedLink, badConstant, checkNetwork};
-ghost use Rattle.fields.specs.Records.{recordsAt, recordsEnd};
-ghost use Rattle.network_node.specs.Node.{nodeAt, nodeLength, nodePlace};
-ghost use Rattle.network_edge.specs.Edge.{edgePlace};
-ghost use Rattle.network_aggregate.specs.AggregatedNode.{setAt, aggregateAt, aggregateEnd};
-ghost use Rattle.network_laws.specs.NetworkAt.{nodeRecords, edgeRecords};
+ghost use Rattle.layout.specs.Layout.{node_ceiling, edge_ceiling};
+ghost use Rattle.pywr.specs.Network.{link, source, target, incoming, outgoing, is_exclusive};
+ghost use Rattle.pywr.specs.Result.{first_refused};
+ghost use Rattle.pywr.specs.NetworkFile.{is_empty, unconnected_link, bad_constant, check_network};
+ghost use Rattle.fields.specs.Records.{records_at, records_end};
+ghost use Rattle.network_node.specs.Node.{node_at, node_length, node_place};
+ghost use Rattle.network_edge.specs.Edge.{edge_place};
+ghost use Rattle.network_aggregate.specs.AggregatedNode.{aggregate_set_at, aggregate_at, aggregate_end};
+ghost use Rattle.network_laws.specs.NetworkAt.{node_records, edge_records};
 ghost use Rattle.network_laws.specs.Passed.{NodePassed, EdgePassed, SetPassed, AggregatePassed};
-ghost use Rattle.network_record.specs.Counts.{networkOf, SectionsOf};
-ghost use Rattle.network_checks.specs.Marks.{markAll, markSets, markExclusive, MarkedBy};
-ghost use Rattle.network_checks.specs.Refusal.{foundBy, resultWith};
+ghost use Rattle.network_record.specs.Counts.{network_of, SectionsOf};
+ghost use Rattle.network_checks.specs.Marks.{mark_all, mark_sets, mark_exclusive, MarkedBy};
+ghost use Rattle.network_checks.specs.Refusal.{found_by, result_with};
 
 use layout::NODE_CEILING;
 use network_record::Counts;
@@ -35,9 +35,9 @@ fn mark_ends(
     into: &mut [bool; NODE_CEILING],
     out: &mut [bool; NODE_CEILING],
 )
-    requires { (n ≤ nodeCeiling) × (e ≤ edgeCeiling) × ((j : ℕ) → j < e → EdgePassed s.now n (edgePlace n j)) }
-    ensures { (into.new ≡ markAll (map target (edgeRecords s.now n e)) into.old)
-        × (out.new ≡ markAll (map source (edgeRecords s.now n e)) out.old) }
+    requires { (n ≤ node_ceiling) × (e ≤ edge_ceiling) × ((j : ℕ) → j < e → EdgePassed s.now n (edge_place n j)) }
+    ensures { (into.new ≡ mark_all (map target (edge_records s.now n e)) into.old)
+        × (out.new ≡ mark_all (map source (edge_records s.now n e)) out.old) }
 {
     let mut j: usize = 0;
     while j < e {
@@ -59,8 +59,8 @@ fn is_unconnected(
     into: &[bool; NODE_CEILING],
     out: &[bool; NODE_CEILING],
 ) -> bool
-    requires { (i.0 < nodeCeiling) × (nodePlace i.0 + nodeLength ≤ length s.now) }
-    ensures { result ≡ (eqb (nodeAt s.now (nodePlace i.0)).kind link && (not (get_or into.now i.0 false) || not (get_or out.now i.0 false))) }
+    requires { (i.0 < node_ceiling) × (node_place i.0 + node_length ≤ length s.now) }
+    ensures { result ≡ (eqb (node_at s.now (node_place i.0)).kind link && (not (get_or into.now i.0 false) || not (get_or out.now i.0 false))) }
 {
     let k = widths::wide16(i.0);
     if network_node::kind(s, i) == 2 {
@@ -82,10 +82,10 @@ fn first_unconnected(
     into: &[bool; NODE_CEILING],
     out: &[bool; NODE_CEILING],
 ) -> Refusal
-    requires { (c.nodes ≤ nodeCeiling) × (nodePlace c.nodes ≤ length s.now)
-        × MarkedBy (λ i. not (is_empty (incoming (networkOf s.now c) i))) c.nodes into.now
-        × MarkedBy (λ i. not (is_empty (outgoing (networkOf s.now c) i))) c.nodes out.now }
-    ensures { foundBy result ≡ firstRefused (unconnectedLink (networkOf s.now c)) 0 (nodeRecords s.now c.nodes) }
+    requires { (c.nodes ≤ node_ceiling) × (node_place c.nodes ≤ length s.now)
+        × MarkedBy (λ i. not (is_empty (incoming (network_of s.now c) i))) c.nodes into.now
+        × MarkedBy (λ i. not (is_empty (outgoing (network_of s.now c) i))) c.nodes out.now }
+    ensures { found_by result ≡ first_refused (unconnected_link (network_of s.now c)) 0 (node_records s.now c.nodes) }
 {
     let mut i: usize = 0;
     while i < c.nodes {
@@ -100,7 +100,7 @@ fn first_unconnected(
 // 8 by node.
 fn check_links(s: &[u8], c: Counts) -> Refusal
     requires { SectionsOf s.now c }
-    ensures { foundBy result ≡ firstRefused (unconnectedLink (networkOf s.now c)) 0 (nodeRecords s.now c.nodes) }
+    ensures { found_by result ≡ first_refused (unconnected_link (network_of s.now c)) 0 (node_records s.now c.nodes) }
 {
     let mut into = [false; NODE_CEILING];
     let mut out = [false; NODE_CEILING];
@@ -110,8 +110,8 @@ fn check_links(s: &[u8], c: Counts) -> Refusal
 
 // Marks the nodes of the set at `at`.
 fn mark_set(s: &[u8], at: usize, marks: &mut [bool; NODE_CEILING])
-    requires { SetPassed s.now nodeCeiling at }
-    ensures { marks.new ≡ markAll (setAt s.now at) marks.old }
+    requires { SetPassed s.now node_ceiling at }
+    ensures { marks.new ≡ mark_all (aggregate_set_at s.now at) marks.old }
 {
     let size = network_aggregate::set_size(s, at);
     let mut k: usize = 0;
@@ -125,8 +125,8 @@ fn mark_set(s: &[u8], at: usize, marks: &mut [bool; NODE_CEILING])
 
 // Marks the nodes of every set of the aggregate at `at`, and answers where the aggregate ends.
 fn mark_sets(s: &[u8], at: usize, marks: &mut [bool; NODE_CEILING]) -> usize
-    requires { AggregatePassed s.now nodeCeiling at }
-    ensures { (result ≡ aggregateEnd s.now at) × (marks.new ≡ markSets (aggregateAt s.now at).sets marks.old) }
+    requires { AggregatePassed s.now node_ceiling at }
+    ensures { (result ≡ aggregate_end s.now at) × (marks.new ≡ mark_sets (aggregate_at s.now at).sets marks.old) }
 {
     let count = network_aggregate::set_count(s, at);
     let mut here = network_aggregate::sets_at(at);
@@ -141,8 +141,8 @@ fn mark_sets(s: &[u8], at: usize, marks: &mut [bool; NODE_CEILING]) -> usize
 
 // Marks the nodes that an exclusive aggregate lists; the a aggregates start at `start`.
 fn mark_exclusive(s: &[u8], start: usize, a: usize, marks: &mut [bool; NODE_CEILING])
-    requires { (start ≤ length s.now) × ((k : ℕ) → k < a → AggregatePassed s.now nodeCeiling (recordsEnd (aggregateEnd s.now) k start)) }
-    ensures { marks.new ≡ markExclusive (recordsAt (aggregateAt s.now) (aggregateEnd s.now) a start) marks.old }
+    requires { (start ≤ length s.now) × ((k : ℕ) → k < a → AggregatePassed s.now node_ceiling (records_end (aggregate_end s.now) k start)) }
+    ensures { marks.new ≡ mark_exclusive (records_at (aggregate_at s.now) (aggregate_end s.now) a start) marks.old }
 {
     let mut at = start;
     let mut k: usize = 0;
@@ -159,8 +159,8 @@ fn mark_exclusive(s: &[u8], start: usize, a: usize, marks: &mut [bool; NODE_CEIL
 
 // 9 of node i: a constant's min over its max.
 fn is_crossed(s: &[u8], i: NodeIndex) -> bool
-    requires { NodePassed s.now (nodePlace i.0) }
-    ensures { result ≡ ((nodeAt s.now (nodePlace i.0)).constant && lt (nodeAt s.now (nodePlace i.0)).max (nodeAt s.now (nodePlace i.0)).min) }
+    requires { NodePassed s.now (node_place i.0) }
+    ensures { result ≡ ((node_at s.now (node_place i.0)).constant && lt (node_at s.now (node_place i.0)).max (node_at s.now (node_place i.0)).min) }
 {
     if network_node::is_constant(s, i) {
         let max = network_node::max(s, i);
@@ -172,9 +172,9 @@ fn is_crossed(s: &[u8], i: NodeIndex) -> bool
 
 // 10 of node i: an exclusive constant's max −infinity or min +infinity.
 fn is_unbounded(s: &[u8], i: NodeIndex, exclusive: &[bool; NODE_CEILING]) -> bool
-    requires { (i.0 < nodeCeiling) × NodePassed s.now (nodePlace i.0) }
-    ensures { result ≡ ((nodeAt s.now (nodePlace i.0)).constant && get_or exclusive.now i.0 false
-        && (eq (nodeAt s.now (nodePlace i.0)).max (inf true) || eq (nodeAt s.now (nodePlace i.0)).min (inf false))) }
+    requires { (i.0 < node_ceiling) × NodePassed s.now (node_place i.0) }
+    ensures { result ≡ ((node_at s.now (node_place i.0)).constant && get_or exclusive.now i.0 false
+        && (eq (node_at s.now (node_place i.0)).max (inf true) || eq (node_at s.now (node_place i.0)).min (inf false))) }
 {
     let k = widths::wide16(i.0);
     if network_node::is_constant(s, i) {
@@ -191,9 +191,9 @@ fn is_unbounded(s: &[u8], i: NodeIndex, exclusive: &[bool; NODE_CEILING]) -> boo
 
 // The first node that 9 or 10 refuses.
 fn first_bad_constant(s: &[u8], c: Counts, exclusive: &[bool; NODE_CEILING]) -> Refusal
-    requires { (c.nodes ≤ nodeCeiling) × ((i : ℕ) → i < c.nodes → NodePassed s.now (nodePlace i))
-        × MarkedBy (isExclusive (networkOf s.now c).aggregates) c.nodes exclusive.now }
-    ensures { foundBy result ≡ firstRefused (badConstant (networkOf s.now c)) 0 (nodeRecords s.now c.nodes) }
+    requires { (c.nodes ≤ node_ceiling) × ((i : ℕ) → i < c.nodes → NodePassed s.now (node_place i))
+        × MarkedBy (is_exclusive (network_of s.now c).aggregates) c.nodes exclusive.now }
+    ensures { found_by result ≡ first_refused (bad_constant (network_of s.now c)) 0 (node_records s.now c.nodes) }
 {
     let mut i: usize = 0;
     while i < c.nodes {
@@ -212,7 +212,7 @@ fn first_bad_constant(s: &[u8], c: Counts, exclusive: &[bool; NODE_CEILING]) -> 
 // By node 9, then 10.
 fn check_constants(s: &[u8], c: Counts) -> Refusal
     requires { SectionsOf s.now c }
-    ensures { foundBy result ≡ firstRefused (badConstant (networkOf s.now c)) 0 (nodeRecords s.now c.nodes) }
+    ensures { found_by result ≡ first_refused (bad_constant (network_of s.now c)) 0 (node_records s.now c.nodes) }
 {
     let mut exclusive = [false; NODE_CEILING];
     mark_exclusive(
@@ -227,7 +227,7 @@ fn check_constants(s: &[u8], c: Counts) -> Refusal
 // 7, 8, then by node 9 and 10, of a file whose records were all accepted.
 pub fn check_network(s: &[u8], c: Counts) -> Refusal
     requires { SectionsOf s.now c }
-    ensures { checkNetwork (networkOf s.now c) ≡ resultWith (networkOf s.now c) result }
+    ensures { check_network (network_of s.now c) ≡ result_with (network_of s.now c) result }
 {
     if c.edges == 0 {
         return Refusal::At(7, 0);

@@ -1,8 +1,8 @@
 // An edge of the network file: the check of its `ED` record, and its ends by index.
 ghost use Rattle.std.specs.Prelude.{◌≡◌, ◌+◌, ◌*◌, ◌<◌, ◌≤◌, ◌^◌, length};
 ghost use Rattle.fields.specs.Field.{NextWithin};
-ghost use Rattle.network_node.specs.Node.{nodeLength, nodePlace};
-ghost use Rattle.network_edge.specs.Edge.{pairAmong, wrongWayAt, checkEnds, checkEdge, edge_at, edgeLength, edgePlace, end_of};
+ghost use Rattle.network_node.specs.Node.{node_length, node_place};
+ghost use Rattle.network_edge.specs.Edge.{pair_among, wrong_way_at, check_ends, check_edge, edge_at, edge_length, edge_place, end_of};
 
 use fields::{Checked, Field};
 use pywr::{EdgeIndex, NodeIndex};
@@ -23,16 +23,16 @@ pub enum End {
 
 // Where the records of `nodes` nodes and of the first `edges` edges end.
 pub fn edges_end(nodes: usize, edges: usize) -> usize
-    requires { edgePlace nodes edges < 2 ^ 64 }
-    ensures { result ≡ edgePlace nodes edges }
+    requires { edge_place nodes edges < 2 ^ 64 }
+    ensures { result ≡ edge_place nodes edges }
 {
     network_node::nodes_end(nodes) + EDGE_LENGTH * edges
 }
 
 // Whether one of the `count` edges from `start` has these ends. An edge's two ends are compared as one number.
 fn pair_among(s: &[u8], count: usize, start: usize, from: NodeIndex, to: NodeIndex) -> bool
-    requires { start + edgeLength * count ≤ length s.now }
-    ensures { result ≡ pairAmong s.now count start from.0 to.0 }
+    requires { start + edge_length * count ≤ length s.now }
+    ensures { result ≡ pair_among s.now count start from.0 to.0 }
 {
     let f = widths::wide16(from.0);
     let t = widths::wide16(to.0);
@@ -51,8 +51,8 @@ fn pair_among(s: &[u8], count: usize, start: usize, from: NodeIndex, to: NodeInd
 
 // 5 of an edge whose ends are nodes: into an input, or out of an output.
 fn wrong_way(s: &[u8], from: NodeIndex, to: NodeIndex) -> bool
-    requires { (nodePlace from.0 + nodeLength ≤ length s.now) × (nodePlace to.0 + nodeLength ≤ length s.now) }
-    ensures { result ≡ wrongWayAt s.now from.0 to.0 }
+    requires { (node_place from.0 + node_length ≤ length s.now) × (node_place to.0 + node_length ≤ length s.now) }
+    ensures { result ≡ wrong_way_at s.now from.0 to.0 }
 {
     if network_node::kind(s, to) == 0 {
         return true;
@@ -69,8 +69,8 @@ fn check_ends(
     from: NodeIndex,
     to: NodeIndex,
 ) -> Checked
-    requires { (at + edgeLength ≤ length s.now) × (edgePlace nodes edges ≤ length s.now) × (from.0 < nodes) × (to.0 < nodes) × (nodes ≤ 65536) }
-    ensures { (result ≡ checkEnds s.now nodes edges at from.0 to.0) × NextWithin result (length s.now) }
+    requires { (at + edge_length ≤ length s.now) × (edge_place nodes edges ≤ length s.now) × (from.0 < nodes) × (to.0 < nodes) × (nodes ≤ 65536) }
+    ensures { (result ≡ check_ends s.now nodes edges at from.0 to.0) × NextWithin result (length s.now) }
 {
     let place = at + FROM_OFFSET;
     let wrong = wrong_way(s, from, to);
@@ -89,8 +89,8 @@ fn check_ends(
 
 // The edge whose record stands at `at`, behind `nodes` nodes and `edges` edges.
 pub fn check_edge(s: &[u8], nodes: usize, edges: usize, at: usize) -> Checked
-    requires { (at + 2 ≤ length s.now) × (edgePlace nodes edges ≤ length s.now) × (nodes ≤ 65536) }
-    ensures { (result ≡ checkEdge s.now nodes edges at) × NextWithin result (length s.now) }
+    requires { (at + 2 ≤ length s.now) × (edge_place nodes edges ≤ length s.now) × (nodes ≤ 65536) }
+    ensures { (result ≡ check_edge s.now nodes edges at) × NextWithin result (length s.now) }
 {
     let f = fields::node_field(s, at, at + FROM_OFFSET, nodes);
     match f {
@@ -111,8 +111,8 @@ pub fn check_edge(s: &[u8], nodes: usize, edges: usize, at: usize) -> Checked
 
 // The node that edge j comes from, of a network with `nodes` nodes.
 pub fn from_node_index(s: &[u8], nodes: usize, j: EdgeIndex) -> NodeIndex
-    requires { edgePlace nodes j.0 + edgeLength ≤ length s.now }
-    ensures { result.0 ≡ (edge_at s.now (edgePlace nodes j.0)).from }
+    requires { edge_place nodes j.0 + edge_length ≤ length s.now }
+    ensures { result.0 ≡ (edge_at s.now (edge_place nodes j.0)).from }
 {
     let k = widths::wide16(j.0);
     NodeIndex(fields::u16_at(s, edges_end(nodes, k) + FROM_OFFSET))
@@ -120,8 +120,8 @@ pub fn from_node_index(s: &[u8], nodes: usize, j: EdgeIndex) -> NodeIndex
 
 // The node that it goes to.
 pub fn to_node_index(s: &[u8], nodes: usize, j: EdgeIndex) -> NodeIndex
-    requires { edgePlace nodes j.0 + edgeLength ≤ length s.now }
-    ensures { result.0 ≡ (edge_at s.now (edgePlace nodes j.0)).to }
+    requires { edge_place nodes j.0 + edge_length ≤ length s.now }
+    ensures { result.0 ≡ (edge_at s.now (edge_place nodes j.0)).to }
 {
     let k = widths::wide16(j.0);
     NodeIndex(fields::u16_at(s, edges_end(nodes, k) + TO_OFFSET))
@@ -129,8 +129,8 @@ pub fn to_node_index(s: &[u8], nodes: usize, j: EdgeIndex) -> NodeIndex
 
 // The node at an end of it.
 pub fn end_node(s: &[u8], nodes: usize, j: EdgeIndex, end: End) -> NodeIndex
-    requires { edgePlace nodes j.0 + edgeLength ≤ length s.now }
-    ensures { result.0 ≡ end_of end (edge_at s.now (edgePlace nodes j.0)) }
+    requires { edge_place nodes j.0 + edge_length ≤ length s.now }
+    ensures { result.0 ≡ end_of end (edge_at s.now (edge_place nodes j.0)) }
 {
     match end {
         End::From => from_node_index(s, nodes, j),

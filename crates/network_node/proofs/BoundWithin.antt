@@ -8,27 +8,27 @@ use lib.ListN.{length}
 use lib.Dec.{eqb}
 use lib.Ieee.{nan_bits}
 use Rattle.pywr.specs.Bytes.{le64, within}
-use Rattle.pywr.specs.Numbers.{isFlow}
-use Rattle.pywr.specs.NetworkFile.{constantFits}
+use Rattle.pywr.specs.Numbers.{is_flow}
+use Rattle.pywr.specs.NetworkFile.{constant_fits}
 use Rattle.fields.specs.declared.Checked.{Checked}
-use Rattle.fields.proofs.Within.{next-tested}
-use Rattle.network_node.specs.Node.{checkBound}
+use Rattle.fields.proofs.Within.{next_tested}
+use Rattle.network_node.specs.Node.{check_bound}
 
-zero-flow : isFlow 0 ≡ true
-unfolding isFlow nan_bits
-zero-flow = refl
+zero_flow : is_flow 0 ≡ true
+unfolding is_flow nan_bits
+zero_flow = refl
 
-fits-flow : (constant bits : ℕ) → constantFits constant bits ≡ true → isFlow bits ≡ true
-unfolding constantFits
-fits-flow constant bits e = cases (eqb constant 1) e
+fits_flow : (constant bits : ℕ) → constant_fits constant bits ≡ true → is_flow bits ≡ true
+unfolding constant_fits
+fits_flow constant bits e = cases (eqb constant 1) e
   where
-    cases : (b : Bool) → cond b (isFlow bits) (eqb bits 0) ≡ true → isFlow bits ≡ true
+    cases : (b : Bool) → cond b (is_flow bits) (eqb bits 0) ≡ true → is_flow bits ≡ true
     cases true f = f
-    cases false f = ap isFlow (eqb-true bits 0 f) ∙ zero-flow
+    cases false f = ap is_flow (eqb-true bits 0 f) ∙ zero_flow
 
-pub bound-within : (file : List ℕ) (place at constant next : ℕ) → checkBound file place at constant ≡ Checked.Next next → (at + 8 ≤ length file) × (isFlow (le64 file at) ≡ true)
-unfolding checkBound
-bound-within file place at constant next e =
-    let t = next-tested (within file at 8) _ 1 place next e in
-    let u = next-tested (constantFits constant (le64 file at)) (Checked.Next (at + 8)) 3 place next t.1 in
-    (leb-true _ _ t.0, fits-flow constant (le64 file at) u.0)
+pub bound_within : (file : List ℕ) (place at constant next : ℕ) → check_bound file place at constant ≡ Checked.Next next → (at + 8 ≤ length file) × (is_flow (le64 file at) ≡ true)
+unfolding check_bound
+bound_within file place at constant next e =
+    let t = next_tested (within file at 8) _ 1 place next e in
+    let u = next_tested (constant_fits constant (le64 file at)) (Checked.Next (at + 8)) 3 place next t.1 in
+    (leb-true _ _ t.0, fits_flow constant (le64 file at) u.0)

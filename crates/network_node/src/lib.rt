@@ -1,10 +1,10 @@
 // A node of the network file: the check of its `ND` record, and its fields by index.
 ghost use Rattle.std.specs.Prelude.{◌≡◌, true, ◌+◌, ◌<◌, ◌≤◌, ◌^◌, length};
 ghost use Rattle.pywr.specs.Bytes.{le64};
-ghost use Rattle.pywr.specs.Numbers.{isFlow};
-ghost use Rattle.pywr.specs.NetworkFile.{mostConstant, constantFits};
+ghost use Rattle.pywr.specs.Numbers.{is_flow};
+ghost use Rattle.pywr.specs.NetworkFile.{most_constant, constant_fits};
 ghost use Rattle.fields.specs.Field.{NextWithin};
-ghost use Rattle.network_node.specs.Node.{checkBound, checkNode, nodeAt, nodeLength, minOffset, maxOffset, nodePlace};
+ghost use Rattle.network_node.specs.Node.{check_bound, check_node, node_at, node_length, min_offset, max_offset, node_place};
 
 use fields::{Checked, Field};
 use pywr::NodeIndex;
@@ -21,7 +21,7 @@ const MIN_OFFSET: usize = 4;
 const MAX_OFFSET: usize = 12;
 
 fn most_constant(kind: usize) -> usize
-    ensures { result ≡ mostConstant kind }
+    ensures { result ≡ most_constant kind }
 {
     if kind == 3 {
         return 0;
@@ -30,7 +30,7 @@ fn most_constant(kind: usize) -> usize
 }
 
 fn constant_fits(constant: usize, bits: u64) -> bool
-    ensures { result ≡ constantFits constant bits }
+    ensures { result ≡ constant_fits constant bits }
 {
     if constant == 1 {
         return fields::is_flow(bits);
@@ -40,7 +40,7 @@ fn constant_fits(constant: usize, bits: u64) -> bool
 
 // A node's min or max.
 fn check_bound(s: &[u8], place: usize, at: usize, constant: usize) -> Checked
-    ensures { result ≡ checkBound s.now place at constant }
+    ensures { result ≡ check_bound s.now place at constant }
 {
     if fields::is_within(s, at, 8) {
         if constant_fits(constant, fields::u64_at(s, at)) {
@@ -54,7 +54,7 @@ fn check_bound(s: &[u8], place: usize, at: usize, constant: usize) -> Checked
 // The node whose record stands at `at`.
 pub fn check_node(s: &[u8], at: usize) -> Checked
     requires { at + 2 ≤ length s.now }
-    ensures { (result ≡ checkNode s.now at) × NextWithin result (length s.now) }
+    ensures { (result ≡ check_node s.now at) × NextWithin result (length s.now) }
 {
     let k = fields::byte_field(s, at, at + KIND_OFFSET, 0, 3);
     match k {
@@ -83,24 +83,24 @@ pub fn check_node(s: &[u8], at: usize) -> Checked
 
 // Where the records of the first `nodes` nodes end.
 pub fn nodes_end(nodes: usize) -> usize
-    requires { nodePlace nodes < 2 ^ 64 }
-    ensures { result ≡ nodePlace nodes }
+    requires { node_place nodes < 2 ^ 64 }
+    ensures { result ≡ node_place nodes }
 {
     NODE_LENGTH * nodes
 }
 
 // The kind of node i: 0 input, 1 output, 2 link, 3 storage.
 pub fn kind(s: &[u8], i: NodeIndex) -> u8
-    requires { nodePlace i.0 + nodeLength ≤ length s.now }
-    ensures { result ≡ (nodeAt s.now (nodePlace i.0)).kind }
+    requires { node_place i.0 + node_length ≤ length s.now }
+    ensures { result ≡ (node_at s.now (node_place i.0)).kind }
 {
     let k = widths::wide16(i.0);
     s[NODE_LENGTH * k + KIND_OFFSET]
 }
 
 pub fn is_constant(s: &[u8], i: NodeIndex) -> bool
-    requires { nodePlace i.0 + nodeLength ≤ length s.now }
-    ensures { result ≡ (nodeAt s.now (nodePlace i.0)).constant }
+    requires { node_place i.0 + node_length ≤ length s.now }
+    ensures { result ≡ (node_at s.now (node_place i.0)).constant }
 {
     let k = widths::wide16(i.0);
     s[NODE_LENGTH * k + CONSTANT_OFFSET] == 1
@@ -108,8 +108,8 @@ pub fn is_constant(s: &[u8], i: NodeIndex) -> bool
 
 // The min and the max of node i, whose record passed: a pattern that is no NaN's.
 pub fn min(s: &[u8], i: NodeIndex) -> f64
-    requires { (nodePlace i.0 + nodeLength ≤ length s.now) × (isFlow (le64 s.now (nodePlace i.0 + minOffset)) ≡ true) }
-    ensures { result ≡ (nodeAt s.now (nodePlace i.0)).min }
+    requires { (node_place i.0 + node_length ≤ length s.now) × (is_flow (le64 s.now (node_place i.0 + min_offset)) ≡ true) }
+    ensures { result ≡ (node_at s.now (node_place i.0)).min }
 {
     let k = widths::wide16(i.0);
     let b = fields::u64_at(s, NODE_LENGTH * k + MIN_OFFSET);
@@ -117,8 +117,8 @@ pub fn min(s: &[u8], i: NodeIndex) -> f64
 }
 
 pub fn max(s: &[u8], i: NodeIndex) -> f64
-    requires { (nodePlace i.0 + nodeLength ≤ length s.now) × (isFlow (le64 s.now (nodePlace i.0 + maxOffset)) ≡ true) }
-    ensures { result ≡ (nodeAt s.now (nodePlace i.0)).max }
+    requires { (node_place i.0 + node_length ≤ length s.now) × (is_flow (le64 s.now (node_place i.0 + max_offset)) ≡ true) }
+    ensures { result ≡ (node_at s.now (node_place i.0)).max }
 {
     let k = widths::wide16(i.0);
     let b = fields::u64_at(s, NODE_LENGTH * k + MAX_OFFSET);

@@ -1,9 +1,9 @@
 // One record of the network file, behind the records before it: its mark, its count, its check.
 ghost use Rattle.std.specs.Prelude.{◌≡◌, ◌+◌, ◌<◌, ◌≤◌, length};
-ghost use Rattle.layout.specs.Layout.{nodeCeiling};
+ghost use Rattle.layout.specs.Layout.{node_ceiling};
 ghost use Rattle.fields.specs.Field.{NextWithin};
-ghost use Rattle.network_edge.specs.Edge.{edgePlace};
-ghost use Rattle.network_record.specs.Record.{markRank, checkRanked, checkRecord, RecordPassed};
+ghost use Rattle.network_edge.specs.Edge.{edge_place};
+ghost use Rattle.network_record.specs.Record.{mark_rank, check_ranked, check_record, RecordPassed};
 
 use fields::Checked;
 use layout::{AGGREGATE_CEILING, EDGE_CEILING, NODE_CEILING, VIRTUAL_STORAGE_CEILING};
@@ -31,7 +31,7 @@ pub struct Counts {
 // The rank of the mark at `at` among ND, ED, AG, VS; 4 of any other.
 fn mark_rank(s: &[u8], at: usize) -> usize
     requires { at + 2 ≤ length s.now }
-    ensures { result ≡ markRank s.now at }
+    ensures { result ≡ mark_rank s.now at }
 {
     if s[at] == b'N' {
         if s[at + 1] == b'D' {
@@ -62,8 +62,8 @@ fn mark_rank(s: &[u8], at: usize) -> usize
 
 // The record at `at`, whose mark has rank m, behind n nodes, e edges, a aggregates and v virtual storages: 6, or its check.
 fn check_ranked(s: &[u8], at: usize, m: usize, n: usize, e: usize, a: usize, v: usize) -> Checked
-    requires { (at + 2 ≤ length s.now) × (m ≡ 1 → edgePlace n e ≤ length s.now) × (n ≤ nodeCeiling) }
-    ensures { (result ≡ checkRanked s.now at n e a v m) × NextWithin result (length s.now) }
+    requires { (at + 2 ≤ length s.now) × (m ≡ 1 → edge_place n e ≤ length s.now) × (n ≤ node_ceiling) }
+    ensures { (result ≡ check_ranked s.now at n e a v m) × NextWithin result (length s.now) }
 {
     if m == 0 {
         if NODE_CEILING <= n {
@@ -102,8 +102,8 @@ pub fn check_record(
     a: usize,
     v: usize,
 ) -> Record
-    requires { (at < length s.now) × (stage < 2 → edgePlace n e ≤ at) × (n ≤ nodeCeiling) }
-    ensures { (result ≡ checkRecord s.now at n e a v stage) × RecordPassed s.now at n e a v stage result }
+    requires { (at < length s.now) × (stage < 2 → edge_place n e ≤ at) × (n ≤ node_ceiling) }
+    ensures { (result ≡ check_record s.now at n e a v stage) × RecordPassed s.now at n e a v stage result }
 {
     if s.len() - at < 2 {
         return Record::Refused(1, at);

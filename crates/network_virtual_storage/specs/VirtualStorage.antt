@@ -1,86 +1,86 @@
 -- A `VS` record by its bytes: what it holds, where it ends, and its check, which answers where the next record starts or the refusal.
 -- Assumes nothing.
 use Rattle.std.specs.Prelude.{ℕ, ◌+◌, ◌*◌, List, eqb}
-use Rattle.layout.specs.Layout.{partCeiling}
+use Rattle.layout.specs.Layout.{part_ceiling}
 use Rattle.pywr.specs.Bytes.{byte, le16, le64}
-use Rattle.pywr.specs.Numbers.{ofPattern}
+use Rattle.pywr.specs.Numbers.{of_pattern}
 use Rattle.pywr.specs.Network.{Part, Period, VirtualStorage}
-use Rattle.pywr.specs.NetworkFile.{leastDate, mostDate}
-use Rattle.fields.specs.Field.{byteField, nodeField, checkFactor, fieldThen, checkThen}
-use Rattle.fields.specs.Records.{recordsAt, checkEach}
+use Rattle.pywr.specs.NetworkFile.{least_date, most_date}
+use Rattle.fields.specs.Field.{byte_field, node_field, check_factor, field_then, check_then}
+use Rattle.fields.specs.Records.{records_at, check_each}
 use Rattle.fields.specs.declared.Checked.{Checked}
 
 -- where its fields and its parts stand in it
-abbrev pub periodOffset : ℕ
-periodOffset = 2
+abbrev pub period_offset : ℕ
+period_offset = 2
 
-abbrev pub startMonthOffset : ℕ
-startMonthOffset = 3
+abbrev pub start_month_offset : ℕ
+start_month_offset = 3
 
-abbrev pub startDayOffset : ℕ
-startDayOffset = 4
+abbrev pub start_day_offset : ℕ
+start_day_offset = 4
 
-abbrev pub endMonthOffset : ℕ
-endMonthOffset = 5
+abbrev pub end_month_offset : ℕ
+end_month_offset = 5
 
-abbrev pub endDayOffset : ℕ
-endDayOffset = 6
+abbrev pub end_day_offset : ℕ
+end_day_offset = 6
 
-abbrev pub partCountOffset : ℕ
-partCountOffset = 7
+abbrev pub part_count_offset : ℕ
+part_count_offset = 7
 
-abbrev pub partsOffset : ℕ
-partsOffset = 8
+abbrev pub parts_offset : ℕ
+parts_offset = 8
 
--- a part: a node, then its factor; part k stands at `partPlace`
-abbrev pub storagePartLength : ℕ
-storagePartLength = 10
+-- a part: a node, then its factor; part k stands at `part_place`
+abbrev pub storage_part_length : ℕ
+storage_part_length = 10
 
-abbrev pub factorOffset : ℕ
-factorOffset = 2
+abbrev pub factor_offset : ℕ
+factor_offset = 2
 
-abbrev pub partPlace : ℕ → ℕ → ℕ
-partPlace at k = at + partsOffset + storagePartLength * k
+abbrev pub part_place : ℕ → ℕ → ℕ
+part_place at k = at + parts_offset + storage_part_length * k
 
 module _ (file : List ℕ) where
   abbrev pub part_at : ℕ → Part
-  part_at at = record { node = le16 file at; factor = ofPattern (le64 file (at + factorOffset)) }
+  part_at at = record { node = le16 file at; factor = of_pattern (le64 file (at + factor_offset)) }
 
-  abbrev pub periodAt : ℕ → Period
-  periodAt at =
+  abbrev pub period_at : ℕ → Period
+  period_at at =
       record {
-        always = eqb (byte file (at + periodOffset)) 0;
-        startMonth = byte file (at + startMonthOffset);
-        startDay = byte file (at + startDayOffset);
-        endMonth = byte file (at + endMonthOffset);
-        endDay = byte file (at + endDayOffset);
+        always = eqb (byte file (at + period_offset)) 0;
+        start_month = byte file (at + start_month_offset);
+        start_day = byte file (at + start_day_offset);
+        end_month = byte file (at + end_month_offset);
+        end_day = byte file (at + end_day_offset);
       }
 
-  abbrev pub virtualStorageAt : ℕ → VirtualStorage
-  virtualStorageAt at =
-      record { period = periodAt at; parts = recordsAt part_at (λ at. at + storagePartLength) (byte file (at + partCountOffset)) (at + partsOffset) }
+  abbrev pub virtual_storage_at : ℕ → VirtualStorage
+  virtual_storage_at at =
+      record { period = period_at at; parts = records_at part_at (λ at. at + storage_part_length) (byte file (at + part_count_offset)) (at + parts_offset) }
 
-  abbrev pub virtualStorageEnd : ℕ → ℕ
-  virtualStorageEnd at = partPlace at (byte file (at + partCountOffset))
+  abbrev pub virtual_storage_end : ℕ → ℕ
+  virtual_storage_end at = part_place at (byte file (at + part_count_offset))
 
 -- a part: a node and its factor
-unfoldable pub checkPart : List ℕ → ℕ → ℕ → ℕ → Checked
-checkPart file place nodes at =
-    fieldThen (nodeField file place at nodes) (λ n. checkThen (checkFactor file place (at + factorOffset)) (λ next. Checked.Next (at + storagePartLength)))
+unfoldable pub check_part : List ℕ → ℕ → ℕ → ℕ → Checked
+check_part file place nodes at =
+    field_then (node_field file place at nodes) (λ n. check_then (check_factor file place (at + factor_offset)) (λ next. Checked.Next (at + storage_part_length)))
 
 -- start month, start day, end month, end day of the record at `at`
-unfoldable pub checkDates : List ℕ → ℕ → ℕ → Checked
-checkDates file at period =
-    fieldThen (byteField file at (at + startMonthOffset) (leastDate period) (mostDate period 12)) (λ m.
-    fieldThen (byteField file at (at + startDayOffset) (leastDate period) (mostDate period 31)) (λ d.
-    fieldThen (byteField file at (at + endMonthOffset) (leastDate period) (mostDate period 12)) (λ m.
-    fieldThen (byteField file at (at + endDayOffset) (leastDate period) (mostDate period 31)) (λ d.
-    Checked.Next (at + partCountOffset)))))
+unfoldable pub check_dates : List ℕ → ℕ → ℕ → Checked
+check_dates file at period =
+    field_then (byte_field file at (at + start_month_offset) (least_date period) (most_date period 12)) (λ m.
+    field_then (byte_field file at (at + start_day_offset) (least_date period) (most_date period 31)) (λ d.
+    field_then (byte_field file at (at + end_month_offset) (least_date period) (most_date period 12)) (λ m.
+    field_then (byte_field file at (at + end_day_offset) (least_date period) (most_date period 31)) (λ d.
+    Checked.Next (at + part_count_offset)))))
 
 -- the record at `at`, its mark apart
-unfoldable pub checkVirtualStorage : List ℕ → ℕ → ℕ → Checked
-checkVirtualStorage file nodes at =
-    fieldThen (byteField file at (at + periodOffset) 0 1) (λ period.
-    checkThen (checkDates file at period) (λ next.
-    fieldThen (byteField file at (at + partCountOffset) 1 partCeiling) (λ n.
-    checkEach (checkPart file at nodes) n (at + partsOffset))))
+unfoldable pub check_virtual_storage : List ℕ → ℕ → ℕ → Checked
+check_virtual_storage file nodes at =
+    field_then (byte_field file at (at + period_offset) 0 1) (λ period.
+    check_then (check_dates file at period) (λ next.
+    field_then (byte_field file at (at + part_count_offset) 1 part_ceiling) (λ n.
+    check_each (check_part file at nodes) n (at + parts_offset))))

@@ -1,12 +1,12 @@
 // A virtual storage of the network file: the check of its `VS` record, and its fields.
 ghost use Rattle.std.specs.Prelude.{◌≡◌, true, ◌+◌, ◌<◌, ◌≤◌, length};
 ghost use Rattle.pywr.specs.Bytes.{byte, le64};
-ghost use Rattle.pywr.specs.Numbers.{isSmall};
-ghost use Rattle.pywr.specs.NetworkFile.{leastDate, mostDate};
+ghost use Rattle.pywr.specs.Numbers.{is_small};
+ghost use Rattle.pywr.specs.NetworkFile.{least_date, most_date};
 ghost use Rattle.fields.specs.Field.{NextWithin};
-ghost use Rattle.fields.specs.Records.{checkEach};
-ghost use Rattle.network_virtual_storage.specs.VirtualStorage.{part_at, periodAt, virtualStorageEnd, checkPart, checkDates, checkVirtualStorage, partCountOffset, partsOffset, factorOffset, partPlace};
-ghost use Rattle.network_virtual_storage.specs.PeriodOf.{periodOf};
+ghost use Rattle.fields.specs.Records.{check_each};
+ghost use Rattle.network_virtual_storage.specs.VirtualStorage.{part_at, period_at, virtual_storage_end, check_part, check_dates, check_virtual_storage, part_count_offset, parts_offset, factor_offset, part_place};
+ghost use Rattle.network_virtual_storage.specs.PeriodOf.{period_of};
 
 use fields::{Checked, Field};
 use layout::PART_CEILING;
@@ -43,7 +43,7 @@ pub struct Period {
 }
 
 fn least_date(period: usize) -> usize
-    ensures { result ≡ leastDate period }
+    ensures { result ≡ least_date period }
 {
     if period == 0 {
         return 0;
@@ -52,7 +52,7 @@ fn least_date(period: usize) -> usize
 }
 
 fn most_date(period: usize, most: usize) -> usize
-    ensures { result ≡ mostDate period most }
+    ensures { result ≡ most_date period most }
 {
     if period == 0 {
         return 0;
@@ -63,7 +63,7 @@ fn most_date(period: usize, most: usize) -> usize
 // `count` parts, from `at`.
 fn check_parts(s: &[u8], place: usize, nodes: usize, count: usize, at: usize) -> Checked
     requires { at ≤ length s.now }
-    ensures { (result ≡ checkEach (checkPart s.now place nodes) count at) × NextWithin result (length s.now) }
+    ensures { (result ≡ check_each (check_part s.now place nodes) count at) × NextWithin result (length s.now) }
 {
     let mut here = at;
     let mut i: usize = 0;
@@ -93,7 +93,7 @@ fn check_parts(s: &[u8], place: usize, nodes: usize, count: usize, at: usize) ->
 // The four date bytes of the record at `at`.
 fn check_dates(s: &[u8], at: usize, period: usize) -> Checked
     requires { at + 2 ≤ length s.now }
-    ensures { result ≡ checkDates s.now at period }
+    ensures { result ≡ check_dates s.now at period }
 {
     let least = least_date(period);
     let month = most_date(period, 12);
@@ -126,7 +126,7 @@ fn check_dates(s: &[u8], at: usize, period: usize) -> Checked
 // The virtual storage whose record stands at `at`, of a network with `nodes` nodes.
 pub fn check_virtual_storage(s: &[u8], nodes: usize, at: usize) -> Checked
     requires { at + 2 ≤ length s.now }
-    ensures { (result ≡ checkVirtualStorage s.now nodes at) × NextWithin result (length s.now) }
+    ensures { (result ≡ check_virtual_storage s.now nodes at) × NextWithin result (length s.now) }
 {
     let k = fields::byte_field(s, at, at + PERIOD_OFFSET, 0, 1);
     match k {
@@ -149,8 +149,8 @@ pub fn check_virtual_storage(s: &[u8], nodes: usize, at: usize) -> Checked
 
 // The fields of the record at `at`, and where it ends.
 pub fn active_period(s: &[u8], at: usize) -> Period
-    requires { at + partsOffset ≤ length s.now }
-    ensures { periodOf result ≡ periodAt s.now at }
+    requires { at + parts_offset ≤ length s.now }
+    ensures { period_of result ≡ period_at s.now at }
 {
     Period {
         always: s[at + PERIOD_OFFSET] == 0,
@@ -162,30 +162,30 @@ pub fn active_period(s: &[u8], at: usize) -> Period
 }
 
 pub fn part_count(s: &[u8], at: usize) -> usize
-    requires { at + partsOffset ≤ length s.now }
-    ensures { (result ≡ byte s.now (at + partCountOffset)) × (result < 256) }
+    requires { at + parts_offset ≤ length s.now }
+    ensures { (result ≡ byte s.now (at + part_count_offset)) × (result < 256) }
 {
     widths::wide8(s[at + PART_COUNT_OFFSET])
 }
 
 pub fn virtual_storage_end(s: &[u8], at: usize) -> usize
-    requires { at + partsOffset ≤ length s.now }
-    ensures { result ≡ virtualStorageEnd s.now at }
+    requires { at + parts_offset ≤ length s.now }
+    ensures { result ≡ virtual_storage_end s.now at }
 {
     at + PARTS_OFFSET + STORAGE_PART_LENGTH * part_count(s, at)
 }
 
 // Part k of the record at `at`: its node, and its factor, whose pattern passed.
 pub fn part_node(s: &[u8], at: usize, k: usize) -> NodeIndex
-    requires { (virtualStorageEnd s.now at ≤ length s.now) × (k < byte s.now (at + partCountOffset)) }
-    ensures { result.0 ≡ (part_at s.now (partPlace at k)).node }
+    requires { (virtual_storage_end s.now at ≤ length s.now) × (k < byte s.now (at + part_count_offset)) }
+    ensures { result.0 ≡ (part_at s.now (part_place at k)).node }
 {
     NodeIndex(fields::u16_at(s, at + PARTS_OFFSET + STORAGE_PART_LENGTH * k))
 }
 
 pub fn part_factor(s: &[u8], at: usize, k: usize) -> f64
-    requires { (virtualStorageEnd s.now at ≤ length s.now) × (k < byte s.now (at + partCountOffset)) × (isSmall (le64 s.now (partPlace at k + factorOffset)) ≡ true) }
-    ensures { result ≡ (part_at s.now (partPlace at k)).factor }
+    requires { (virtual_storage_end s.now at ≤ length s.now) × (k < byte s.now (at + part_count_offset)) × (is_small (le64 s.now (part_place at k + factor_offset)) ≡ true) }
+    ensures { result ≡ (part_at s.now (part_place at k)).factor }
 {
     let b = fields::u64_at(
         s,

@@ -1,10 +1,10 @@
 // The nine runs of a store as one value, for a program that holds one store: the build, the step, the listing and the rows' makers over it.
 ghost use Rattle.std.specs.Prelude.{◌≡◌, length};
 ghost use Rattle.pywr.specs.Cases.{blank};
-ghost use Rattle.pywr.specs.Store.{rowCount};
-ghost use Rattle.listing.specs.Listing.{programmeText};
-ghost use Rattle.listing_makers.specs.Makers.{makersText, makerText};
-ghost use Rattle.program_store.specs.ProgramStore.{store_of, Built, Stepped, answerText, makersAnswerText, makerAnswerText};
+ghost use Rattle.pywr.specs.Store.{row_count};
+ghost use Rattle.listing.specs.Listing.{programme_text};
+ghost use Rattle.listing_makers.specs.Makers.{makers_text, maker_text};
+ghost use Rattle.program_store.specs.ProgramStore.{store_of, Built, Stepped, answer_text, makers_answer_text, maker_answer_text};
 
 use layout::{
     COLUMN_CEILING, ELEMENT_CEILING, NUMBERS_LENGTH, ROW_CEILING, ROW_STARTS_LENGTH, SHAPE_LENGTH,
@@ -136,7 +136,7 @@ pub fn step(file: &[u8], old: Runs) -> Called
 
 // Lists the programme.
 pub fn list(runs: Runs) -> Output
-    ensures { result.bytes ≡ length (programmeText (store_of runs)) }
+    ensures { result.bytes ≡ length (programme_text (store_of runs)) }
 {
     let col_lower = runs.col_lower;
     let col_upper = runs.col_upper;
@@ -162,7 +162,7 @@ pub fn list(runs: Runs) -> Output
 
 // Lists what a call answered: the programme after it, or the refusal.
 pub fn list_answer(answer: Answer, runs: Runs) -> Output
-    ensures { result.bytes ≡ length (answerText answer (store_of runs)) }
+    ensures { result.bytes ≡ length (answer_text answer (store_of runs)) }
 {
     match answer {
         Answer::Refused(number, place) => listing::list_refusal(number, place),
@@ -171,14 +171,14 @@ pub fn list_answer(answer: Answer, runs: Runs) -> Output
 }
 
 fn name_rows(runs: Runs) -> Output
-    ensures { result.bytes ≡ length (makersText (store_of runs) (rowCount (store_of runs))) }
+    ensures { result.bytes ≡ length (makers_text (store_of runs) (row_count (store_of runs))) }
 {
     let shape = runs.shape;
     listing_makers::list_makers(&shape)
 }
 
 fn name_row(runs: Runs, row: usize) -> Output
-    ensures { result.bytes ≡ length (makerText (store_of runs) row) }
+    ensures { result.bytes ≡ length (maker_text (store_of runs) row) }
 {
     let shape = runs.shape;
     listing_makers::list_maker(&shape, row)
@@ -186,7 +186,7 @@ fn name_row(runs: Runs, row: usize) -> Output
 
 // Names every row by its maker after a call, or says the refusal.
 pub fn name_answer(answer: Answer, runs: Runs) -> Output
-    ensures { result.bytes ≡ length (makersAnswerText answer (store_of runs)) }
+    ensures { result.bytes ≡ length (makers_answer_text answer (store_of runs)) }
 {
     match answer {
         Answer::Refused(number, place) => listing::list_refusal(number, place),
@@ -196,7 +196,7 @@ pub fn name_answer(answer: Answer, runs: Runs) -> Output
 
 // Names one row by its maker after a call, or says the refusal: of the call, or of a row that is not there.
 pub fn name_row_answer(answer: Answer, runs: Runs, row: usize) -> Output
-    ensures { result.bytes ≡ length (makerAnswerText answer (store_of runs) row) }
+    ensures { result.bytes ≡ length (maker_answer_text answer (store_of runs) row) }
 {
     match answer {
         Answer::Refused(number, place) => listing::list_refusal(number, place),

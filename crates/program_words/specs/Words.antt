@@ -8,15 +8,15 @@ abbrev pub AsksHelp : List ℕ → Type 0
 AsksHelp word = (word ≡ 45 ∷ 45 ∷ 104 ∷ 101 ∷ 108 ∷ 112 ∷ []) ⊎ (word ≡ 45 ∷ 104 ∷ [])
 
 -- two bytes or more, the first of them "-"
-unfoldable pub isOption : List ℕ → Bool
-isOption word = leb 2 (length word) && eqb (get_or word 0 0) 45
+unfoldable pub is_option : List ℕ → Bool
+is_option word = leb 2 (length word) && eqb (get_or word 0 0) 45
 
 -- a decimal number has one digit or more and nothing else, and is at most 999,999: the number whose digits so far have this value, and whose other digits are these
-unfoldable pub numberFrom : ℕ → List ℕ → Number
-numberFrom value [] = Value value
-numberFrom value (b ∷ rest) =
-    cond (ltb b 48) NotDecimal (cond (ltb 57 b) NotDecimal (cond (ltb 99999 value) NotDecimal (numberFrom (10 * value + (b - 48)) rest)))
+unfoldable pub number_from : ℕ → List ℕ → Number
+number_from value [] = Value value
+number_from value (b ∷ rest) =
+    cond (ltb b 48) NotDecimal (cond (ltb 57 b) NotDecimal (cond (ltb 99999 value) NotDecimal (number_from (10 * value + (b - 48)) rest)))
 
 unfoldable pub number_in : List ℕ → Number
 number_in [] = NotDecimal
-number_in (b ∷ rest) = numberFrom 0 (b ∷ rest)
+number_in (b ∷ rest) = number_from 0 (b ∷ rest)

@@ -1,6 +1,6 @@
 // The words that a program is started with: what they ask for, and a number among them.
 ghost use Rattle.std.specs.Prelude.{◌≡◌, true};
-ghost use Rattle.program_words.specs.Words.{AsksHelp, isOption, number_in};
+ghost use Rattle.program_words.specs.Words.{AsksHelp, is_option, number_in};
 
 use widths::wide8;
 
@@ -11,7 +11,7 @@ pub fn asks_help(word: &[u8]) -> bool
 }
 
 pub fn is_option(word: &[u8]) -> bool
-    ensures { result ≡ isOption word.now }
+    ensures { result ≡ is_option word.now }
 {
     if word.len() < 2 {
         return false;

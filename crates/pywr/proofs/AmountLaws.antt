@@ -12,49 +12,49 @@ use lib.Dec.{eqb}
 use lib.Ieee.{Float, neg}
 use Rattle.doubles.specs.Units.{mag}
 use Rattle.doubles.proofs.Integers.{mul-addℤ}
-use Rattle.doubles.proofs.Sums.{one-grain}
+use Rattle.doubles.proofs.Sums.{one_grain}
 use Rattle.pywr.specs.Numbers.{one64}
-use Rattle.pywr.specs.Network.{output, storage, Edge, Aggregate, Part, VirtualStorage, Network, kind_of, keepIf, source, target}
-use Rattle.pywr.specs.ColEdgeMap.{columns, MappedEdge, withColumns, mappedEdges}
-use Rattle.pywr.specs.Rows.{Element, addOn, ColumnMap, columnMap, columnsWith, columnsInto, columnsOutOf, addNode}
-use Rattle.pywr.specs.Rows.{nodeRow, massRow, addNodes, addSetsOf, aggregateRow, addParts, virtualStorageRow}
-use Rattle.pywr.specs.Plans.{exact, Plan, unitsInOne, signed, timesOne}
-use Rattle.pywr.specs.Allows.{flowWith, inflow, outflow, nodeAmount, nodesAmount, setsAmount, partsSum}
-use Rattle.pywr.specs.Admits.{onColumn, rowSum}
-use Rattle.pywr.proofs.SumLaws.{Upto, AllUpto, weighed, row-weighed, onColumns, all-wider}
-use Rattle.pywr.proofs.WeightLaws.{Factors, nodeRoom, nodeWeight, partsWeight, node-upto, node-weighed, both-weighed, parts-weighed}
+use Rattle.pywr.specs.Network.{output, storage, Edge, Aggregate, Part, VirtualStorage, Network, kind_of, keep_if, source, target}
+use Rattle.pywr.specs.ColEdgeMap.{columns, MappedEdge, with_columns, mapped_edges}
+use Rattle.pywr.specs.Rows.{Element, add_on, ColumnMap, column_map, columns_with, columns_into, columns_out_of, add_node}
+use Rattle.pywr.specs.Rows.{node_row, mass_row, add_nodes, add_sets_of, aggregate_row, add_parts, virtual_storage_row}
+use Rattle.pywr.specs.Plans.{exact, Plan, units_in_one, signed, times_one}
+use Rattle.pywr.specs.Allows.{flow_with, inflow, outflow, node_amount, nodes_amount, sets_amount, parts_sum}
+use Rattle.pywr.specs.Admits.{on_column, row_sum}
+use Rattle.pywr.proofs.SumLaws.{Upto, AllUpto, weighed, row_weighed, on_columns, all_wider}
+use Rattle.pywr.proofs.WeightLaws.{Factors, node_room, node_weight, parts_weight, node_upto, node_weighed, both_weighed, parts_weighed}
 
 -- ---- 1.0
 
-pub one-upto : Upto 0 1 one64
+pub one_upto : Upto 0 1 one64
 unfolding one64 mag
-one-upto = record { grain = one-grain false; most = le_refl (1 * 2 ^ 1074) }
+one_upto = record { grain = one_grain false; most = le_refl (1 * 2 ^ 1074) }
 
-pub one-exact : exact one64 ≡ pos unitsInOne
+pub one_exact : exact one64 ≡ pos units_in_one
 unfolding exact one64 signed
-one-exact = ap pos (ap (λ (k : ℕ). k / 1) (one-mul unitsInOne) ∙ div-one unitsInOne)
+one_exact = ap pos (ap (λ (k : ℕ). k / 1) (one-mul units_in_one) ∙ div-one units_in_one)
 
 -- ---- the columns of a node's edges carry the flow of those edges
 
-with-end : (b : Bool) (weight : ℕ → ℕ) (c a : ℕ) (cs : List ℕ) → weight c ≡ a → onColumns weight (keepIf b c cs) ≡ cond b a 0 + onColumns weight cs
-unfolding keepIf onColumns
-with-end true weight c a cs e = ap (λ (n : ℕ). n + onColumns weight cs) e
-with-end false weight c a cs e = sym (zero-add (onColumns weight cs))
+with_end : (b : Bool) (weight : ℕ → ℕ) (c a : ℕ) (cs : List ℕ) → weight c ≡ a → on_columns weight (keep_if b c cs) ≡ cond b a 0 + on_columns weight cs
+unfolding keep_if on_columns
+with_end true weight c a cs e = ap (λ (n : ℕ). n + on_columns weight cs) e
+with_end false weight c a cs e = sym (zero-add (on_columns weight cs))
 
 module _ (f : ColumnMap) (plan : Plan) where
-  pub flow-columns : (pe : MappedEdge → ℕ) (ee : Edge → ℕ) → ((x : Edge) (c : ℕ) → pe (record { from = x.from; to = x.to; column = c }) ≡ ee x)
+  pub flow_columns : (pe : MappedEdge → ℕ) (ee : Edge → ℕ) → ((x : Edge) (c : ℕ) → pe (record { from = x.from; to = x.to; column = c }) ≡ ee x)
       → (n : ℕ) (es : List Edge) (cs : List (Option ℕ)) (e : ℕ) → length es ≡ length cs
-      → ((i : ℕ) (p : MappedEdge) → get_elem? (withColumns es cs) i ≡ some p → onColumn f plan p.column ≡ plan.amount (e + i))
-      → onColumns (onColumn f plan) (columnsWith pe n (withColumns es cs)) ≡ flowWith ee plan n e es
-  unfolding withColumns columnsWith flowWith onColumns
-  flow-columns pe ee same n [] cs e l h = refl
-  flow-columns pe ee same n (x ∷ xs) [] e l h = let z : suc (length xs) ≡ 0 = l in absurd (omega arith)
-  flow-columns pe ee same n (x ∷ xs) (c ∷ cs) e l h =
+      → ((i : ℕ) (p : MappedEdge) → get_elem? (with_columns es cs) i ≡ some p → on_column f plan p.column ≡ plan.amount (e + i))
+      → on_columns (on_column f plan) (columns_with pe n (with_columns es cs)) ≡ flow_with ee plan n e es
+  unfolding with_columns columns_with flow_with on_columns
+  flow_columns pe ee same n [] cs e l h = refl
+  flow_columns pe ee same n (x ∷ xs) [] e l h = let z : suc (length xs) ≡ 0 = l in absurd (omega arith)
+  flow_columns pe ee same n (x ∷ xs) (c ∷ cs) e l h =
       let k : ℕ = get_or c 0 in
       let p : MappedEdge = record { from = x.from; to = x.to; column = k } in
       let l' : length xs ≡ length cs = (let m : suc (length xs) ≡ suc (length cs) = l in omega arith) in
-      let ih = flow-columns pe ee same n xs cs (suc e) l' (λ i q r. h (suc i) q r ∙ ap plan.amount (add-suc e i ∙ sym (suc-add e i))) in
-      with-end (eqb (pe p) n) (onColumn f plan) k (plan.amount e) (columnsWith pe n (withColumns xs cs)) (h 0 p refl ∙ ap plan.amount (add-zero e))
+      let ih = flow_columns pe ee same n xs cs (suc e) l' (λ i q r. h (suc i) q r ∙ ap plan.amount (add-suc e i ∙ sym (suc-add e i))) in
+      with_end (eqb (pe p) n) (on_column f plan) k (plan.amount e) (columns_with pe n (with_columns xs cs)) (h 0 p refl ∙ ap plan.amount (add-zero e))
       ∙ ap₂ (λ (t : Bool) (m : ℕ). cond t (plan.amount e) 0 + m) (ap (λ (m : ℕ). eqb m n) (same x k)) ih
 
 -- how many nodes the sets list
@@ -64,115 +64,115 @@ memberships (s ∷ ss) = length s + memberships ss
 
 -- each edge's column carries the edge's amount
 abbrev pub Carries : Network → Plan → Type 0
-Carries net plan = (i : ℕ) (p : MappedEdge) → get_elem? (mappedEdges net) i ≡ some p → onColumn (columnMap net) plan p.column ≡ plan.amount i
+Carries net plan = (i : ℕ) (p : MappedEdge) → get_elem? (mapped_edges net) i ≡ some p → on_column (column_map net) plan p.column ≡ plan.amount i
 
 module _ (net : Network) (plan : Plan) (long : length net.edges ≡ length (columns net).of) (carries : Carries net plan) where
   abbrev f : ColumnMap
-  f = columnMap net
+  f = column_map net
 
-  into-flow : (n : ℕ) → onColumns (onColumn f plan) (columnsInto n (mappedEdges net)) ≡ inflow net plan n
-  unfolding columnsInto inflow mappedEdges
-  into-flow n =
-      flow-columns f plan (λ p. p.to) target (λ x c. refl) n net.edges (columns net).of 0 long (λ i p h. carries i p h ∙ ap plan.amount (sym (zero-add i)))
+  into_flow : (n : ℕ) → on_columns (on_column f plan) (columns_into n (mapped_edges net)) ≡ inflow net plan n
+  unfolding columns_into inflow mapped_edges
+  into_flow n =
+      flow_columns f plan (λ p. p.to) target (λ x c. refl) n net.edges (columns net).of 0 long (λ i p h. carries i p h ∙ ap plan.amount (sym (zero-add i)))
 
-  out-flow : (n : ℕ) → onColumns (onColumn f plan) (columnsOutOf n (mappedEdges net)) ≡ outflow net plan n
-  unfolding columnsOutOf outflow mappedEdges
-  out-flow n =
-      flow-columns f plan (λ p. p.from) source (λ x c. refl) n net.edges (columns net).of 0 long (λ i p h. carries i p h ∙ ap plan.amount (sym (zero-add i)))
+  out_flow : (n : ℕ) → on_columns (on_column f plan) (columns_out_of n (mapped_edges net)) ≡ outflow net plan n
+  unfolding columns_out_of outflow mapped_edges
+  out_flow n =
+      flow_columns f plan (λ p. p.from) source (λ x c. refl) n net.edges (columns net).of 0 long (λ i p h. carries i p h ∙ ap plan.amount (sym (zero-add i)))
 
   -- a node's row is weighed by the node's amount
-  node-weight : (n : ℕ) → nodeWeight (onColumn f plan) f n ≡ nodeAmount net plan n
-  unfolding nodeWeight nodeAmount columnMap
-  node-weight n =
-      ap₂ (λ (i o : ℕ). cond (eqb (kind_of net.nodes n) output) (pos i) (cond (eqb (kind_of net.nodes n) storage) (pos i -ℤ pos o) (pos o))) (into-flow n) (out-flow n)
+  node_weight_lem : (n : ℕ) → node_weight (on_column f plan) f n ≡ node_amount net plan n
+  unfolding node_weight node_amount column_map
+  node_weight_lem n =
+      ap₂ (λ (i o : ℕ). cond (eqb (kind_of net.nodes n) output) (pos i) (cond (eqb (kind_of net.nodes n) storage) (pos i -ℤ pos o) (pos o))) (into_flow n) (out_flow n)
 
-  module _ {g : ℕ} (n : ℕ) (x : Float) (m : ℕ) (u : Upto g m x) (b : ℕ) (row : List Element) (us : AllUpto g b row) (room : b + nodeRoom net m < 2 ^ 53) where
-    pub node-sum : rowSum f plan (addNode f n x row) ≡ exact x *ℤ nodeAmount net plan n +ℤ rowSum f plan row
-    node-sum =
-        row-weighed f plan (addNode f n x row)
-        ∙ node-weighed net long n x m u b row us room (onColumn f plan)
-        ∙ ap₂ (λ (a r : ℤ). exact x *ℤ a +ℤ r) (node-weight n) (sym (row-weighed f plan row))
+  module _ {g : ℕ} (n : ℕ) (x : Float) (m : ℕ) (u : Upto g m x) (b : ℕ) (row : List Element) (us : AllUpto g b row) (room : b + node_room net m < 2 ^ 53) where
+    pub node_sum : row_sum f plan (add_node f n x row) ≡ exact x *ℤ node_amount net plan n +ℤ row_sum f plan row
+    node_sum =
+        row_weighed f plan (add_node f n x row)
+        ∙ node_weighed net long n x m u b row us room (on_column f plan)
+        ∙ ap₂ (λ (a r : ℤ). exact x *ℤ a +ℤ r) (node_weight_lem n) (sym (row_weighed f plan row))
 
-    both-sum : rowSum f plan (addOn (columnsOutOf n (mappedEdges net)) (neg x) (addOn (columnsInto n (mappedEdges net)) x row))
-        ≡ exact x *ℤ (pos (inflow net plan n) -ℤ pos (outflow net plan n)) +ℤ rowSum f plan row
-    both-sum =
-        row-weighed f plan (addOn (columnsOutOf n (mappedEdges net)) (neg x) (addOn (columnsInto n (mappedEdges net)) x row))
-        ∙ both-weighed net long n x m u b row us room (onColumn f plan)
-        ∙ ap₂ (λ (a r : ℤ). exact x *ℤ a +ℤ r) (ap₂ (λ (i o : ℕ). pos i -ℤ pos o) (into-flow n) (out-flow n)) (sym (row-weighed f plan row))
+    both_sum : row_sum f plan (add_on (columns_out_of n (mapped_edges net)) (neg x) (add_on (columns_into n (mapped_edges net)) x row))
+        ≡ exact x *ℤ (pos (inflow net plan n) -ℤ pos (outflow net plan n)) +ℤ row_sum f plan row
+    both_sum =
+        row_weighed f plan (add_on (columns_out_of n (mapped_edges net)) (neg x) (add_on (columns_into n (mapped_edges net)) x row))
+        ∙ both_weighed net long n x m u b row us room (on_column f plan)
+        ∙ ap₂ (λ (a r : ℤ). exact x *ℤ a +ℤ r) (ap₂ (λ (i o : ℕ). pos i -ℤ pos o) (into_flow n) (out_flow n)) (sym (row_weighed f plan row))
 
   -- ---- lists of nodes, and of sets
 
-  pub nodes-sum : (ns : List ℕ) (b : ℕ) (row : List Element) → AllUpto 0 b row → b + length ns * nodeRoom net 1 < 2 ^ 53
-      → rowSum f plan (addNodes f ns row) ≡ pos unitsInOne *ℤ nodesAmount net plan ns +ℤ rowSum f plan row
-  unfolding addNodes nodesAmount
-  nodes-sum [] b row us h = sym (ap (λ (z : ℤ). z +ℤ rowSum f plan row) (*ℤ-zero (pos unitsInOne)) ∙ +ℤ_idl (rowSum f plan row))
-  nodes-sum (n ∷ ns) b row us h =
-      let t : suc (length ns) * nodeRoom net 1 ≡ length ns * nodeRoom net 1 + nodeRoom net 1 = suc-mul (length ns) (nodeRoom net 1) in
-      let r : ℤ = rowSum f plan row in
-      let one = node-sum n one64 1 one-upto b row us (omega arith) in
-      nodes-sum ns (b + nodeRoom net 1) (addNode f n one64 row) (node-upto net long n one64 1 one-upto b row us (omega arith)) (omega arith)
-      ∙ ap (λ (z : ℤ). pos unitsInOne *ℤ nodesAmount net plan ns +ℤ z) (one ∙ ap (λ (z : ℤ). z *ℤ nodeAmount net plan n +ℤ r) one-exact)
-      ∙ sym (+ℤ_assoc (pos unitsInOne *ℤ nodesAmount net plan ns) (pos unitsInOne *ℤ nodeAmount net plan n) r)
+  pub nodes_sum : (ns : List ℕ) (b : ℕ) (row : List Element) → AllUpto 0 b row → b + length ns * node_room net 1 < 2 ^ 53
+      → row_sum f plan (add_nodes f ns row) ≡ pos units_in_one *ℤ nodes_amount net plan ns +ℤ row_sum f plan row
+  unfolding add_nodes nodes_amount
+  nodes_sum [] b row us h = sym (ap (λ (z : ℤ). z +ℤ row_sum f plan row) (*ℤ-zero (pos units_in_one)) ∙ +ℤ_idl (row_sum f plan row))
+  nodes_sum (n ∷ ns) b row us h =
+      let t : suc (length ns) * node_room net 1 ≡ length ns * node_room net 1 + node_room net 1 = suc-mul (length ns) (node_room net 1) in
+      let r : ℤ = row_sum f plan row in
+      let one = node_sum n one64 1 one_upto b row us (omega arith) in
+      nodes_sum ns (b + node_room net 1) (add_node f n one64 row) (node_upto net long n one64 1 one_upto b row us (omega arith)) (omega arith)
+      ∙ ap (λ (z : ℤ). pos units_in_one *ℤ nodes_amount net plan ns +ℤ z) (one ∙ ap (λ (z : ℤ). z *ℤ node_amount net plan n +ℤ r) one_exact)
+      ∙ sym (+ℤ_assoc (pos units_in_one *ℤ nodes_amount net plan ns) (pos units_in_one *ℤ node_amount net plan n) r)
       ∙ ap (λ (z : ℤ). z +ℤ r)
-      (+ℤ_comm (pos unitsInOne *ℤ nodesAmount net plan ns) (pos unitsInOne *ℤ nodeAmount net plan n) ∙ sym (mul-addℤ (pos unitsInOne) (nodeAmount net plan n) (nodesAmount net plan ns)))
+      (+ℤ_comm (pos units_in_one *ℤ nodes_amount net plan ns) (pos units_in_one *ℤ node_amount net plan n) ∙ sym (mul-addℤ (pos units_in_one) (node_amount net plan n) (nodes_amount net plan ns)))
 
-  pub nodes-upto : (ns : List ℕ) (b : ℕ) (row : List Element) → AllUpto 0 b row → b + length ns * nodeRoom net 1 < 2 ^ 53 → AllUpto 0 (b + length ns * nodeRoom net 1) (addNodes f ns row)
-  unfolding addNodes
-  nodes-upto [] b row us h = all-wider b (b + 0 * nodeRoom net 1) row (omega arith) us
-  nodes-upto (n ∷ ns) b row us h =
-      let t : suc (length ns) * nodeRoom net 1 ≡ length ns * nodeRoom net 1 + nodeRoom net 1 = suc-mul (length ns) (nodeRoom net 1) in
-      all-wider (b + nodeRoom net 1 + length ns * nodeRoom net 1) (b + suc (length ns) * nodeRoom net 1) (addNodes f ns (addNode f n one64 row)) (omega arith)
-      (nodes-upto ns (b + nodeRoom net 1) (addNode f n one64 row) (node-upto net long n one64 1 one-upto b row us (omega arith)) (omega arith))
+  pub nodes_upto : (ns : List ℕ) (b : ℕ) (row : List Element) → AllUpto 0 b row → b + length ns * node_room net 1 < 2 ^ 53 → AllUpto 0 (b + length ns * node_room net 1) (add_nodes f ns row)
+  unfolding add_nodes
+  nodes_upto [] b row us h = all_wider b (b + 0 * node_room net 1) row (omega arith) us
+  nodes_upto (n ∷ ns) b row us h =
+      let t : suc (length ns) * node_room net 1 ≡ length ns * node_room net 1 + node_room net 1 = suc-mul (length ns) (node_room net 1) in
+      all_wider (b + node_room net 1 + length ns * node_room net 1) (b + suc (length ns) * node_room net 1) (add_nodes f ns (add_node f n one64 row)) (omega arith)
+      (nodes_upto ns (b + node_room net 1) (add_node f n one64 row) (node_upto net long n one64 1 one_upto b row us (omega arith)) (omega arith))
 
-  pub sets-sum : (ss : List (List ℕ)) (b : ℕ) (row : List Element) → AllUpto 0 b row → b + memberships ss * nodeRoom net 1 < 2 ^ 53
-      → rowSum f plan (addSetsOf f ss row) ≡ pos unitsInOne *ℤ setsAmount net plan ss +ℤ rowSum f plan row
-  unfolding addSetsOf setsAmount memberships
-  sets-sum [] b row us h = sym (ap (λ (z : ℤ). z +ℤ rowSum f plan row) (*ℤ-zero (pos unitsInOne)) ∙ +ℤ_idl (rowSum f plan row))
-  sets-sum (s ∷ ss) b row us h =
-      let k : ℕ = nodeRoom net 1 in
+  pub sets_sum : (ss : List (List ℕ)) (b : ℕ) (row : List Element) → AllUpto 0 b row → b + memberships ss * node_room net 1 < 2 ^ 53
+      → row_sum f plan (add_sets_of f ss row) ≡ pos units_in_one *ℤ sets_amount net plan ss +ℤ row_sum f plan row
+  unfolding add_sets_of sets_amount memberships
+  sets_sum [] b row us h = sym (ap (λ (z : ℤ). z +ℤ row_sum f plan row) (*ℤ-zero (pos units_in_one)) ∙ +ℤ_idl (row_sum f plan row))
+  sets_sum (s ∷ ss) b row us h =
+      let k : ℕ = node_room net 1 in
       let t : (length s + memberships ss) * k ≡ length s * k + memberships ss * k = add-mul (length s) (memberships ss) k in
-      let r : ℤ = rowSum f plan row in
-      sets-sum ss (b + length s * k) (addNodes f s row) (nodes-upto s b row us (omega arith)) (omega arith)
-      ∙ ap (λ (z : ℤ). pos unitsInOne *ℤ setsAmount net plan ss +ℤ z) (nodes-sum s b row us (omega arith))
-      ∙ sym (+ℤ_assoc (pos unitsInOne *ℤ setsAmount net plan ss) (pos unitsInOne *ℤ nodesAmount net plan s) r)
+      let r : ℤ = row_sum f plan row in
+      sets_sum ss (b + length s * k) (add_nodes f s row) (nodes_upto s b row us (omega arith)) (omega arith)
+      ∙ ap (λ (z : ℤ). pos units_in_one *ℤ sets_amount net plan ss +ℤ z) (nodes_sum s b row us (omega arith))
+      ∙ sym (+ℤ_assoc (pos units_in_one *ℤ sets_amount net plan ss) (pos units_in_one *ℤ nodes_amount net plan s) r)
       ∙ ap (λ (z : ℤ). z +ℤ r)
-      (+ℤ_comm (pos unitsInOne *ℤ setsAmount net plan ss) (pos unitsInOne *ℤ nodesAmount net plan s) ∙ sym (mul-addℤ (pos unitsInOne) (nodesAmount net plan s) (setsAmount net plan ss)))
+      (+ℤ_comm (pos units_in_one *ℤ sets_amount net plan ss) (pos units_in_one *ℤ nodes_amount net plan s) ∙ sym (mul-addℤ (pos units_in_one) (nodes_amount net plan s) (sets_amount net plan ss)))
 
   -- ---- a virtual storage's parts
 
-  parts-weight : (ps : List Part) → partsWeight (onColumn f plan) f ps ≡ partsSum net plan ps
-  unfolding partsWeight partsSum
-  parts-weight [] = refl
-  parts-weight (p ∷ ps) = ap₂ (λ (a r : ℤ). neg_ℤ (exact p.factor) *ℤ a +ℤ r) (node-weight p.node) (parts-weight ps)
+  parts_weight_lem : (ps : List Part) → parts_weight (on_column f plan) f ps ≡ parts_sum net plan ps
+  unfolding parts_weight parts_sum
+  parts_weight_lem [] = refl
+  parts_weight_lem (p ∷ ps) = ap₂ (λ (a r : ℤ). neg_ℤ (exact p.factor) *ℤ a +ℤ r) (node_weight_lem p.node) (parts_weight_lem ps)
 
   -- ---- the rows
 
-  pub aggregate-sum : (a : Aggregate) → memberships a.sets * nodeRoom net 1 < 2 ^ 53 → rowSum f plan (aggregateRow f a) ≡ timesOne (setsAmount net plan a.sets)
-  unfolding aggregateRow timesOne rowSum
-  aggregate-sum a h = sets-sum a.sets 0 [] AllUpto.none (omega arith) ∙ +ℤ_idr (pos unitsInOne *ℤ setsAmount net plan a.sets) ∙ *ℤ_comm (pos unitsInOne) (setsAmount net plan a.sets)
+  pub aggregate_sum : (a : Aggregate) → memberships a.sets * node_room net 1 < 2 ^ 53 → row_sum f plan (aggregate_row f a) ≡ times_one (sets_amount net plan a.sets)
+  unfolding aggregate_row times_one row_sum
+  aggregate_sum a h = sets_sum a.sets 0 [] AllUpto.none (omega arith) ∙ +ℤ_idr (pos units_in_one *ℤ sets_amount net plan a.sets) ∙ *ℤ_comm (pos units_in_one) (sets_amount net plan a.sets)
 
-  pub virtual-storage-sum : {g : ℕ} (m : ℕ) (v : VirtualStorage) → Factors g m v.parts → length v.parts * nodeRoom net m < 2 ^ 53
-      → rowSum f plan (virtualStorageRow f v) ≡ partsSum net plan v.parts
-  unfolding virtualStorageRow weighed
-  virtual-storage-sum m v fs h =
-      row-weighed f plan (addParts f v.parts [])
-      ∙ parts-weighed net long (onColumn f plan) m v.parts fs 0 [] AllUpto.none (omega arith)
-      ∙ +ℤ_idr (partsWeight (onColumn f plan) f v.parts)
-      ∙ parts-weight v.parts
+  pub virtual_storage_sum : {g : ℕ} (m : ℕ) (v : VirtualStorage) → Factors g m v.parts → length v.parts * node_room net m < 2 ^ 53
+      → row_sum f plan (virtual_storage_row f v) ≡ parts_sum net plan v.parts
+  unfolding virtual_storage_row weighed
+  virtual_storage_sum m v fs h =
+      row_weighed f plan (add_parts f v.parts [])
+      ∙ parts_weighed net long (on_column f plan) m v.parts fs 0 [] AllUpto.none (omega arith)
+      ∙ +ℤ_idr (parts_weight (on_column f plan) f v.parts)
+      ∙ parts_weight_lem v.parts
 
-  pub nodeRow-sum : (n : ℕ) → nodeRoom net 1 < 2 ^ 53 → rowSum f plan (nodeRow f n) ≡ timesOne (nodeAmount net plan n)
-  unfolding nodeRow timesOne rowSum
-  nodeRow-sum n h =
-      node-sum n one64 1 one-upto 0 [] AllUpto.none (omega arith)
-      ∙ +ℤ_idr (exact one64 *ℤ nodeAmount net plan n)
-      ∙ ap (λ (z : ℤ). z *ℤ nodeAmount net plan n) one-exact
-      ∙ *ℤ_comm (pos unitsInOne) (nodeAmount net plan n)
+  pub node_row_sum : (n : ℕ) → node_room net 1 < 2 ^ 53 → row_sum f plan (node_row f n) ≡ times_one (node_amount net plan n)
+  unfolding node_row times_one row_sum
+  node_row_sum n h =
+      node_sum n one64 1 one_upto 0 [] AllUpto.none (omega arith)
+      ∙ +ℤ_idr (exact one64 *ℤ node_amount net plan n)
+      ∙ ap (λ (z : ℤ). z *ℤ node_amount net plan n) one_exact
+      ∙ *ℤ_comm (pos units_in_one) (node_amount net plan n)
 
   -- a mass row: inflow less outflow
-  pub mass-sum : (n : ℕ) → nodeRoom net 1 < 2 ^ 53 → rowSum f plan (massRow f n) ≡ timesOne (pos (inflow net plan n) -ℤ pos (outflow net plan n))
-  unfolding massRow timesOne rowSum columnMap
-  mass-sum n h =
-      both-sum n one64 1 one-upto 0 [] AllUpto.none (omega arith)
+  pub mass_sum : (n : ℕ) → node_room net 1 < 2 ^ 53 → row_sum f plan (mass_row f n) ≡ times_one (pos (inflow net plan n) -ℤ pos (outflow net plan n))
+  unfolding mass_row times_one row_sum column_map
+  mass_sum n h =
+      both_sum n one64 1 one_upto 0 [] AllUpto.none (omega arith)
       ∙ +ℤ_idr (exact one64 *ℤ (pos (inflow net plan n) -ℤ pos (outflow net plan n)))
-      ∙ ap (λ (z : ℤ). z *ℤ (pos (inflow net plan n) -ℤ pos (outflow net plan n))) one-exact
-      ∙ *ℤ_comm (pos unitsInOne) (pos (inflow net plan n) -ℤ pos (outflow net plan n))
+      ∙ ap (λ (z : ℤ). z *ℤ (pos (inflow net plan n) -ℤ pos (outflow net plan n))) one_exact
+      ∙ *ℤ_comm (pos units_in_one) (pos (inflow net plan n) -ℤ pos (outflow net plan n))

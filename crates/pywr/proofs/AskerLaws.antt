@@ -13,24 +13,24 @@ use lib.ListN.{length, get_elem?, length-append}
 use lib.Dec.{T, ltb, eqb, eqb→eq}
 use lib.Ieee.Fits.{eq→eqb}
 use borrow.Author.Tests.{ltb-false}
-use Rattle.laws.proofs.Tests.{of-true}
-use Rattle.pywr.specs.Network.{keepIf}
+use Rattle.laws.proofs.Tests.{of_true}
+use Rattle.pywr.specs.Network.{keep_if}
 use Rattle.pywr.specs.Rows.{Element}
-use Rattle.pywr.specs.Programme.{NodeRow, VirtualStorageShape, Shape, Maker, byNode, byAggregate, byVirtualStorage}
-use Rattle.pywr.specs.VariableRows.{position, Joined, addVariableRow, addVariableRows}
-use Rattle.pywr.specs.Makers.{Asker, askersByNodes, askersInTurn, askers, sharersOf, first_of, makerOf, varyingMakers, timesNamed, references}
+use Rattle.pywr.specs.Programme.{NodeRow, VirtualStorageShape, Shape, Maker, by_node, by_aggregate, by_virtual_storage}
+use Rattle.pywr.specs.VariableRows.{position, Joined, add_variable_row, add_variable_rows}
+use Rattle.pywr.specs.Makers.{Asker, askers_by_nodes, askers_in_turn, askers, sharers_of, first_of, maker_of, varying_makers, times_named, references}
 use Rattle.pywr.specs.RowMakers.{FirstAsker}
-use Rattle.pywr.proofs.JoinLaws.{position-most}
-use Rattle.pywr.proofs.ListLaws.{AllMem, all_none, all_cons, all_map, found-mem, found_below, below-found, found_left, not_found, same_some}
-use Rattle.pywr.proofs.VaryingLaws.{node-places}
+use Rattle.pywr.proofs.JoinLaws.{position_most}
+use Rattle.pywr.proofs.ListLaws.{AllMem, all_none, all_cons, all_map, found_mem, found_below, below_found, found_left, not_found, same_some}
+use Rattle.pywr.proofs.VaryingLaws.{node_places_lem}
 
 -- ---- a joined row has a place: a row is appended only with its place
 
 abbrev Covered : ℕ → Joined → Type 0
 Covered before j = (r : ℕ) → before ≤ r → r < length j.rows → Memᴰ r j.places
 
-cover_one : (before : ℕ) (row : List Element) (j : Joined) → Covered before j → Covered before (addVariableRow row j)
-unfolding addVariableRow
+cover_one : (before : ℕ) (row : List Element) (j : Joined) → Covered before j → Covered before (add_variable_row row j)
+unfolding add_variable_row
 cover_one before row j h = go (ltb (position row j.rows) (length j.rows)) refl
   where
     p : ℕ
@@ -38,26 +38,26 @@ cover_one before row j h = go (ltb (position row j.rows) (length j.rows)) refl
 
     go : (b : Bool) → ltb p (length j.rows) ≡ b → (r : ℕ) → before ≤ r → r < length (cond b j.rows (j.rows ++ (row ∷ []))) → Memᴰ r (j.places ++ (p ∷ []))
     go true e r l k = Memᴰ.append_left (p ∷ []) (h r l k)
-    go false e r l k = at-end (dec_le (suc r) (length j.rows))
+    go false e r l k = at_end (dec_le (suc r) (length j.rows))
       where
-        at-end : Dec (suc r ≤ length j.rows) → Memᴰ r (j.places ++ (p ∷ []))
-        at-end (yes m) = Memᴰ.append_left (p ∷ []) (h r l m)
-        at-end (no f) =
+        at_end : Dec (suc r ≤ length j.rows) → Memᴰ r (j.places ++ (p ∷ []))
+        at_end (yes m) = Memᴰ.append_left (p ∷ []) (h r l m)
+        at_end (no f) =
             let n = length-append j.rows (row ∷ []) in
-            let m = position-most row j.rows in
+            let m = position_most row j.rows in
             let g = ltb-false p (length j.rows) e in
             let o = lt_of_not-le f in
             let same : r ≡ p = omega arith in
             Memᴰ.append_right j.places (Memᴰ.head same)
 
-cover_all : (before : ℕ) (asked : List (List Element)) (j : Joined) → Covered before j → Covered before (addVariableRows asked j)
-unfolding addVariableRows
+cover_all : (before : ℕ) (asked : List (List Element)) (j : Joined) → Covered before j → Covered before (add_variable_rows asked j)
+unfolding add_variable_rows
 cover_all before [] j h = h
-cover_all before (row ∷ asked) j h = cover_all before asked (addVariableRow row j) (cover_one before row j h)
+cover_all before (row ∷ asked) j h = cover_all before asked (add_variable_row row j) (cover_one before row j h)
 
 -- of the rows that were there and those that were asked for, the new ones have places
-pub joined-covers : (asked rows : List (List Element)) → Covered (length rows) (addVariableRows asked (record { rows = rows; places = [] }))
-joined-covers asked rows = cover_all (length rows) asked (record { rows = rows; places = [] }) (λ r l k. absurd (let m : r < length rows = k in omega arith))
+pub joined_covers : (asked rows : List (List Element)) → Covered (length rows) (add_variable_rows asked (record { rows = rows; places = [] }))
+joined_covers asked rows = cover_all (length rows) asked (record { rows = rows; places = [] }) (λ r l k. absurd (let m : r < length rows = k in omega arith))
 
 -- ---- askers of a row
 
@@ -66,54 +66,54 @@ pub record AskedFor (row : ℕ) (all : List Asker) : Type 0 where
   pub among : Memᴰ asker all
   pub given : asker.row ≡ row
 
-pub asked-left : (row : ℕ) (all more : List Asker) → AskedFor row all → AskedFor row (all ++ more)
-asked-left row all more a = record { asker = a.asker; among = Memᴰ.append_left more a.among; given = a.given }
+pub asked_left : (row : ℕ) (all more : List Asker) → AskedFor row all → AskedFor row (all ++ more)
+asked_left row all more a = record { asker = a.asker; among = Memᴰ.append_left more a.among; given = a.given }
 
-pub asked-right : (row : ℕ) (before all : List Asker) → AskedFor row all → AskedFor row (before ++ all)
-asked-right row before all a = record { asker = a.asker; among = Memᴰ.append_right before a.among; given = a.given }
+pub asked_right : (row : ℕ) (before all : List Asker) → AskedFor row all → AskedFor row (before ++ all)
+asked_right row before all a = record { asker = a.asker; among = Memᴰ.append_right before a.among; given = a.given }
 
-asked-later : (row : ℕ) (first : Asker) (all : List Asker) → AskedFor row all → AskedFor row (first ∷ all)
-asked-later row first all a = record { asker = a.asker; among = Memᴰ.tail a.among; given = a.given }
+asked_later : (row : ℕ) (first : Asker) (all : List Asker) → AskedFor row all → AskedFor row (first ∷ all)
+asked_later row first all a = record { asker = a.asker; among = Memᴰ.tail a.among; given = a.given }
 
-pub nodes-ask : (ns : List NodeRow) (row : ℕ) → Memᴰ row (node-places ns) → AskedFor row (askersByNodes ns)
-unfolding node-places askersByNodes
-nodes-ask [] row m = absurd (Memᴰ.not-nil m)
-nodes-ask (n ∷ ns) row m = go (λ k. nodes-ask ns row k) (Memᴰ.cases_cons m)
+pub nodes_ask : (ns : List NodeRow) (row : ℕ) → Memᴰ row (node_places_lem ns) → AskedFor row (askers_by_nodes ns)
+unfolding node_places_lem askers_by_nodes
+nodes_ask [] row m = absurd (Memᴰ.not-nil m)
+nodes_ask (n ∷ ns) row m = go (λ k. nodes_ask ns row k) (Memᴰ.cases_cons m)
   where
     one : Asker
-    one = record { kind = byNode; index = n.node; row = n.row }
+    one = record { kind = by_node; index = n.node; row = n.row }
 
-    go : (Memᴰ row (node-places ns) → AskedFor row (askersByNodes ns)) → (row ≡ n.row) ⊎ Memᴰ row (node-places ns) → AskedFor row (one ∷ askersByNodes ns)
+    go : (Memᴰ row (node_places_lem ns) → AskedFor row (askers_by_nodes ns)) → (row ≡ n.row) ⊎ Memᴰ row (node_places_lem ns) → AskedFor row (one ∷ askers_by_nodes ns)
     go ih (inl e) = record { asker = one; among = Memᴰ.head refl; given = sym e }
-    go ih (inr k) = asked-later row one (askersByNodes ns) (ih k)
+    go ih (inr k) = asked_later row one (askers_by_nodes ns) (ih k)
 
-pub in-turn-ask : (kind index : ℕ) (rows : List ℕ) (row : ℕ) → Memᴰ row rows → AskedFor row (askersInTurn kind index rows)
-unfolding askersInTurn
-in-turn-ask kind index [] row m = absurd (Memᴰ.not-nil m)
-in-turn-ask kind index (x ∷ rows) row m = go (λ k. in-turn-ask kind (suc index) rows row k) (Memᴰ.cases_cons m)
+pub in_turn_ask : (kind index : ℕ) (rows : List ℕ) (row : ℕ) → Memᴰ row rows → AskedFor row (askers_in_turn kind index rows)
+unfolding askers_in_turn
+in_turn_ask kind index [] row m = absurd (Memᴰ.not-nil m)
+in_turn_ask kind index (x ∷ rows) row m = go (λ k. in_turn_ask kind (suc index) rows row k) (Memᴰ.cases_cons m)
   where
     one : Asker
     one = record { kind = kind; index = index; row = x }
 
-    go : (Memᴰ row rows → AskedFor row (askersInTurn kind (suc index) rows)) → (row ≡ x) ⊎ Memᴰ row rows → AskedFor row (one ∷ askersInTurn kind (suc index) rows)
+    go : (Memᴰ row rows → AskedFor row (askers_in_turn kind (suc index) rows)) → (row ≡ x) ⊎ Memᴰ row rows → AskedFor row (one ∷ askers_in_turn kind (suc index) rows)
     go ih (inl e) = record { asker = one; among = Memᴰ.head refl; given = sym e }
-    go ih (inr k) = asked-later row one (askersInTurn kind (suc index) rows) (ih k)
+    go ih (inr k) = asked_later row one (askers_in_turn kind (suc index) rows) (ih k)
 
 -- ---- the first of them
 
-pub first_made : (row : ℕ) (all : List Asker) → AskedFor row all → FirstAsker row all (makerOf all row)
-unfolding makerOf sharersOf keepIf first_of
+pub first_made : (row : ℕ) (all : List Asker) → AskedFor row all → FirstAsker row all (maker_of all row)
+unfolding maker_of sharers_of keep_if first_of
 first_made row [] a = absurd (Memᴰ.not-nil a.among)
 first_made row (x ∷ all) a = go (eqb x.row row) refl (λ k. first_made row all k) (Memᴰ.cases_cons a.among)
   where
-    go : (b : Bool) → eqb x.row row ≡ b → (AskedFor row all → FirstAsker row all (first_of (sharersOf row all))) → (a.asker ≡ x) ⊎ Memᴰ a.asker all
-        → FirstAsker row (x ∷ all) (first_of (keepIf b x (sharersOf row all)))
+    go : (b : Bool) → eqb x.row row ≡ b → (AskedFor row all → FirstAsker row all (first_of (sharers_of row all))) → (a.asker ≡ x) ⊎ Memᴰ a.asker all
+        → FirstAsker row (x ∷ all) (first_of (keep_if b x (sharers_of row all)))
     go true e ih c =
         record {
           at = 0;
           asker = x;
           found = refl;
-          given = eqb→eq x.row row (of-true (eqb x.row row) e);
+          given = eqb→eq x.row row (of_true (eqb x.row row) e);
           kind = refl;
           index = refl;
           shared = suc-le-suc zero-le;
@@ -125,7 +125,7 @@ first_made row (x ∷ all) a = go (eqb x.row row) refl (λ k. first_made row all
         other : x.row ≢ row
         other s = absurd (subst T e (eq→eqb s))
 
-        later : FirstAsker row all (first_of (sharersOf row all)) → FirstAsker row (x ∷ all) (first_of (sharersOf row all))
+        later : FirstAsker row all (first_of (sharers_of row all)) → FirstAsker row (x ∷ all) (first_of (sharers_of row all))
         later f =
             record {
               at = suc f.at;
@@ -138,102 +138,102 @@ first_made row (x ∷ all) a = go (eqb x.row row) refl (λ k. first_made row all
               none_before = before f;
             }
           where
-            before : (f : FirstAsker row all (first_of (sharersOf row all))) (i : ℕ) (y : Asker) → i < suc f.at → get_elem? (x ∷ all) i ≡ some y → y.row ≢ row
+            before : (f : FirstAsker row all (first_of (sharers_of row all))) (i : ℕ) (y : Asker) → i < suc f.at → get_elem? (x ∷ all) i ≡ some y → y.row ≢ row
             before f zero y l q = subst (λ (z : Asker). z.row ≢ row) (same_some x y q) other
             before f (suc i) y l q = f.none_before i y (le_of_suc-le-suc l) q
 
 -- who stands in the front of the list comes first
-pub first-within : (P : ℕ → Type 0) (row : ℕ) (m : Maker) (front rest : List Asker) → AllMem (λ (a : Asker). P a.kind) front
+pub first_within : (P : ℕ → Type 0) (row : ℕ) (m : Maker) (front rest : List Asker) → AllMem (λ (a : Asker). P a.kind) front
     → (i : ℕ) (a : Asker) → get_elem? front i ≡ some a → a.row ≡ row → FirstAsker row (front ++ rest) m → P m.kind
-first-within P row m front rest h i a q g f = go (dec_le (suc i) f.at)
+first_within P row m front rest h i a q g f = go (dec_le (suc i) f.at)
   where
     go : Dec (suc i ≤ f.at) → P m.kind
     go (yes l) = absurd (f.none_before i a l (found_left front rest i a q) g)
     go (no o) =
         let l = lt_of_not-le o in
         let b = found_below front i a q in
-        let x = below-found front f.at (omega arith) in
+        let x = below_found front f.at (omega arith) in
         let same : x.0 ≡ f.asker = same_some x.0 f.asker (sym (found_left front rest f.at x.0 x.1) ∙ f.found) in
-        subst P (ap (λ (y : Asker). y.kind) same ∙ sym f.kind) (h x.0 (found-mem front f.at x.0 x.1))
+        subst P (ap (λ (y : Asker). y.kind) same ∙ sym f.kind) (h x.0 (found_mem front f.at x.0 x.1))
 
-abbrev pub nodeAsker : NodeRow → Asker
-nodeAsker n = record { kind = byNode; index = n.node; row = n.row }
+abbrev pub node_asker : NodeRow → Asker
+node_asker n = record { kind = by_node; index = n.node; row = n.row }
 
-nodes-found : (ns : List NodeRow) (i : ℕ) (n : NodeRow) → get_elem? ns i ≡ some n → get_elem? (askersByNodes ns) i ≡ some (nodeAsker n)
-unfolding askersByNodes
-nodes-found [] i n e = not_found n e
-nodes-found (x ∷ ns) zero n e = ap (λ (y : NodeRow). some (nodeAsker y)) (same_some x n e)
-nodes-found (x ∷ ns) (suc i) n e = nodes-found ns i n e
+nodes_found : (ns : List NodeRow) (i : ℕ) (n : NodeRow) → get_elem? ns i ≡ some n → get_elem? (askers_by_nodes ns) i ≡ some (node_asker n)
+unfolding askers_by_nodes
+nodes_found [] i n e = not_found n e
+nodes_found (x ∷ ns) zero n e = ap (λ (y : NodeRow). some (node_asker y)) (same_some x n e)
+nodes_found (x ∷ ns) (suc i) n e = nodes_found ns i n e
 
 -- in the order of asking node rows come first: asker i is that of node row i
-pub node-row-asks : (shape : Shape) (i : ℕ) (n : NodeRow) → get_elem? shape.nodeRows i ≡ some n → get_elem? (askers shape) i ≡ some (nodeAsker n)
+pub node_row_asks : (shape : Shape) (i : ℕ) (n : NodeRow) → get_elem? shape.node_rows i ≡ some n → get_elem? (askers shape) i ≡ some (node_asker n)
 unfolding askers
-node-row-asks shape i n e =
-    let nodes : List Asker = askersByNodes shape.nodeRows in
-    let aggregates : List Asker = askersInTurn byAggregate 0 shape.aggregates in
-    let storages : List Asker = askersInTurn byVirtualStorage 0 (map (λ (v : VirtualStorageShape). v.row) shape.virtualStorages) in
-    found_left (nodes ++ aggregates) storages i (nodeAsker n) (found_left nodes aggregates i (nodeAsker n) (nodes-found shape.nodeRows i n e))
+node_row_asks shape i n e =
+    let nodes : List Asker = askers_by_nodes shape.node_rows in
+    let aggregates : List Asker = askers_in_turn by_aggregate 0 shape.aggregates in
+    let storages : List Asker = askers_in_turn by_virtual_storage 0 (map (λ (v : VirtualStorageShape). v.row) shape.virtual_storages) in
+    found_left (nodes ++ aggregates) storages i (node_asker n) (found_left nodes aggregates i (node_asker n) (nodes_found shape.node_rows i n e))
 
-pub nodes-kind : (ns : List NodeRow) → AllMem (λ (a : Asker). a.kind ≡ byNode) (askersByNodes ns)
-unfolding askersByNodes
-nodes-kind ns = all_map (λ (a : Asker). a.kind ≡ byNode) (λ (n : NodeRow). record { kind = byNode; index = n.node; row = n.row }) ns (λ n m. refl)
+pub nodes_kind : (ns : List NodeRow) → AllMem (λ (a : Asker). a.kind ≡ by_node) (askers_by_nodes ns)
+unfolding askers_by_nodes
+nodes_kind ns = all_map (λ (a : Asker). a.kind ≡ by_node) (λ (n : NodeRow). record { kind = by_node; index = n.node; row = n.row }) ns (λ n m. refl)
 
-pub in-turn-kind : (kind index : ℕ) (rows : List ℕ) → AllMem (λ (a : Asker). a.kind ≡ kind) (askersInTurn kind index rows)
-unfolding askersInTurn
-in-turn-kind kind index [] = all_none (λ (a : Asker). a.kind ≡ kind)
-in-turn-kind kind index (row ∷ rows) = all_cons (λ (a : Asker). a.kind ≡ kind) _ (askersInTurn kind (suc index) rows) refl (in-turn-kind kind (suc index) rows)
+pub in_turn_kind : (kind index : ℕ) (rows : List ℕ) → AllMem (λ (a : Asker). a.kind ≡ kind) (askers_in_turn kind index rows)
+unfolding askers_in_turn
+in_turn_kind kind index [] = all_none (λ (a : Asker). a.kind ≡ kind)
+in_turn_kind kind index (row ∷ rows) = all_cons (λ (a : Asker). a.kind ≡ kind) _ (askers_in_turn kind (suc index) rows) refl (in_turn_kind kind (suc index) rows)
 
 -- ---- how many they are
 
-pub sharers-count : (row : ℕ) (all : List Asker) → length (sharersOf row all) ≡ timesNamed (λ (a : Asker). a.row) row all
-unfolding sharersOf timesNamed keepIf
-sharers-count row [] = refl
-sharers-count row (x ∷ all) = go (eqb x.row row) (sharers-count row all)
+pub sharers_count : (row : ℕ) (all : List Asker) → length (sharers_of row all) ≡ times_named (λ (a : Asker). a.row) row all
+unfolding sharers_of times_named keep_if
+sharers_count row [] = refl
+sharers_count row (x ∷ all) = go (eqb x.row row) (sharers_count row all)
   where
-    go : (b : Bool) → length (sharersOf row all) ≡ timesNamed (λ (a : Asker). a.row) row all
-        → length (keepIf b x (sharersOf row all)) ≡ cond b 1 0 + timesNamed (λ (a : Asker). a.row) row all
+    go : (b : Bool) → length (sharers_of row all) ≡ times_named (λ (a : Asker). a.row) row all
+        → length (keep_if b x (sharers_of row all)) ≡ cond b 1 0 + times_named (λ (a : Asker). a.row) row all
     go true e = ap suc e ∙ omega arith
     go false e = e ∙ omega arith
 
-pub first_count : (sharers : List Asker) → (first_of sharers).sharedBy ≡ length sharers
+pub first_count : (sharers : List Asker) → (first_of sharers).shared_by ≡ length sharers
 unfolding first_of
 first_count [] = refl
 first_count (x ∷ rest) = refl
 
-named-append : {A : Type 0} (of : A → ℕ) (row : ℕ) (xs ys : List A) → timesNamed of row (xs ++ ys) ≡ timesNamed of row xs + timesNamed of row ys
-unfolding timesNamed
-named-append of row [] ys = sym (zero-add (timesNamed of row ys))
-named-append of row (x ∷ xs) ys = let ih = named-append of row xs ys in omega arith
+named_append : {A : Type 0} (of : A → ℕ) (row : ℕ) (xs ys : List A) → times_named of row (xs ++ ys) ≡ times_named of row xs + times_named of row ys
+unfolding times_named
+named_append of row [] ys = sym (zero-add (times_named of row ys))
+named_append of row (x ∷ xs) ys = let ih = named_append of row xs ys in omega arith
 
-named-map : {A B : Type 0} (of : B → ℕ) (g : A → B) (row : ℕ) (xs : List A) → timesNamed of row (map g xs) ≡ timesNamed (λ (x : A). of (g x)) row xs
-unfolding timesNamed
-named-map of g row [] = refl
-named-map of g row (x ∷ xs) = ap (λ (n : ℕ). cond (eqb (of (g x)) row) 1 0 + n) (named-map of g row xs)
+named_map : {A B : Type 0} (of : B → ℕ) (g : A → B) (row : ℕ) (xs : List A) → times_named of row (map g xs) ≡ times_named (λ (x : A). of (g x)) row xs
+unfolding times_named
+named_map of g row [] = refl
+named_map of g row (x ∷ xs) = ap (λ (n : ℕ). cond (eqb (of (g x)) row) 1 0 + n) (named_map of g row xs)
 
-named-in-turn : (kind index row : ℕ) (rows : List ℕ) → timesNamed (λ (a : Asker). a.row) row (askersInTurn kind index rows) ≡ timesNamed (λ (r : ℕ). r) row rows
-unfolding timesNamed askersInTurn
-named-in-turn kind index row [] = refl
-named-in-turn kind index row (x ∷ rows) = ap (λ (n : ℕ). cond (eqb x row) 1 0 + n) (named-in-turn kind (suc index) row rows)
+named_in_turn : (kind index row : ℕ) (rows : List ℕ) → times_named (λ (a : Asker). a.row) row (askers_in_turn kind index rows) ≡ times_named (λ (r : ℕ). r) row rows
+unfolding times_named askers_in_turn
+named_in_turn kind index row [] = refl
+named_in_turn kind index row (x ∷ rows) = ap (λ (n : ℕ). cond (eqb x row) 1 0 + n) (named_in_turn kind (suc index) row rows)
 
-pub askers-named : (shape : Shape) (row : ℕ) → timesNamed (λ (a : Asker). a.row) row (askers shape) ≡ references shape row
-unfolding askers references askersByNodes
-askers-named shape row =
-    let ofAsker : Asker → ℕ = (λ (a : Asker). a.row) in
-    let nodes : List Asker = askersByNodes shape.nodeRows in
-    let aggregates : List Asker = askersInTurn byAggregate 0 shape.aggregates in
-    let storages : List ℕ = map (λ (v : VirtualStorageShape). v.row) shape.virtualStorages in
-    named-append ofAsker row (nodes ++ aggregates) (askersInTurn byVirtualStorage 0 storages)
+pub askers_named : (shape : Shape) (row : ℕ) → times_named (λ (a : Asker). a.row) row (askers shape) ≡ references shape row
+unfolding askers references askers_by_nodes
+askers_named shape row =
+    let of_asker : Asker → ℕ = (λ (a : Asker). a.row) in
+    let nodes : List Asker = askers_by_nodes shape.node_rows in
+    let aggregates : List Asker = askers_in_turn by_aggregate 0 shape.aggregates in
+    let storages : List ℕ = map (λ (v : VirtualStorageShape). v.row) shape.virtual_storages in
+    named_append of_asker row (nodes ++ aggregates) (askers_in_turn by_virtual_storage 0 storages)
     ∙ ap₂ (λ (m n : ℕ). m + n)
-    (named-append ofAsker row nodes aggregates
+    (named_append of_asker row nodes aggregates
     ∙ ap₂ (λ (m n : ℕ). m + n)
-    (named-map ofAsker (λ (n : NodeRow). record { kind = byNode; index = n.node; row = n.row }) row shape.nodeRows)
-    (named-in-turn byAggregate 0 row shape.aggregates))
-    (named-in-turn byVirtualStorage 0 row storages ∙ named-map (λ (r : ℕ). r) (λ (v : VirtualStorageShape). v.row) row shape.virtualStorages)
+    (named_map of_asker (λ (n : NodeRow). record { kind = by_node; index = n.node; row = n.row }) row shape.node_rows)
+    (named_in_turn by_aggregate 0 row shape.aggregates))
+    (named_in_turn by_virtual_storage 0 row storages ∙ named_map (λ (r : ℕ). r) (λ (v : VirtualStorageShape). v.row) row shape.virtual_storages)
 
 -- ---- makers by number
 
-pub varying-found : (all : List Asker) (row count i : ℕ) → i < count → get_elem? (varyingMakers all row count) i ≡ some (makerOf all (row + i))
-unfolding varyingMakers
-varying-found all row zero i h = absurd (not-suc-le-zero h)
-varying-found all row (suc count) zero h = ap (λ (n : ℕ). some (makerOf all n)) (sym (add-zero row))
-varying-found all row (suc count) (suc i) h = varying-found all (suc row) count i (le_of_suc-le-suc h) ∙ ap (λ (n : ℕ). some (makerOf all n)) (suc-add row i ∙ sym (add-suc row i))
+pub varying_found : (all : List Asker) (row count i : ℕ) → i < count → get_elem? (varying_makers all row count) i ≡ some (maker_of all (row + i))
+unfolding varying_makers
+varying_found all row zero i h = absurd (not-suc-le-zero h)
+varying_found all row (suc count) zero h = ap (λ (n : ℕ). some (maker_of all n)) (sym (add-zero row))
+varying_found all row (suc count) (suc i) h = varying_found all (suc row) count i (le_of_suc-le-suc h) ∙ ap (λ (n : ℕ). some (maker_of all n)) (suc-add row i ∙ sym (add-suc row i))

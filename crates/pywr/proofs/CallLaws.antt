@@ -8,19 +8,19 @@ use lib.Ieee.{Float}
 use Rattle.pywr.specs.declared.Sentinel.{Sentinel}
 use Rattle.pywr.specs.Result.{refused}
 use Rattle.pywr.specs.Store.{Store}
-use Rattle.pywr.specs.Calls.{cleared, buildAnswer, storeOfBuild, buildStore, stepAnswer, storeOfStep, stepStore}
+use Rattle.pywr.specs.Calls.{cleared, build_answer, store_of_build, build_store, step_answer, store_of_step, step_store}
 
-pub build-refused : (s : Sentinel) (file : List ℕ) (old : Store) (words : List ℕ) (numbers : List Float) (n p : ℕ)
-    → buildAnswer s file old words numbers ≡ refused n p → buildStore s file old words numbers ≡ old
-unfolding buildStore storeOfBuild
-build-refused s file old words numbers n p e = ap (storeOfBuild old) e
+pub build_refused : (s : Sentinel) (file : List ℕ) (old : Store) (words : List ℕ) (numbers : List Float) (n p : ℕ)
+    → build_answer s file old words numbers ≡ refused n p → build_store s file old words numbers ≡ old
+unfolding build_store store_of_build
+build_refused s file old words numbers n p e = ap (store_of_build old) e
 
-pub step-refused : (store : Store) (file : List ℕ) (work : List Float) (n p : ℕ) → stepAnswer store file work ≡ refused n p → stepStore store file work ≡ store
-unfolding stepStore storeOfStep
-step-refused store file work n p e = ap (storeOfStep store) e
+pub step_refused : (store : Store) (file : List ℕ) (work : List Float) (n p : ℕ) → step_answer store file work ≡ refused n p → step_store store file work ≡ store
+unfolding step_store store_of_step
+step_refused store file work n p e = ap (store_of_step store) e
 
 -- a work run keeps its length
-pub cleared-length : {A : Type 0} (room : Bool) (nil : A) (run : List A) → length (cleared room nil run) ≡ length run
+pub cleared_length : {A : Type 0} (room : Bool) (nil : A) (run : List A) → length (cleared room nil run) ≡ length run
 unfolding cleared
-cleared-length true nil run = length-replicate (length run) nil
-cleared-length false nil run = refl
+cleared_length true nil run = length-replicate (length run) nil
+cleared_length false nil run = refl

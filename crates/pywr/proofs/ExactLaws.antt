@@ -10,27 +10,27 @@ use lib.Ieee.Fits.{add-fits}
 use lib.Ieee.Scale.{finite}
 use Rattle.doubles.specs.Units.{number, rank}
 use Rattle.doubles.proofs.Integers.{eqZ→eq}
-use Rattle.doubles.proofs.Units.{quotient-is-mag, eq_is}
-use Rattle.doubles.proofs.Sums.{add-zero-rank, add-zero-finite}
+use Rattle.doubles.proofs.Units.{quotient_is_mag, eq_is}
+use Rattle.doubles.proofs.Sums.{add_zero_rank, add_zero_finite}
 use Rattle.pywr.specs.Numbers.{zero64}
-use Rattle.pywr.specs.Plans.{exact, unitsInOne, signed, is_finite}
+use Rattle.pywr.specs.Plans.{exact, units_in_one, signed, is_finite}
 
-pub units-pos : 0 < unitsInOne
-unfolding unitsInOne
-units-pos = pow_pos 1074
+pub units_pos : 0 < units_in_one
+unfolding units_in_one
+units_pos = pow_pos 1074
 
-pub exact-rank : (x : Float) → T (fits binary64 x) → T (finite x) → exact x ≡ rank binary64 x
-unfolding exact signed unitsInOne
-exact-rank nan p n = absurd n
-exact-rank (inf s) p n = absurd n
-exact-rank (fin true m e) p n = ap (λ (k : ℕ). neg_ℤ (pos k)) (quotient-is-mag binary64 true m e p)
-exact-rank (fin false m e) p n = ap pos (quotient-is-mag binary64 false m e p)
+pub exact_rank : (x : Float) → T (fits binary64 x) → T (finite x) → exact x ≡ rank binary64 x
+unfolding exact signed units_in_one
+exact_rank nan p n = absurd n
+exact_rank (inf s) p n = absurd n
+exact_rank (fin true m e) p n = ap (λ (k : ℕ). neg_ℤ (pos k)) (quotient_is_mag binary64 true m e p)
+exact_rank (fin false m e) p n = ap pos (quotient_is_mag binary64 false m e p)
 
-pub finite-is : (x : Float) → is_finite x ≡ finite x
+pub finite_is : (x : Float) → is_finite x ≡ finite x
 unfolding is_finite
-finite-is nan = refl
-finite-is (inf s) = refl
-finite-is (fin s m e) = refl
+finite_is nan = refl
+finite_is (inf s) = refl
+finite_is (fin s m e) = refl
 
 -- no NaN, as the library tests it
 pub number_of : (x : Float) → T (not (is_nan x)) → T (number x)
@@ -39,39 +39,39 @@ number_of nan n = n
 number_of (inf s) n = tt
 number_of (fin s m e) n = tt
 
-pub exact-neg : (x : Float) → exact (neg x) ≡ neg_ℤ (exact x)
+pub exact_neg : (x : Float) → exact (neg x) ≡ neg_ℤ (exact x)
 unfolding exact neg signed
-exact-neg nan = refl
-exact-neg (inf s) = refl
-exact-neg (fin true m e) = sym (neg_ℤ-neg_ℤ (pos _))
-exact-neg (fin false m e) = refl
+exact_neg nan = refl
+exact_neg (inf s) = refl
+exact_neg (fin true m e) = sym (neg_ℤ-neg_ℤ (pos _))
+exact_neg (fin false m e) = refl
 
 -- equal doubles are finite both or neither
-pub eq-finite : (x y : Float) → T (eq x y) → is_finite x ≡ is_finite y
+pub eq_finite : (x y : Float) → T (eq x y) → is_finite x ≡ is_finite y
 unfolding eq is_finite
-eq-finite nan y h = absurd h
-eq-finite (inf s) nan h = absurd h
-eq-finite (inf s) (inf t) h = refl
-eq-finite (inf s) (fin t n d) h = absurd h
-eq-finite (fin s m e) nan h = absurd h
-eq-finite (fin s m e) (inf t) h = absurd h
-eq-finite (fin s m e) (fin t n d) h = refl
+eq_finite nan y h = absurd h
+eq_finite (inf s) nan h = absurd h
+eq_finite (inf s) (inf t) h = refl
+eq_finite (inf s) (fin t n d) h = absurd h
+eq_finite (fin s m e) nan h = absurd h
+eq_finite (fin s m e) (inf t) h = absurd h
+eq_finite (fin s m e) (fin t n d) h = refl
 
 -- equal doubles have equal exact values
-pub eq-exact : (x y : Float) → T (fits binary64 x) → T (fits binary64 y) → T (eq x y) → exact x ≡ exact y
+pub eq_exact : (x y : Float) → T (fits binary64 x) → T (fits binary64 y) → T (eq x y) → exact x ≡ exact y
 unfolding eq exact
-eq-exact nan y fx fy h = absurd h
-eq-exact (inf s) nan fx fy h = absurd h
-eq-exact (inf s) (inf t) fx fy h = refl
-eq-exact (inf s) (fin t n d) fx fy h = absurd h
-eq-exact (fin s m e) nan fx fy h = absurd h
-eq-exact (fin s m e) (inf t) fx fy h = absurd h
-eq-exact (fin s m e) (fin t n d) fx fy h =
+eq_exact nan y fx fy h = absurd h
+eq_exact (inf s) nan fx fy h = absurd h
+eq_exact (inf s) (inf t) fx fy h = refl
+eq_exact (inf s) (fin t n d) fx fy h = absurd h
+eq_exact (fin s m e) nan fx fy h = absurd h
+eq_exact (fin s m e) (inf t) fx fy h = absurd h
+eq_exact (fin s m e) (fin t n d) fx fy h =
     let x : Float = fin s m e in
     let y : Float = fin t n d in
-    exact-rank x fx tt ∙ eqZ→eq (rank binary64 x) (rank binary64 y) (subst T (eq_is binary64 x y fx fy tt tt) h) ∙ sym (exact-rank y fy tt)
+    exact_rank x fx tt ∙ eqZ→eq (rank binary64 x) (rank binary64 y) (subst T (eq_is binary64 x y fx fy tt tt) h) ∙ sym (exact_rank y fy tt)
 
 -- adding to 0.0 changes no value
-pub add-zero-exact : (x : Float) → T (fits binary64 x) → T (finite x) → exact (add binary64 zero64 x) ≡ exact x
+pub add_zero_exact : (x : Float) → T (fits binary64 x) → T (finite x) → exact (add binary64 zero64 x) ≡ exact x
 unfolding zero64
-add-zero-exact x h n = exact-rank (add binary64 zero64 x) (add-fits binary64 zero64 x) (add-zero-finite binary64 x h n) ∙ add-zero-rank binary64 x h n ∙ sym (exact-rank x h n)
+add_zero_exact x h n = exact_rank (add binary64 zero64 x) (add-fits binary64 zero64 x) (add_zero_finite binary64 x h n) ∙ add_zero_rank binary64 x h n ∙ sym (exact_rank x h n)

@@ -13,12 +13,12 @@ use lib.Dec.{T, eqb, ltb, eqb→eq, ltb→lt}
 use lib.Ieee.{Float, binary64, fits, eq}
 use lib.Ieee.Fits.{and_l, and_r, add-fits}
 use borrow.Author.Tests.{ltb-false}
-use Rattle.pywr.specs.Rows.{Element, element, addElement, addOn}
-use Rattle.pywr.specs.VariableRows.{sameRow, position, addVariableRows, Joined, addVariableRow}
-use Rattle.pywr.specs.Step.{changeCoefficient}
+use Rattle.pywr.specs.Rows.{Element, element, add_element, add_on}
+use Rattle.pywr.specs.VariableRows.{same_row, position, add_variable_rows, Joined, add_variable_row}
+use Rattle.pywr.specs.Step.{change_coefficient}
 use Rattle.pywr.specs.Plans.{exact, is_finite}
-use Rattle.pywr.proofs.ElementLaws.{add_none, add-cases}
-use Rattle.pywr.proofs.ExactLaws.{eq-exact, eq-finite}
+use Rattle.pywr.proofs.ElementLaws.{add_none, add_cases}
+use Rattle.pywr.proofs.ExactLaws.{eq_exact, eq_finite}
 use Rattle.pywr.proofs.SumLaws.{weighed}
 use Rattle.pywr.proofs.ListLaws.{AllMem, all_none, all_cons}
 
@@ -27,15 +27,15 @@ pub data AllFit : List Element → Type 0 where
   none : AllFit []
   more : {e : Element} {es : List Element} → T (fits binary64 e.value) → AllFit es → AllFit (e ∷ es)
 
-pub add_fit : (c : ℕ) (x : Float) (row : List Element) → AllFit row → AllFit (addElement c x row)
+pub add_fit : (c : ℕ) (x : Float) (row : List Element) → AllFit row → AllFit (add_element c x row)
 add_fit c x [] none = rw (add_none c x) (more (add-fits binary64 _ x) none)
 add_fit c x (e ∷ es) (more h hs) =
-    add-cases c x e es AllFit (λ l. more (add-fits binary64 _ x) (more h hs)) (λ l. more (add-fits binary64 e.value x) hs) (λ l. more h (add_fit c x es hs))
+    add_cases c x e es AllFit (λ l. more (add-fits binary64 _ x) (more h hs)) (λ l. more (add-fits binary64 e.value x) hs) (λ l. more h (add_fit c x es hs))
 
-pub add-on-fit : (cs : List ℕ) (x : Float) (row : List Element) → AllFit row → AllFit (addOn cs x row)
-unfolding addOn
-add-on-fit [] x row h = h
-add-on-fit (c ∷ cs) x row h = add-on-fit cs x (addElement c x row) (add_fit c x row h)
+pub add_on_fit : (cs : List ℕ) (x : Float) (row : List Element) → AllFit row → AllFit (add_on cs x row)
+unfolding add_on
+add_on_fit [] x row h = h
+add_on_fit (c ∷ cs) x row h = add_on_fit cs x (add_element c x row) (add_fit c x row h)
 
 -- ---- rows that count as one
 
@@ -62,45 +62,45 @@ alike_self (x ∷ xs) = more (record { column = refl; amount = refl; finite = re
 pub alike_is : {a b : List Element} → a ≡ b → Alike a b
 alike_is {a} {b} e = subst (Alike a) e (alike_self a)
 
-same_alike : (a b : List Element) → AllFit a → AllFit b → T (sameRow a b) → Alike a b
-unfolding sameRow
+same_alike : (a b : List Element) → AllFit a → AllFit b → T (same_row a b) → Alike a b
+unfolding same_row
 same_alike [] [] none none h = none
 same_alike [] (y ∷ ys) fa fb h = absurd h
 same_alike (x ∷ xs) [] fa fb h = absurd h
 same_alike (x ∷ xs) (y ∷ ys) (more fx fa) (more fy fb) h =
-    let both : T (eqb x.column y.column && eq x.value y.value) = and_l (eqb x.column y.column && eq x.value y.value) (sameRow xs ys) h in
+    let both : T (eqb x.column y.column && eq x.value y.value) = and_l (eqb x.column y.column && eq x.value y.value) (same_row xs ys) h in
     let t : T (eq x.value y.value) = and_r (eqb x.column y.column) (eq x.value y.value) both in
     more
     (record {
       column = eqb→eq x.column y.column (and_l (eqb x.column y.column) (eq x.value y.value) both);
-      amount = eq-exact x.value y.value fx fy t;
-      finite = eq-finite x.value y.value t;
+      amount = eq_exact x.value y.value fx fy t;
+      finite = eq_finite x.value y.value t;
     })
-    (same_alike xs ys fa fb (and_r (eqb x.column y.column && eq x.value y.value) (sameRow xs ys) h))
+    (same_alike xs ys fa fb (and_r (eqb x.column y.column && eq x.value y.value) (same_row xs ys) h))
 
-pub alike-columns : {a b : List Element} → Alike a b → cols a ≡ cols b
-alike-columns none = refl
-alike-columns (more e rest) = ap₂ (λ (k : ℕ) (l : List ℕ). k ∷ l) e.column (alike-columns rest)
+pub alike_columns : {a b : List Element} → Alike a b → cols a ≡ cols b
+alike_columns none = refl
+alike_columns (more e rest) = ap₂ (λ (k : ℕ) (l : List ℕ). k ∷ l) e.column (alike_columns rest)
 
 -- whatever a column weighs
-pub alike-sum : (weight : ℕ → ℕ) {a b : List Element} → Alike a b → weighed weight a ≡ weighed weight b
+pub alike_sum : (weight : ℕ → ℕ) {a b : List Element} → Alike a b → weighed weight a ≡ weighed weight b
 unfolding weighed
-alike-sum weight none = refl
-alike-sum weight (more e rest) = ap₂ (λ (u v : ℤ). u +ℤ v) (ap₂ (λ (u : ℤ) (k : ℕ). u *ℤ pos (weight k)) e.amount e.column) (alike-sum weight rest)
+alike_sum weight none = refl
+alike_sum weight (more e rest) = ap₂ (λ (u v : ℤ). u +ℤ v) (ap₂ (λ (u : ℤ) (k : ℕ). u *ℤ pos (weight k)) e.amount e.column) (alike_sum weight rest)
 
-pub alike-finite : {a b : List Element} → Alike a b → AllFinite b → AllFinite a
-alike-finite none all = all
-alike-finite (more {x} {y} {xs} {ys} e rest) all =
-    all_cons (λ (z : Element). is_finite z.value ≡ true) x xs (e.finite ∙ all y (Memᴰ.head refl)) (alike-finite rest (λ z m. all z (Memᴰ.tail m)))
+pub alike_finite : {a b : List Element} → Alike a b → AllFinite b → AllFinite a
+alike_finite none all = all
+alike_finite (more {x} {y} {xs} {ys} e rest) all =
+    all_cons (λ (z : Element). is_finite z.value ≡ true) x xs (e.finite ∙ all y (Memᴰ.head refl)) (alike_finite rest (λ z m. all z (Memᴰ.tail m)))
 
 -- rows stay alike when the coefficient on a column is set
-pub alike_set : (c : ℕ) (v : Float) {a b : List Element} → Alike a b → Alike (changeCoefficient c (λ held. v) a) (changeCoefficient c (λ held. v) b)
-unfolding changeCoefficient
+pub alike_set : (c : ℕ) (v : Float) {a b : List Element} → Alike a b → Alike (change_coefficient c (λ held. v) a) (change_coefficient c (λ held. v) b)
+unfolding change_coefficient
 alike_set c v none = none
 alike_set c v (more {x} {y} {xs} {ys} e rest) = go (eqb x.column c) (eqb y.column c) (ap (λ (n : ℕ). eqb n c) e.column) (alike_set c v rest)
   where
-    go : (p q : Bool) → p ≡ q → Alike (changeCoefficient c (λ held. v) xs) (changeCoefficient c (λ held. v) ys)
-        → Alike (cond p (element c v ∷ xs) (x ∷ changeCoefficient c (λ held. v) xs)) (cond q (element c v ∷ ys) (y ∷ changeCoefficient c (λ held. v) ys))
+    go : (p q : Bool) → p ≡ q → Alike (change_coefficient c (λ held. v) xs) (change_coefficient c (λ held. v) ys)
+        → Alike (cond p (element c v ∷ xs) (x ∷ change_coefficient c (λ held. v) xs)) (cond q (element c v ∷ ys) (y ∷ change_coefficient c (λ held. v) ys))
     go true true s ih = more (record { column = refl; amount = refl; finite = refl }) rest
     go false false s ih = more e ih
     go true false s ih = absurd (subst T s tt)
@@ -121,20 +121,20 @@ fit_at [] p none = none
 fit_at (x ∷ xs) zero (more hx hs) = hx
 fit_at (x ∷ xs) (suc p) (more hx hs) = fit_at xs p hs
 
-position-found : (row : List Element) (rows : List (List Element)) → position row rows < length rows → T (sameRow (get_or rows (position row rows) []) row)
+position_found : (row : List Element) (rows : List (List Element)) → position row rows < length rows → T (same_row (get_or rows (position row rows) []) row)
 unfolding position
-position-found row [] h = absurd (not-suc-le-zero h)
-position-found row (r ∷ rs) h = go (sameRow r row) refl (λ k. position-found row rs k) h
+position_found row [] h = absurd (not-suc-le-zero h)
+position_found row (r ∷ rs) h = go (same_row r row) refl (λ k. position_found row rs k) h
   where
-    go : (b : Bool) → sameRow r row ≡ b → (position row rs < length rs → T (sameRow (get_or rs (position row rs) []) row))
-        → cond b 0 (suc (position row rs)) < suc (length rs) → T (sameRow (get_or (r ∷ rs) (cond b 0 (suc (position row rs))) []) row)
+    go : (b : Bool) → same_row r row ≡ b → (position row rs < length rs → T (same_row (get_or rs (position row rs) []) row))
+        → cond b 0 (suc (position row rs)) < suc (length rs) → T (same_row (get_or (r ∷ rs) (cond b 0 (suc (position row rs))) []) row)
     go true e ih k = subst T (sym e) tt
     go false e ih k = ih (le_of_suc-le-suc k)
 
-pub position-most : (row : List Element) (rows : List (List Element)) → position row rows ≤ length rows
+pub position_most : (row : List Element) (rows : List (List Element)) → position row rows ≤ length rows
 unfolding position
-position-most row [] = zero-le
-position-most row (r ∷ rs) = go (sameRow r row) (position-most row rs)
+position_most row [] = zero-le
+position_most row (r ∷ rs) = go (same_row r row) (position_most row rs)
   where
     go : (b : Bool) → position row rs ≤ length rs → cond b 0 (suc (position row rs)) ≤ suc (length rs)
     go true h = zero-le
@@ -145,12 +145,12 @@ pub data Placed (rows : List (List Element)) : List (List Element) → List ℕ 
   none : Placed rows [] []
   more : {r : List Element} {rs : List (List Element)} {p : ℕ} {ps : List ℕ} → p < length rows → Alike (get_or rows p []) r → Placed rows rs ps → Placed rows (r ∷ rs) (p ∷ ps)
 
-placed-later : (rows asked : List (List Element)) (ps : List ℕ) (r : List Element) → Placed rows asked ps → Placed (rows ++ (r ∷ [])) asked ps
-placed-later rows [] [] r none = none
-placed-later rows (a ∷ as') (p ∷ ps) r (more h e rest) =
+placed_later : (rows asked : List (List Element)) (ps : List ℕ) (r : List Element) → Placed rows asked ps → Placed (rows ++ (r ∷ [])) asked ps
+placed_later rows [] [] r none = none
+placed_later rows (a ∷ as') (p ∷ ps) r (more h e rest) =
     let l = length-append rows (r ∷ []) in
     let k : p < length (rows ++ (r ∷ [])) = omega arith in
-    more k (subst (λ (row : List Element). Alike row a) (sym (get_or-append rows (r ∷ []) [] p h)) e) (placed-later rows as' ps r rest)
+    more k (subst (λ (row : List Element). Alike row a) (sym (get_or-append rows (r ∷ []) [] p h)) e) (placed_later rows as' ps r rest)
 
 placed_snoc : (rows asked : List (List Element)) (ps : List ℕ) (r : List Element) (p : ℕ) → Placed rows asked ps → p < length rows → Alike (get_or rows p []) r
     → Placed rows (asked ++ (r ∷ [])) (ps ++ (p ∷ []))
@@ -162,8 +162,8 @@ pub record JoinKept (asked : List (List Element)) (j : Joined) : Type 0 where
   pub fit : RowsFit j.rows
   pub placed : Placed j.rows asked j.places
 
-pub join_kept : (asked : List (List Element)) (r : List Element) (j : Joined) → AllFit r → JoinKept asked j → JoinKept (asked ++ (r ∷ [])) (addVariableRow r j)
-unfolding addVariableRow
+pub join_kept : (asked : List (List Element)) (r : List Element) (j : Joined) → AllFit r → JoinKept asked j → JoinKept (asked ++ (r ∷ [])) (add_variable_row r j)
+unfolding add_variable_row
 join_kept asked r j h k = go (ltb (position r j.rows) (length j.rows)) refl
   where
     p : ℕ
@@ -174,43 +174,43 @@ join_kept asked r j h k = go (ltb (position r j.rows) (length j.rows)) refl
         let l : p < length j.rows = ltb→lt p (length j.rows) (subst T (sym e) tt) in
         record {
           fit = k.fit;
-          placed = placed_snoc j.rows asked j.places r p k.placed l (same_alike (get_or j.rows p []) r (fit_at j.rows p k.fit) h (position-found r j.rows l));
+          placed = placed_snoc j.rows asked j.places r p k.placed l (same_alike (get_or j.rows p []) r (fit_at j.rows p k.fit) h (position_found r j.rows l));
         }
     go false e =
         let n = length-append j.rows (r ∷ []) in
-        let same : p ≡ length j.rows = (let m = position-most r j.rows in let g = ltb-false p (length j.rows) e in omega arith) in
+        let same : p ≡ length j.rows = (let m = position_most r j.rows in let g = ltb-false p (length j.rows) e in omega arith) in
         record {
           fit = fit_append j.rows r k.fit h;
           placed =
-              placed_snoc (j.rows ++ (r ∷ [])) asked j.places r p (placed-later j.rows asked j.places r k.placed) (omega arith)
+              placed_snoc (j.rows ++ (r ∷ [])) asked j.places r p (placed_later j.rows asked j.places r k.placed) (omega arith)
               (alike_is (get_or_at j.rows r [] [] p (sym same)));
         }
 
 -- the whole list, after what was joined before
-pub joins-kept : (asked before : List (List Element)) (j : Joined) → RowsFit asked → JoinKept before j → JoinKept (before ++ asked) (addVariableRows asked j)
-unfolding addVariableRows
-joins-kept [] before j RowsFit.none k = subst (λ l. JoinKept l j) (sym (append-nil before)) k
-joins-kept (r ∷ rs) before j (RowsFit.more h hs) k =
-    subst (λ l. JoinKept l (addVariableRows rs (addVariableRow r j))) (append_assoc before (r ∷ []) rs) (joins-kept rs (before ++ (r ∷ [])) (addVariableRow r j) hs (join_kept before r j h k))
+pub joins_kept : (asked before : List (List Element)) (j : Joined) → RowsFit asked → JoinKept before j → JoinKept (before ++ asked) (add_variable_rows asked j)
+unfolding add_variable_rows
+joins_kept [] before j RowsFit.none k = subst (λ l. JoinKept l j) (sym (append-nil before)) k
+joins_kept (r ∷ rs) before j (RowsFit.more h hs) k =
+    subst (λ l. JoinKept l (add_variable_rows rs (add_variable_row r j))) (append_assoc before (r ∷ []) rs) (joins_kept rs (before ++ (r ∷ [])) (add_variable_row r j) hs (join_kept before r j h k))
 
 -- places stay good while more rows are joined
-one-stays : (asked : List (List Element)) (ps : List ℕ) (r : List Element) (j : Joined) → Placed j.rows asked ps → Placed (addVariableRow r j).rows asked ps
-unfolding addVariableRow
-one-stays asked ps r j p = go (ltb (position r j.rows) (length j.rows))
+one_stays : (asked : List (List Element)) (ps : List ℕ) (r : List Element) (j : Joined) → Placed j.rows asked ps → Placed (add_variable_row r j).rows asked ps
+unfolding add_variable_row
+one_stays asked ps r j p = go (ltb (position r j.rows) (length j.rows))
   where
     go : (b : Bool) → Placed (cond b j.rows (j.rows ++ (r ∷ []))) asked ps
     go true = p
-    go false = placed-later j.rows asked ps r p
+    go false = placed_later j.rows asked ps r p
 
-pub placed-stays : (asked : List (List Element)) (ps : List ℕ) (rs : List (List Element)) (j : Joined) → Placed j.rows asked ps → Placed (addVariableRows rs j).rows asked ps
-unfolding addVariableRows
-placed-stays asked ps [] j p = p
-placed-stays asked ps (r ∷ rs) j p = placed-stays asked ps rs (addVariableRow r j) (one-stays asked ps r j p)
+pub placed_stays : (asked : List (List Element)) (ps : List ℕ) (rs : List (List Element)) (j : Joined) → Placed j.rows asked ps → Placed (add_variable_rows rs j).rows asked ps
+unfolding add_variable_rows
+placed_stays asked ps [] j p = p
+placed_stays asked ps (r ∷ rs) j p = placed_stays asked ps rs (add_variable_row r j) (one_stays asked ps r j p)
 
-pub placed-length : (rows asked : List (List Element)) (ps : List ℕ) → Placed rows asked ps → length asked ≡ length ps
-placed-length rows [] [] none = refl
-placed-length rows (r ∷ rs) (p ∷ ps) (more h e rest) = ap suc (placed-length rows rs ps rest)
+pub placed_length : (rows asked : List (List Element)) (ps : List ℕ) → Placed rows asked ps → length asked ≡ length ps
+placed_length rows [] [] none = refl
+placed_length rows (r ∷ rs) (p ∷ ps) (more h e rest) = ap suc (placed_length rows rs ps rest)
 
-pub places-under : (rows asked : List (List Element)) (ps : List ℕ) → Placed rows asked ps → AllMem (λ (p : ℕ). p < length rows) ps
-places-under rows [] [] none = all_none (λ (p : ℕ). p < length rows)
-places-under rows (r ∷ rs) (p ∷ ps) (more h e rest) = all_cons (λ (q : ℕ). q < length rows) p ps h (places-under rows rs ps rest)
+pub places_under : (rows asked : List (List Element)) (ps : List ℕ) → Placed rows asked ps → AllMem (λ (p : ℕ). p < length rows) ps
+places_under rows [] [] none = all_none (λ (p : ℕ). p < length rows)
+places_under rows (r ∷ rs) (p ∷ ps) (more h e rest) = all_cons (λ (q : ℕ). q < length rows) p ps h (places_under rows rs ps rest)

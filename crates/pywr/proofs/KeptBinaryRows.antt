@@ -13,41 +13,41 @@ use lib.Ieee.{Float}
 use Rattle.pywr.specs.declared.Sentinel.{Sentinel}
 use Rattle.pywr.specs.Result.{value}
 use Rattle.pywr.specs.Network.{Period, Network}
-use Rattle.pywr.specs.NetworkFile.{parseNetwork}
+use Rattle.pywr.specs.NetworkFile.{parse_network}
 use Rattle.pywr.specs.ColEdgeMap.{columns}
-use Rattle.pywr.specs.Rows.{Element, element, columnMap}
+use Rattle.pywr.specs.Rows.{Element, element, column_map}
 use Rattle.pywr.specs.Programme.{Row, Programme, NodeRow, Shape, Built}
 use Rattle.pywr.specs.VaryingRows.{fresh_row}
-use Rattle.pywr.specs.Build.{assemble, programmeOf}
+use Rattle.pywr.specs.Build.{assemble, programme_of}
 use Rattle.pywr.specs.StepFile.{StepFile}
-use Rattle.pywr.specs.StepIntervals.{intervals, Intervals, isBinary}
-use Rattle.pywr.specs.Interval.{zeroToHigh}
-use Rattle.pywr.specs.Step.{changeCoefficient, stepped}
-use Rattle.pywr.specs.Store.{Store, shape_of, programmeIn}
-use Rattle.pywr.specs.Calls.{buildAnswer, buildStore, storeOfStep, isAccepted}
-use Rattle.pywr.specs.Correspondence.{Call, storeAfter, reports, lastAccepted, periodsOf, read_by}
+use Rattle.pywr.specs.StepIntervals.{intervals, Intervals, is_binary}
+use Rattle.pywr.specs.Interval.{zero_to_high}
+use Rattle.pywr.specs.Step.{change_coefficient, stepped}
+use Rattle.pywr.specs.Store.{Store, shape_of, programme_in}
+use Rattle.pywr.specs.Calls.{build_answer, build_store, store_of_step, is_accepted}
+use Rattle.pywr.specs.Correspondence.{Call, store_after, reports, last_accepted, periods_of, read_by}
 use Rattle.pywr.specs.BinaryRows.{Binary, ZeroToHigh, BinaryBounds, SmallestStands, BinaryCoefficients}
-use Rattle.pywr.proofs.RowLaws.{own, elementsAt, elements-found}
-use Rattle.pywr.proofs.BinaryRowLaws.{set_to, zeroToHighRow, coefficientFor}
+use Rattle.pywr.proofs.RowLaws.{own, elements_at, elements_found}
+use Rattle.pywr.proofs.BinaryRowLaws.{set_to, zero_to_high_row, coefficient_for}
 use Rattle.pywr.proofs.NumberLaws.{FiniteFit}
 use Rattle.pywr.proofs.JoinLaws.{cols}
-use Rattle.pywr.proofs.ListLaws.{found_below, below-found, found_map}
-use Rattle.pywr.proofs.ReadLaws.{Sound, read-sound, same-value}
-use Rattle.pywr.proofs.Represents.{Represents, programme-back, same_length}
-use Rattle.pywr.proofs.RunLaws.{after, after-held, Reached, run}
-use Rattle.pywr.proofs.FitLaws.{asked, forVirtualStorages}
-use Rattle.pywr.proofs.AgainLaws.{step-columns}
+use Rattle.pywr.proofs.ListLaws.{found_below, below_found, found_map}
+use Rattle.pywr.proofs.ReadLaws.{Sound, read_sound, same_value}
+use Rattle.pywr.proofs.Represents.{Represents, programme_back, same_length}
+use Rattle.pywr.proofs.RunLaws.{after, after_held, Reached, run}
+use Rattle.pywr.proofs.FitLaws.{asked, for_virtual_storages}
+use Rattle.pywr.proofs.AgainLaws.{step_columns}
 use Rattle.pywr.proofs.StepReadLaws.{IntervalsOk}
-use Rattle.pywr.proofs.SharedLaws.{row_from, has-set}
-use Rattle.pywr.proofs.SteppedLaws.{built-elements, steppedRows, AllRanged, bounds, bounds-elements, step-is-bounds, binary-left, step_row}
-use Rattle.pywr.proofs.DemandThree.{build-accepted, build-represents, periods-are, read_alike, file-ok, file-ranged, passed_here}
+use Rattle.pywr.proofs.SharedLaws.{row_from, has_set_lem}
+use Rattle.pywr.proofs.SteppedLaws.{built_elements, stepped_rows, AllRanged, bounds, bounds_elements, step_is_bounds, binary_left, step_row}
+use Rattle.pywr.proofs.DemandThree.{build_accepted, build_represents, periods_are, read_alike, file_ok, file_ranged, passed_here}
 use Rattle.pywr.proofs.AcceptedLaws.{shape_is}
 
 -- a coefficient that is set is an element of the row
-set-member : (c : ℕ) (v : Float) (row : List Element) → Memᴰ c (cols row) → Memᴰ (element c v) (set_to c v row)
-unfolding changeCoefficient
-set-member c v [] m = absurd (Memᴰ.not-nil m)
-set-member c v (e ∷ es) m = go (eqb e.column c) refl (Memᴰ.cases_cons m) (λ k. set-member c v es k)
+set_member : (c : ℕ) (v : Float) (row : List Element) → Memᴰ c (cols row) → Memᴰ (element c v) (set_to c v row)
+unfolding change_coefficient
+set_member c v [] m = absurd (Memᴰ.not-nil m)
+set_member c v (e ∷ es) m = go (eqb e.column c) refl (Memᴰ.cases_cons m) (λ k. set_member c v es k)
   where
     go : (b : Bool) → eqb e.column c ≡ b → (c ≡ e.column) ⊎ Memᴰ c (cols es) → (Memᴰ c (cols es) → Memᴰ (element c v) (set_to c v es))
         → Memᴰ (element c v) (cond b (element c v ∷ es) (e ∷ set_to c v es))
@@ -59,48 +59,48 @@ set-member c v (e ∷ es) m = go (eqb e.column c) refl (Memᴰ.cases_cons m) (λ
 abbrev pub Left : Row → Row → Type 0
 Left y x = (x.elements ≡ y.elements) ⊎ ((c : ℕ) × (v : Float) × (x.elements ≡ set_to c v y.elements) × FiniteFit v)
 
-module _ (networkFile : List ℕ) (w : Sentinel) (old : Store) (words : List ℕ) (numbers : List Float) (net : Network) (parsed : parseNetwork networkFile ≡ value net)
-    (accepted : isAccepted (buildAnswer w networkFile old words numbers) ≡ true) where
+module _ (network_file : List ℕ) (w : Sentinel) (old : Store) (words : List ℕ) (numbers : List Float) (net : Network) (parsed : parse_network network_file ≡ value net)
+    (accepted : is_accepted (build_answer w network_file old words numbers) ≡ true) where
   abbrev start : Store
-  start = buildStore w networkFile old words numbers
+  start = build_store w network_file old words numbers
 
   abbrev b : Built
-  b = programmeOf w net
+  b = programme_of w net
 
   abbrev fresh : List Row
   fresh = b.programme.varying
 
   abbrev joined : List (List Element)
-  joined = (forVirtualStorages w net).rows
+  joined = (for_virtual_storages w net).rows
 
   sound : Sound net
-  sound = read-sound networkFile net parsed
+  sound = read_sound network_file net parsed
 
   held : Represents start b
-  held = build-represents w net old networkFile words numbers sound (build-accepted w net old networkFile words numbers parsed accepted)
+  held = build_represents w net old network_file words numbers sound (build_accepted w net old network_file words numbers parsed accepted)
 
   -- ---- the varying rows by the last accepted file
 
   unfoldable RowsAfter : Option (List ℕ) → List Row → Type 0
   RowsAfter no-file rows = rows ≡ fresh
   RowsAfter (some file) rows =
-      (f : StepFile) × (read_by net file ≡ value f) × IntervalsOk (length net.aggregates) (length net.virtualStorages) (intervals w (periodsOf net) f)
-      × AllRanged w net (intervals w (periodsOf net) f) × (rows ≡ steppedRows w net (intervals w (periodsOf net) f))
+      (f : StepFile) × (read_by net file ≡ value f) × IntervalsOk (length net.aggregates) (length net.virtual_storages) (intervals w (periods_of net) f)
+      × AllRanged w net (intervals w (periods_of net) f) × (rows ≡ stepped_rows w net (intervals w (periods_of net) f))
 
-  rows-after : (o : Option (List ℕ)) (t : Store) → Reached start b held o t → RowsAfter o (programmeIn t).varying
-  unfolding Reached RowsAfter stepped programmeOf assemble
-  rows-after no-file t h = ap (λ (q : Store). (programmeIn q).varying) h ∙ ap (λ (p : Programme). p.varying) (programme-back start b held)
-  rows-after (some file) t h =
+  rows_after_lem : (o : Option (List ℕ)) (t : Store) → Reached start b held o t → RowsAfter o (programme_in t).varying
+  unfolding Reached RowsAfter stepped programme_of assemble
+  rows_after_lem no-file t h = ap (λ (q : Store). (programme_in q).varying) h ∙ ap (λ (p : Programme). p.varying) (programme_back start b held)
+  rows_after_lem (some file) t h =
       let f : StepFile = h.0 in
       let read : read_by net file ≡ value f = sym (read_alike w net file) ∙ h.1 in
       let passed = passed_here w net f h.3 h.4 in (
         f,
         read,
-        file-ok w net sound file f h.3 read passed,
-        file-ranged w net sound file f h.3 read passed,
-        ap (λ (q : Store). (programmeIn q).varying) h.2
-            ∙ ap (λ (p : Programme). p.varying) (programme-back (storeOfStep start (value f)) (after start b held f) (after-held start b held f))
-            ∙ ap (λ (q : List Period). steppedRows w net (intervals w q f)) (periods-are w net),
+        file_ok w net sound file f h.3 read passed,
+        file_ranged w net sound file f h.3 read passed,
+        ap (λ (q : Store). (programme_in q).varying) h.2
+            ∙ ap (λ (p : Programme). p.varying) (programme_back (store_of_step start (value f)) (after start b held f) (after_held start b held f))
+            ∙ ap (λ (q : List Period). stepped_rows w net (intervals w q f)) (periods_are w net),
       )
 
   -- ---- a binary row
@@ -108,96 +108,96 @@ module _ (networkFile : List ℕ) (w : Sentinel) (old : Store) (words : List ℕ
   abbrev edges : ℕ
   edges = (columns net).count
 
-  module _ (n : NodeRow) (m : Memᴰ n b.shape.nodeRows) (binary : T (isBinary n.rowType)) where
+  module _ (n : NodeRow) (m : Memᴰ n b.shape.node_rows) (binary : T (is_binary n.row_type)) where
     fresh_at : get_elem? fresh n.row ≡ some (fresh_row w (get_or joined n.row []))
     fresh_at = ap (λ (rows : List Row). get_elem? rows n.row) (asked w net).varying ∙ found_map (fresh_row w) joined [] n.row (row_from w net sound n m).under
 
-    module _ (i : Intervals) (ok : IntervalsOk (length net.aggregates) (length net.virtualStorages) i) (ranged : AllRanged w net i)
-        (rows : List Row) (is : rows ≡ steppedRows w net i) where
+    module _ (i : Intervals) (ok : IntervalsOk (length net.aggregates) (length net.virtual_storages) i) (ranged : AllRanged w net i)
+        (rows : List Row) (is : rows ≡ stepped_rows w net i) where
       least : Float
-      least = (binary-left w net sound i ok ranged n m binary).least
+      least = (binary_left w net sound i ok ranged n m binary).least
 
-      left-elements : List Element
-      left-elements = set_to (edges + n.set) least (elementsAt n.row (bounds w net sound i ok ranged))
+      left_elements : List Element
+      left_elements = set_to (edges + n.set) least (elements_at n.row (bounds w net sound i ok ranged))
 
-      stepped-at : get_elem? rows n.row ≡ some (zeroToHighRow w left-elements)
-      unfolding left-elements least
-      stepped-at = ap (λ (l : List Row). get_elem? l n.row) (is ∙ step-is-bounds w net sound i ok ranged) ∙ (binary-left w net sound i ok ranged n m binary).at
+      stepped_at : get_elem? rows n.row ≡ some (zero_to_high_row w left_elements)
+      unfolding left_elements least
+      stepped_at = ap (λ (l : List Row). get_elem? l n.row) (is ∙ step_is_bounds w net sound i ok ranged) ∙ (binary_left w net sound i ok ranged n m binary).at
 
-      stands-there : Memᴰ (element (edges + n.set) least) left-elements
-      unfolding left-elements
-      stands-there =
-          set-member (edges + n.set) least (elementsAt n.row (bounds w net sound i ok ranged))
-          (subst (λ (row : List Element). Memᴰ (edges + n.set) (cols row)) (sym (bounds-elements w net sound i ok ranged n.row)) (has-set w net sound n m binary))
+      stands_there : Memᴰ (element (edges + n.set) least) left_elements
+      unfolding left_elements
+      stands_there =
+          set_member (edges + n.set) least (elements_at n.row (bounds w net sound i ok ranged))
+          (subst (λ (row : List Element). Memᴰ (edges + n.set) (cols row)) (sym (bounds_elements w net sound i ok ranged n.row)) (has_set_lem w net sound n m binary))
 
-    zero-to-high : (t : Store) (o : Option (List ℕ)) → RowsAfter o (programmeIn t).varying → ZeroToHigh w t n
+    zero_to_high_lem : (t : Store) (o : Option (List ℕ)) → RowsAfter o (programme_in t).varying → ZeroToHigh w t n
     unfolding RowsAfter fresh_row
-    zero-to-high t no-file h =
+    zero_to_high_lem t no-file h =
         record { row = fresh_row w (get_or joined n.row []); found = ap (λ (rows : List Row). get_elem? rows n.row) h ∙ fresh_at; lower = refl; upper = refl }
-    zero-to-high t (some file) h =
+    zero_to_high_lem t (some file) h =
         record {
-          row = zeroToHighRow w (left-elements (intervals w (periodsOf net) h.0) h.2 h.3 (programmeIn t).varying h.4);
-          found = stepped-at (intervals w (periodsOf net) h.0) h.2 h.3 (programmeIn t).varying h.4;
+          row = zero_to_high_row w (left_elements (intervals w (periods_of net) h.0) h.2 h.3 (programme_in t).varying h.4);
+          found = stepped_at (intervals w (periods_of net) h.0) h.2 h.3 (programme_in t).varying h.4;
           lower = refl;
           upper = refl;
         }
 
   -- the store after the list, with what its shape says
   abbrev last : List Call → Store
-  last calls = storeAfter start calls
+  last calls = store_after start calls
 
   abbrev file-of : List Call → Option (List ℕ)
-  file-of calls = lastAccepted no-file (reports start calls)
+  file-of calls = last_accepted no-file (reports start calls)
 
-  there : (calls : List Call) → RowsAfter (file-of calls) (programmeIn (last calls)).varying
+  there : (calls : List Call) → RowsAfter (file-of calls) (programme_in (last calls)).varying
   unfolding Reached
-  there calls = rows-after (file-of calls) (last calls) (run start b held calls start no-file refl)
+  there calls = rows_after_lem (file-of calls) (last calls) (run start b held calls start no-file refl)
 
   shape : (calls : List Call) → shape_of (last calls) ≡ b.shape
-  shape calls = shape_is networkFile w old words numbers net parsed accepted calls
+  shape calls = shape_is network_file w old words numbers net parsed accepted calls
 
-  known : (calls : List Call) (n : NodeRow) → Memᴰ n (shape_of (last calls)).nodeRows → Memᴰ n b.shape.nodeRows
-  known calls n k = subst (λ (q : Shape). Memᴰ n q.nodeRows) (shape calls) k
+  known : (calls : List Call) (n : NodeRow) → Memᴰ n (shape_of (last calls)).node_rows → Memᴰ n b.shape.node_rows
+  known calls n k = subst (λ (q : Shape). Memᴰ n q.node_rows) (shape calls) k
 
-  bounds-kept : (calls : List Call) (n : NodeRow) → Binary (last calls) n → ZeroToHigh w (last calls) n
-  bounds-kept calls n k = zero-to-high n (known calls n k.0) k.1 (last calls) (file-of calls) (there calls)
+  bounds_kept : (calls : List Call) (n : NodeRow) → Binary (last calls) n → ZeroToHigh w (last calls) n
+  bounds_kept calls n k = zero_to_high_lem n (known calls n k.0) k.1 (last calls) (file-of calls) (there calls)
 
-  module _ (calls : List Call) (n : NodeRow) (k : Binary (last calls) n) (i : Intervals) (ok : IntervalsOk (length net.aggregates) (length net.virtualStorages) i)
-      (ranged : AllRanged w net i) (is : (programmeIn (last calls)).varying ≡ steppedRows w net i) where
-    abbrev place : Memᴰ n b.shape.nodeRows
+  module _ (calls : List Call) (n : NodeRow) (k : Binary (last calls) n) (i : Intervals) (ok : IntervalsOk (length net.aggregates) (length net.virtual_storages) i)
+      (ranged : AllRanged w net i) (is : (programme_in (last calls)).varying ≡ stepped_rows w net i) where
+    abbrev place : Memᴰ n b.shape.node_rows
     place = known calls n k.0
 
     abbrev rows : List Row
-    rows = (programmeIn (last calls)).varying
+    rows = (programme_in (last calls)).varying
 
-    on-column : Memᴰ (element (b.shape.edgeColumns + n.set) (least n place k.1 i ok ranged rows is)) (left-elements n place k.1 i ok ranged rows is)
-    unfolding programmeOf assemble columnMap
-    on-column = stands-there n place k.1 i ok ranged rows is
+    on_column_lem : Memᴰ (element (b.shape.edge_columns + n.set) (least n place k.1 i ok ranged rows is)) (left_elements n place k.1 i ok ranged rows is)
+    unfolding programme_of assemble column_map
+    on_column_lem = stands_there n place k.1 i ok ranged rows is
 
-    smallest : SmallestStands (last calls) (λ j. coefficientFor w i.nodes j) n
+    smallest : SmallestStands (last calls) (λ j. coefficient_for w i.nodes j) n
     unfolding least
     smallest =
-        let left = binary-left w net sound i ok ranged n place k.1 in
+        let left = binary_left w net sound i ok ranged n place k.1 in
         let from = left.from in
         record {
-          row = zeroToHighRow w (left-elements n place k.1 i ok ranged rows is);
-          found = stepped-at n place k.1 i ok ranged rows is;
+          row = zero_to_high_row w (left_elements n place k.1 i ok ranged rows is);
+          found = stepped_at n place k.1 i ok ranged rows is;
           least = least n place k.1 i ok ranged rows is;
           stands =
-              subst (λ (q : Shape). Memᴰ (element (q.edgeColumns + n.set) (least n place k.1 i ok ranged rows is)) (left-elements n place k.1 i ok ranged rows is)) (sym (shape calls))
-              on-column;
-          one = (from.0, (subst (λ (q : Shape). Memᴰ from.0 q.nodeRows) (sym (shape calls)) from.1, from.2), from.3, from.4);
+              subst (λ (q : Shape). Memᴰ (element (q.edge_columns + n.set) (least n place k.1 i ok ranged rows is)) (left_elements n place k.1 i ok ranged rows is)) (sym (shape calls))
+              on_column_lem;
+          one = (from.0, (subst (λ (q : Shape). Memᴰ from.0 q.node_rows) (sym (shape calls)) from.1, from.2), from.3, from.4);
           each = λ j known-j same. left.each j (known calls j known-j.0) known-j.1 same;
         }
 
-  by-file : (calls : List Call) (file : List ℕ) (f : StepFile) → read_by net file ≡ value f → (n : NodeRow) → Binary (last calls) n
-      → RowsAfter (some file) (programmeIn (last calls)).varying
-      → SmallestStands (last calls) (λ j. coefficientFor w (intervals w (periodsOf net) f).nodes j) n
+  by_file : (calls : List Call) (file : List ℕ) (f : StepFile) → read_by net file ≡ value f → (n : NodeRow) → Binary (last calls) n
+      → RowsAfter (some file) (programme_in (last calls)).varying
+      → SmallestStands (last calls) (λ j. coefficient_for w (intervals w (periods_of net) f).nodes j) n
   unfolding RowsAfter
-  by-file calls file f read n k h =
-      subst (λ (g : StepFile). SmallestStands (last calls) (λ j. coefficientFor w (intervals w (periodsOf net) g).nodes j) n)
-      (same-value h.0 f (sym h.1 ∙ read))
-      (smallest calls n k (intervals w (periodsOf net) h.0) h.2 h.3 h.4)
+  by_file calls file f read n k h =
+      subst (λ (g : StepFile). SmallestStands (last calls) (λ j. coefficient_for w (intervals w (periods_of net) g).nodes j) n)
+      (same_value h.0 f (sym h.1 ∙ read))
+      (smallest calls n k (intervals w (periods_of net) h.0) h.2 h.3 h.4)
 
   -- ---- any row
 
@@ -205,31 +205,31 @@ module _ (networkFile : List ℕ) (w : Sentinel) (old : Store) (words : List ℕ
   unfolding RowsAfter
   left_by no-file rows h p x at = (x, ap (λ (l : List Row). get_elem? l p) (sym h) ∙ at, inl refl)
   left_by (some file) rows h p x at =
-      let i : Intervals = intervals w (periodsOf net) h.0 in
-      let stepped-rows : List Row = steppedRows w net i in
+      let i : Intervals = intervals w (periods_of net) h.0 in
+      let stepped-rows : List Row = stepped_rows w net i in
       let there : get_elem? stepped-rows p ≡ some x = ap (λ (l : List Row). get_elem? l p) (sym h.4) ∙ at in
-      let under : p < length fresh = subst (λ (k : ℕ). p < k) (same_length _ _ (step-columns w b.shape i fresh)) (found_below stepped-rows p x there) in
-      let y = below-found fresh p under in
-      let same : y.0.elements ≡ get_or joined p [] = sym (elements-found fresh p y.0 y.1) ∙ built-elements w net p in
+      let under : p < length fresh = subst (λ (k : ℕ). p < k) (same_length _ _ (step_columns w b.shape i fresh)) (found_below stepped-rows p x there) in
+      let y = below_found fresh p under in
+      let same : y.0.elements ≡ get_or joined p [] = sym (elements_found fresh p y.0 y.1) ∙ built_elements w net p in
       (y.0, y.1, go y.0 same (step_row w net sound i h.2 h.3 p x there))
     where
       go : (y : Row) → y.elements ≡ get_or joined p []
-          → (x.elements ≡ get_or joined p []) ⊎ ((c : ℕ) × (v : Float) × (own x ≡ zeroToHigh w) × (x.elements ≡ set_to c v (get_or joined p [])) × FiniteFit v)
+          → (x.elements ≡ get_or joined p []) ⊎ ((c : ℕ) × (v : Float) × (own x ≡ zero_to_high w) × (x.elements ≡ set_to c v (get_or joined p [])) × FiniteFit v)
           → Left y x
       go y e (inl same) = inl (same ∙ sym e)
       go y e (inr set) = inr (set.0, set.1, set.3 ∙ ap (set_to set.0 set.1) (sym e), set.4)
 
-  pub left-of-built : (calls : List Call) (p : ℕ) (x : Row) → get_elem? (programmeIn (storeAfter (buildStore w networkFile old words numbers) calls)).varying p ≡ some x
-      → (y : Row) × (get_elem? (programmeOf w net).programme.varying p ≡ some y) × Left y x
-  left-of-built calls p x at = left_by (file-of calls) (programmeIn (last calls)).varying (there calls) p x at
+  pub left_of_built : (calls : List Call) (p : ℕ) (x : Row) → get_elem? (programme_in (store_after (build_store w network_file old words numbers) calls)).varying p ≡ some x
+      → (y : Row) × (get_elem? (programme_of w net).programme.varying p ≡ some y) × Left y x
+  left_of_built calls p x at = left_by (file-of calls) (programme_in (last calls)).varying (there calls) p x at
 
 -- "these rows stay at lower 0, upper high sentinel, after every step"
-pub binary-bounds-kept : BinaryBounds
-binary-bounds-kept = bounds-kept
+pub binary_bounds_kept : BinaryBounds
+binary_bounds_kept = bounds_kept
 
 -- "on a shared row the smallest of that step's coefficients stands"
-pub binary-coefficients : BinaryCoefficients
-binary-coefficients networkFile s old words numbers net parsed accepted calls file f q read n k =
-    by-file networkFile s old words numbers net parsed accepted calls file f read n k
-    (subst (λ (o : Option (List ℕ)). RowsAfter networkFile s old words numbers net parsed accepted o (programmeIn (storeAfter (buildStore s networkFile old words numbers) calls)).varying) q
-    (there networkFile s old words numbers net parsed accepted calls))
+pub binary_coefficients : BinaryCoefficients
+binary_coefficients network_file s old words numbers net parsed accepted calls file f q read n k =
+    by_file network_file s old words numbers net parsed accepted calls file f read n k
+    (subst (λ (o : Option (List ℕ)). RowsAfter network_file s old words numbers net parsed accepted o (programme_in (store_after (build_store s network_file old words numbers) calls)).varying) q
+    (there network_file s old words numbers net parsed accepted calls))

@@ -18,20 +18,20 @@ use lib.Ieee.Fits.{and_i, and_l, and_r}
 use Rattle.pywr.specs.declared.Sentinel.{Sentinel}
 use Rattle.pywr.specs.declared.Sentinel.TheVariants.{Infinity, Largest}
 use Rattle.pywr.specs.Numbers.{zero64, one64, high, low}
-use Rattle.pywr.specs.Network.{link, Node, Edge, Network, kind_of, keepIf, source, target, edgesWith, incoming, outgoing}
-use Rattle.pywr.specs.ColEdgeMap.{columns, columnAt, MappedEdge, withColumns, mappedEdges, columnOf}
-use Rattle.pywr.specs.Rows.{Element, element, addElement, addOn, ColumnMap, columnMap, columnsWith, columnsInto, columnsOutOf, massRow}
+use Rattle.pywr.specs.Network.{link, Node, Edge, Network, kind_of, keep_if, source, target, edges_with, incoming, outgoing}
+use Rattle.pywr.specs.ColEdgeMap.{columns, column_at, MappedEdge, with_columns, mapped_edges, column_of}
+use Rattle.pywr.specs.Rows.{Element, element, add_element, add_on, ColumnMap, column_map, columns_with, columns_into, columns_out_of, mass_row}
 use Rattle.pywr.specs.Programme.{Row}
-use Rattle.pywr.specs.FixedRows.{massRowsFrom}
-use Rattle.pywr.specs.Plans.{exact, meets, Plan, unitsInOne, signed, is_finite, timesOne, lowerMet, upperMet, all_from}
+use Rattle.pywr.specs.FixedRows.{mass_rows_from}
+use Rattle.pywr.specs.Plans.{exact, meets, Plan, units_in_one, signed, is_finite, times_one, lower_met, upper_met, all_from}
 use Rattle.pywr.specs.Allows.{inflow, outflow}
-use Rattle.pywr.specs.Admits.{onColumn, rowSum, rowMet}
-use Rattle.pywr.proofs.ElementLaws.{add_none, add_at, add-cases}
-use Rattle.pywr.proofs.ExactLaws.{units-pos}
-use Rattle.pywr.proofs.LinkLaws.{NoSelf, Single, ends-sound, one-column-single}
-use Rattle.pywr.proofs.TurnLaws.{across-joined}
-use Rattle.pywr.proofs.AmountLaws.{Carries, mass-sum}
-use Rattle.pywr.proofs.EvenLaws.{amounts, flow-amounts, mapped-edge-of}
+use Rattle.pywr.specs.Admits.{on_column, row_sum, row_met}
+use Rattle.pywr.proofs.ElementLaws.{add_none, add_at, add_cases}
+use Rattle.pywr.proofs.ExactLaws.{units_pos}
+use Rattle.pywr.proofs.LinkLaws.{NoSelf, Single, ends_sound, one_column_single}
+use Rattle.pywr.proofs.TurnLaws.{across_joined}
+use Rattle.pywr.proofs.AmountLaws.{Carries, mass_sum}
+use Rattle.pywr.proofs.EvenLaws.{amounts, flow_amounts, mapped_edge_of}
 
 -- ---- the columns of a row
 
@@ -39,26 +39,26 @@ pub data HasColumn (c : ℕ) : List Element → Type 0 where
   here : {e : Element} {es : List Element} → e.column ≡ c → HasColumn c (e ∷ es)
   there : {e : Element} {es : List Element} → HasColumn c es → HasColumn c (e ∷ es)
 
-pub added : (c : ℕ) (x : Float) (row : List Element) → HasColumn c (addElement c x row)
+pub added : (c : ℕ) (x : Float) (row : List Element) → HasColumn c (add_element c x row)
 added c x [] = rw (add_none c x) (here refl)
-added c x (e ∷ es) = add-cases c x e es (HasColumn c) (λ h. here refl) (λ h. here refl) (λ h. there (added c x es))
+added c x (e ∷ es) = add_cases c x e es (HasColumn c) (λ h. here refl) (λ h. here refl) (λ h. there (added c x es))
 
-still : (c d : ℕ) (x : Float) (row : List Element) → HasColumn c row → HasColumn c (addElement d x row)
-still c d x (e ∷ es) (here q) = add-cases d x e es (HasColumn c) (λ h. there (here q)) (λ h. here (h ∙ q)) (λ h. here q)
-still c d x (e ∷ es) (there h) = add-cases d x e es (HasColumn c) (λ l. there (there h)) (λ l. there h) (λ l. there (still c d x es h))
+still : (c d : ℕ) (x : Float) (row : List Element) → HasColumn c row → HasColumn c (add_element d x row)
+still c d x (e ∷ es) (here q) = add_cases d x e es (HasColumn c) (λ h. there (here q)) (λ h. here (h ∙ q)) (λ h. here q)
+still c d x (e ∷ es) (there h) = add_cases d x e es (HasColumn c) (λ l. there (there h)) (λ l. there h) (λ l. there (still c d x es h))
 
-still-on : (c : ℕ) (cs : List ℕ) (x : Float) (row : List Element) → HasColumn c row → HasColumn c (addOn cs x row)
-unfolding addOn
-still-on c [] x row h = h
-still-on c (d ∷ cs) x row h = still-on c cs x (addElement d x row) (still c d x row h)
+still_on : (c : ℕ) (cs : List ℕ) (x : Float) (row : List Element) → HasColumn c row → HasColumn c (add_on cs x row)
+unfolding add_on
+still_on c [] x row h = h
+still_on c (d ∷ cs) x row h = still_on c cs x (add_element d x row) (still c d x row h)
 
-pub added-on : (c : ℕ) (cs : List ℕ) (x : Float) (row : List Element) → Memᴰ c cs → HasColumn c (addOn cs x row)
-unfolding addOn
-added-on c [] x row m = absurd (Memᴰ.not-nil m)
-added-on c (d ∷ cs) x row m = go (λ k. added-on c cs x (addElement d x row) k) (Memᴰ.cases_cons m)
+pub added_on : (c : ℕ) (cs : List ℕ) (x : Float) (row : List Element) → Memᴰ c cs → HasColumn c (add_on cs x row)
+unfolding add_on
+added_on c [] x row m = absurd (Memᴰ.not-nil m)
+added_on c (d ∷ cs) x row m = go (λ k. added_on c cs x (add_element d x row) k) (Memᴰ.cases_cons m)
   where
-    go : (Memᴰ c cs → HasColumn c (addOn cs x (addElement d x row))) → (c ≡ d) ⊎ Memᴰ c cs → HasColumn c (addOn cs x (addElement d x row))
-    go ih (inl q) = still-on c cs x (addElement d x row) (subst (λ (k : ℕ). HasColumn k (addElement d x row)) (sym q) (added d x row))
+    go : (Memᴰ c cs → HasColumn c (add_on cs x (add_element d x row))) → (c ≡ d) ⊎ Memᴰ c cs → HasColumn c (add_on cs x (add_element d x row))
+    go ih (inl q) = still_on c cs x (add_element d x row) (subst (λ (k : ℕ). HasColumn k (add_element d x row)) (sym q) (added d x row))
     go ih (inr k) = ih k
 
 -- a row of one element has one column
@@ -68,13 +68,13 @@ alone (e ∷ d ∷ es) a b l h k = let z : suc (suc (length es)) ≡ 1 = l in ab
 
 -- ---- pipes
 
-column-member : (end : MappedEdge → ℕ) (n : ℕ) (ps : List MappedEdge) (i : ℕ) (p : MappedEdge) → get_elem? ps i ≡ some p → end p ≡ n → Memᴰ p.column (columnsWith end n ps)
-unfolding columnsWith keepIf
-column-member end n [] i p h q = let z : ◌≡◌ {A = ℕ} 0 1 = cc in absurd (omega arith)
-column-member end n (x ∷ xs) i p h q = go (eqb (end x) n) refl i h (λ j r. column-member end n xs j p r q)
+column_member : (end : MappedEdge → ℕ) (n : ℕ) (ps : List MappedEdge) (i : ℕ) (p : MappedEdge) → get_elem? ps i ≡ some p → end p ≡ n → Memᴰ p.column (columns_with end n ps)
+unfolding columns_with keep_if
+column_member end n [] i p h q = let z : ◌≡◌ {A = ℕ} 0 1 = cc in absurd (omega arith)
+column_member end n (x ∷ xs) i p h q = go (eqb (end x) n) refl i h (λ j r. column_member end n xs j p r q)
   where
     go : (b : Bool) → eqb (end x) n ≡ b → (i : ℕ) → get_elem? (x ∷ xs) i ≡ some p
-        → ((j : ℕ) → get_elem? xs j ≡ some p → Memᴰ p.column (columnsWith end n xs)) → Memᴰ p.column (keepIf b x.column (columnsWith end n xs))
+        → ((j : ℕ) → get_elem? xs j ≡ some p → Memᴰ p.column (columns_with end n xs)) → Memᴰ p.column (keep_if b x.column (columns_with end n xs))
     go true e zero r ih = let s : x ≡ p = cc in Memᴰ.head (ap (λ (y : MappedEdge). y.column) (sym s))
     go true e (suc j) r ih = Memᴰ.tail (ih j r)
     go false e zero r ih =
@@ -84,151 +84,151 @@ column-member end n (x ∷ xs) i p h q = go (eqb (end x) n) refl i h (λ j r. co
 
 pub record PipeFor (es : List Edge) (cs : List (Option ℕ)) (e : ℕ) (x : Edge) : Type 0 where
   pub pipe : MappedEdge
-  pub found : get_elem? (withColumns es cs) e ≡ some pipe
+  pub found : get_elem? (with_columns es cs) e ≡ some pipe
   pub from_is : pipe.from ≡ x.from
   pub to_is : pipe.to ≡ x.to
 
-pub pipe-for : (es : List Edge) (cs : List (Option ℕ)) (e : ℕ) (x : Edge) → length es ≡ length cs → get_elem? es e ≡ some x → PipeFor es cs e x
-unfolding withColumns
-pipe-for [] cs e x l h = let z : ◌≡◌ {A = ℕ} 0 1 = cc in absurd (omega arith)
-pipe-for (y ∷ ys) [] e x l h = let z : suc (length ys) ≡ 0 = l in absurd (omega arith)
-pipe-for (y ∷ ys) (c ∷ cs) zero x l h =
+pub pipe_for : (es : List Edge) (cs : List (Option ℕ)) (e : ℕ) (x : Edge) → length es ≡ length cs → get_elem? es e ≡ some x → PipeFor es cs e x
+unfolding with_columns
+pipe_for [] cs e x l h = let z : ◌≡◌ {A = ℕ} 0 1 = cc in absurd (omega arith)
+pipe_for (y ∷ ys) [] e x l h = let z : suc (length ys) ≡ 0 = l in absurd (omega arith)
+pipe_for (y ∷ ys) (c ∷ cs) zero x l h =
     let s : y ≡ x = cc in
     record { pipe = record { from = y.from; to = y.to; column = Option.get_or c 0 }; found = refl; from_is = ap source s; to_is = ap target s }
-pipe-for (y ∷ ys) (c ∷ cs) (suc e) x l h =
-    let r = pipe-for ys cs e x (let z : suc (length ys) ≡ suc (length cs) = l in omega arith) h in
+pipe_for (y ∷ ys) (c ∷ cs) (suc e) x l h =
+    let r = pipe_for ys cs e x (let z : suc (length ys) ≡ suc (length cs) = l in omega arith) h in
     record { pipe = r.pipe; found = r.found; from_is = r.from_is; to_is = r.to_is }
 
 -- ---- a link's row is dropped exactly if the link has one edge in and one out
 
-map-keep : (f : ℕ → ℕ) (b : Bool) (x : ℕ) (xs : List ℕ) → map f (keepIf b x xs) ≡ keepIf b (f x) (map f xs)
-unfolding keepIf
-map-keep f true x xs = refl
-map-keep f false x xs = refl
+map_keep : (f : ℕ → ℕ) (b : Bool) (x : ℕ) (xs : List ℕ) → map f (keep_if b x xs) ≡ keep_if b (f x) (map f xs)
+unfolding keep_if
+map_keep f true x xs = refl
+map_keep f false x xs = refl
 
 -- the columns of the edges with one end at a node are those of its list of edges
 module _ (end : MappedEdge → ℕ) (side : Edge → ℕ) (same : (x : Edge) (k : ℕ) → end (record { from = x.from; to = x.to; column = k }) ≡ side x) (n : ℕ) (f : ℕ → ℕ) where
-  pub columns-with : (es : List Edge) (cs : List (Option ℕ)) (i : ℕ) → length es ≡ length cs → ((j : ℕ) → f (i + j) ≡ Option.get_or (get_or cs j none) 0)
-      → columnsWith end n (withColumns es cs) ≡ map f (edgesWith side n i es)
-  unfolding columnsWith withColumns edgesWith
-  columns-with [] cs i l h = refl
-  columns-with (x ∷ es) [] i l h = absurd (omega (arith, l))
-  columns-with (x ∷ es) (c ∷ cs) i l h =
+  pub columns_with_lem : (es : List Edge) (cs : List (Option ℕ)) (i : ℕ) → length es ≡ length cs → ((j : ℕ) → f (i + j) ≡ Option.get_or (get_or cs j none) 0)
+      → columns_with end n (with_columns es cs) ≡ map f (edges_with side n i es)
+  unfolding columns_with with_columns edges_with
+  columns_with_lem [] cs i l h = refl
+  columns_with_lem (x ∷ es) [] i l h = absurd (omega (arith, l))
+  columns_with_lem (x ∷ es) (c ∷ cs) i l h =
       let here : f i ≡ Option.get_or c 0 = ap f (sym (add-zero i)) ∙ h 0 in
-      let rest : columnsWith end n (withColumns es cs) ≡ map f (edgesWith side n (suc i) es) =
-      columns-with es cs (suc i) (omega (arith, l)) (λ j. ap f (suc-add i j ∙ sym (add-suc i j)) ∙ h (suc j)) in
-      rw (same x (Option.get_or c 0), rest, ← here) (sym (map-keep f (eqb (side x) n) i (edgesWith side n (suc i) es)))
+      let rest : columns_with end n (with_columns es cs) ≡ map f (edges_with side n (suc i) es) =
+      columns_with_lem es cs (suc i) (omega (arith, l)) (λ j. ap f (suc-add i j ∙ sym (add-suc i j)) ∙ h (suc j)) in
+      rw (same x (Option.get_or c 0), rest, ← here) (sym (map_keep f (eqb (side x) n) i (edges_with side n (suc i) es)))
 
-one-element : (k : ℕ) (into out : List ℕ) → into ≡ k ∷ [] → out ≡ k ∷ [] → length (addOn out (neg one64) (addOn into one64 [])) ≡ 1
-unfolding addOn
-one-element k into out p q = rw (p, q, add_none k one64, add_at k (neg one64) (element k (add binary64 zero64 one64)) [] refl)
+one_element : (k : ℕ) (into out : List ℕ) → into ≡ k ∷ [] → out ≡ k ∷ [] → length (add_on out (neg one64) (add_on into one64 [])) ≡ 1
+unfolding add_on
+one_element k into out p q = rw (p, q, add_none k one64, add_at k (neg one64) (element k (add binary64 zero64 one64)) [] refl)
 
 module _ (net : Network) (noself : NoSelf net) (long : length net.edges ≡ length (columns net).of) (n : ℕ) where
   abbrev f : ColumnMap
-  f = columnMap net
+  f = column_map net
 
   record InMass (e : ℕ) : Type 0 where
     pipe : MappedEdge
-    found : get_elem? (mappedEdges net) e ≡ some pipe
-    has : HasColumn pipe.column (massRow f n)
+    found : get_elem? (mapped_edges net) e ≡ some pipe
+    has : HasColumn pipe.column (mass_row f n)
 
-  in-mass : (e : ℕ) → Memᴰ e (incoming net n) → InMass e
-  unfolding incoming massRow columnMap mappedEdges columnsInto
-  in-mass e m =
-      let r = ends-sound target n 0 e net.edges m in
-      let x : get_elem? net.edges e ≡ some r.edge = ap (get_elem? net.edges) (r.where-at ∙ zero-add r.at) ∙ r.found in
-      let p = pipe-for net.edges (columns net).of e r.edge long x in
-      let c = column-member (λ q. q.to) n (mappedEdges net) e p.pipe p.found (p.to_is ∙ r.ends) in
+  in_mass : (e : ℕ) → Memᴰ e (incoming net n) → InMass e
+  unfolding incoming mass_row column_map mapped_edges columns_into
+  in_mass e m =
+      let r = ends_sound target n 0 e net.edges m in
+      let x : get_elem? net.edges e ≡ some r.edge = ap (get_elem? net.edges) (r.where_at ∙ zero-add r.at) ∙ r.found in
+      let p = pipe_for net.edges (columns net).of e r.edge long x in
+      let c = column_member (λ q. q.to) n (mapped_edges net) e p.pipe p.found (p.to_is ∙ r.ends) in
       record {
         pipe = p.pipe;
         found = p.found;
-        has = still-on p.pipe.column (columnsOutOf n (mappedEdges net)) (neg one64) _ (added-on p.pipe.column (columnsInto n (mappedEdges net)) one64 [] c);
+        has = still_on p.pipe.column (columns_out_of n (mapped_edges net)) (neg one64) _ (added_on p.pipe.column (columns_into n (mapped_edges net)) one64 [] c);
       }
 
-  out-mass : (e : ℕ) → Memᴰ e (outgoing net n) → InMass e
-  unfolding outgoing massRow columnMap mappedEdges columnsOutOf
-  out-mass e m =
-      let r = ends-sound source n 0 e net.edges m in
-      let x : get_elem? net.edges e ≡ some r.edge = ap (get_elem? net.edges) (r.where-at ∙ zero-add r.at) ∙ r.found in
-      let p = pipe-for net.edges (columns net).of e r.edge long x in
-      let c = column-member (λ q. q.from) n (mappedEdges net) e p.pipe p.found (p.from_is ∙ r.ends) in
-      record { pipe = p.pipe; found = p.found; has = added-on p.pipe.column (columnsOutOf n (mappedEdges net)) (neg one64) _ c }
+  out_mass : (e : ℕ) → Memᴰ e (outgoing net n) → InMass e
+  unfolding outgoing mass_row column_map mapped_edges columns_out_of
+  out_mass e m =
+      let r = ends_sound source n 0 e net.edges m in
+      let x : get_elem? net.edges e ≡ some r.edge = ap (get_elem? net.edges) (r.where_at ∙ zero-add r.at) ∙ r.found in
+      let p = pipe_for net.edges (columns net).of e r.edge long x in
+      let c = column_member (λ q. q.from) n (mapped_edges net) e p.pipe p.found (p.from_is ∙ r.ends) in
+      record { pipe = p.pipe; found = p.found; has = added_on p.pipe.column (columns_out_of n (mapped_edges net)) (neg one64) _ c }
 
   -- a link has an edge in and an edge out (refusal 8)
-  pub dropped-single : (a b : ℕ) (mi mo : List ℕ) → incoming net n ≡ a ∷ mi → outgoing net n ≡ b ∷ mo → length (massRow f n) ≡ 1 → (p : ℕ) × Single (incoming net n) (outgoing net n) p
-  dropped-single a b mi mo hi ho one =
-      let ia = in-mass a (subst (λ (l : List ℕ). Memᴰ a l) (sym hi) (Memᴰ.head refl)) in
+  pub dropped_single : (a b : ℕ) (mi mo : List ℕ) → incoming net n ≡ a ∷ mi → outgoing net n ≡ b ∷ mo → length (mass_row f n) ≡ 1 → (p : ℕ) × Single (incoming net n) (outgoing net n) p
+  dropped_single a b mi mo hi ho one =
+      let ia = in_mass a (subst (λ (l : List ℕ). Memᴰ a l) (sym hi) (Memᴰ.head refl)) in
       let k : ℕ = ia.pipe.column in
-      let ins : (e : ℕ) → Memᴰ e (incoming net n) → columnAt (columns net) e ≡ some k =
-      (λ e m. let i = in-mass e m in (mapped-edge-of net noself e i.pipe i.found).column ∙ ap {B = Option ℕ} some (alone (massRow f n) i.pipe.column k one i.has ia.has)) in
-      let outs : (e : ℕ) → Memᴰ e (outgoing net n) → columnAt (columns net) e ≡ some k =
-      (λ e m. let i = out-mass e m in (mapped-edge-of net noself e i.pipe i.found).column ∙ ap {B = Option ℕ} some (alone (massRow f n) i.pipe.column k one i.has ia.has)) in
-      one-column-single net noself n k ins outs a b mi mo hi ho
+      let ins : (e : ℕ) → Memᴰ e (incoming net n) → column_at (columns net) e ≡ some k =
+      (λ e m. let i = in_mass e m in (mapped_edge_of net noself e i.pipe i.found).column ∙ ap {B = Option ℕ} some (alone (mass_row f n) i.pipe.column k one i.has ia.has)) in
+      let outs : (e : ℕ) → Memᴰ e (outgoing net n) → column_at (columns net) e ≡ some k =
+      (λ e m. let i = out_mass e m in (mapped_edge_of net noself e i.pipe i.found).column ∙ ap {B = Option ℕ} some (alone (mass_row f n) i.pipe.column k one i.has ia.has)) in
+      one_column_single net noself n k ins outs a b mi mo hi ho
 
   -- and the other way: the two edges lie in one column, whatever the order of the file
-  pub single-dropped : T (eqb (kind_of net.nodes n) link) → (p : ℕ) → Single (incoming net n) (outgoing net n) p → length (massRow f n) ≡ 1
-  unfolding massRow columnMap columnsInto columnsOutOf incoming outgoing mappedEdges columnOf columnAt
-  single-dropped isLink p s =
-      let t = across-joined net noself n p s isLink in
-      let same : columnOf net s.exit ≡ columnOf net p = ap (λ (o : Option ℕ). Option.get_or o 0) (t.first ∙ sym t.second) in
-      one-element (columnOf net p) _ _
-      (columns-with (λ q. q.to) target (λ x k. refl) n (columnOf net) net.edges (columns net).of 0 long (λ j. ap (columnOf net) (zero-add j))
-      ∙ ap (map (columnOf net)) s.into-is)
-      (columns-with (λ q. q.from) source (λ x k. refl) n (columnOf net) net.edges (columns net).of 0 long (λ j. ap (columnOf net) (zero-add j))
-      ∙ ap (map (columnOf net)) s.out-is ∙ ap (λ (k : ℕ). k ∷ []) same)
+  pub single_dropped : T (eqb (kind_of net.nodes n) link) → (p : ℕ) → Single (incoming net n) (outgoing net n) p → length (mass_row f n) ≡ 1
+  unfolding mass_row column_map columns_into columns_out_of incoming outgoing mapped_edges column_of column_at
+  single_dropped is_link p s =
+      let t = across_joined net noself n p s is_link in
+      let same : column_of net s.exit ≡ column_of net p = ap (λ (o : Option ℕ). Option.get_or o 0) (t.first ∙ sym t.second) in
+      one_element (column_of net p) _ _
+      (columns_with_lem (λ q. q.to) target (λ x k. refl) n (column_of net) net.edges (columns net).of 0 long (λ j. ap (column_of net) (zero-add j))
+      ∙ ap (map (column_of net)) s.into_is)
+      (columns_with_lem (λ q. q.from) source (λ x k. refl) n (column_of net) net.edges (columns net).of 0 long (λ j. ap (column_of net) (zero-add j))
+      ∙ ap (map (column_of net)) s.out_is ∙ ap (λ (k : ℕ). k ∷ []) same)
 
 -- ---- a dropped row's link balances
 
 module _ (net : Network) (noself : NoSelf net) (plan : Plan) (long : length net.edges ≡ length (columns net).of) (carries : Carries net plan) (n : ℕ) where
   -- one edge in and one out, on the row's only column
-  single-balanced : (p q : ℕ) → incoming net n ≡ p ∷ [] → outgoing net n ≡ q ∷ [] → length (massRow (columnMap net) n) ≡ 1 → inflow net plan n ≡ outflow net plan n
+  single_balanced : (p q : ℕ) → incoming net n ≡ p ∷ [] → outgoing net n ≡ q ∷ [] → length (mass_row (column_map net) n) ≡ 1 → inflow net plan n ≡ outflow net plan n
   unfolding inflow outflow amounts incoming outgoing
-  single-balanced p q hp hq one =
-      let ip = in-mass net noself long n p (subst (λ (l : List ℕ). Memᴰ p l) (sym hp) (Memᴰ.head refl)) in
-      let iq = out-mass net noself long n q (subst (λ (l : List ℕ). Memᴰ q l) (sym hq) (Memᴰ.head refl)) in
+  single_balanced p q hp hq one =
+      let ip = in_mass net noself long n p (subst (λ (l : List ℕ). Memᴰ p l) (sym hp) (Memᴰ.head refl)) in
+      let iq = out_mass net noself long n q (subst (λ (l : List ℕ). Memᴰ q l) (sym hq) (Memᴰ.head refl)) in
       let same : plan.amount p ≡ plan.amount q =
       sym (carries p ip.pipe ip.found)
-      ∙ ap (onColumn (columnMap net) plan) (alone (massRow (columnMap net) n) ip.pipe.column iq.pipe.column one ip.has iq.has)
+      ∙ ap (on_column (column_map net) plan) (alone (mass_row (column_map net) n) ip.pipe.column iq.pipe.column one ip.has iq.has)
       ∙ carries q iq.pipe iq.found in
-      flow-amounts target plan n 0 net.edges
+      flow_amounts target plan n 0 net.edges
       ∙ ap (amounts plan) hp
       ∙ ap (λ (m : ℕ). m + 0) same
-      ∙ sym (flow-amounts source plan n 0 net.edges ∙ ap (amounts plan) hq)
+      ∙ sym (flow_amounts source plan n 0 net.edges ∙ ap (amounts plan) hq)
 
-  pub dropped-balanced : (a b : ℕ) (mi mo : List ℕ) → incoming net n ≡ a ∷ mi → outgoing net n ≡ b ∷ mo → length (massRow (columnMap net) n) ≡ 1 → inflow net plan n ≡ outflow net plan n
-  dropped-balanced a b mi mo hi ho one =
-      let s = dropped-single net noself long n a b mi mo hi ho one in
-      single-balanced s.0 s.1.exit s.1.into-is s.1.out-is one
+  pub dropped_balanced : (a b : ℕ) (mi mo : List ℕ) → incoming net n ≡ a ∷ mi → outgoing net n ≡ b ∷ mo → length (mass_row (column_map net) n) ≡ 1 → inflow net plan n ≡ outflow net plan n
+  dropped_balanced a b mi mo hi ho one =
+      let s = dropped_single net noself long n a b mi mo hi ho one in
+      single_balanced s.0 s.1.exit s.1.into_is s.1.out_is one
 
 -- ---- bounds 0 and 0
 
-zero-both : (v : ℤ) → T (le_z (pos 0) v && le_z v (pos 0)) → v ≡ pos 0
-zero-both (pos n) h = let k = leb→le n 0 (and_r (leb 0 n) (leb n 0) h) in ap pos (omega arith)
-zero-both (negsuc n) h = absurd h
+zero_both : (v : ℤ) → T (le_z (pos 0) v && le_z v (pos 0)) → v ≡ pos 0
+zero_both (pos n) h = let k = leb→le n 0 (and_r (leb 0 n) (leb n 0) h) in ap pos (omega arith)
+zero_both (negsuc n) h = absurd h
 
-pub zero-met : (w : Sentinel) (v : ℤ) → T (meets w (record { lower = zero64; upper = zero64 }) v) ↔ (v ≡ pos 0)
-unfolding meets lowerMet upperMet le lt eq low high neg of_bits is_finite zero64 exact signed timesOne unitsInOne
-zero-met Infinity v = (zero-both v, λ e. rw e tt)
-zero-met Largest v = (zero-both v, λ e. rw e tt)
+pub zero_met : (w : Sentinel) (v : ℤ) → T (meets w (record { lower = zero64; upper = zero64 }) v) ↔ (v ≡ pos 0)
+unfolding meets lower_met upper_met le lt eq low high neg of_bits is_finite zero64 exact signed times_one units_in_one
+zero_met Infinity v = (zero_both v, λ e. rw e tt)
+zero_met Largest v = (zero_both v, λ e. rw e tt)
 
-abs-neg-pos : (m : ℕ) → nat_abs (neg_ℤ (pos m)) ≡ m
-abs-neg-pos zero = refl
-abs-neg-pos (suc m) = refl
+abs_neg_pos : (m : ℕ) → nat_abs (neg_ℤ (pos m)) ≡ m
+abs_neg_pos zero = refl
+abs_neg_pos (suc m) = refl
 
-times-one-zero : (z : ℤ) → timesOne z ≡ pos 0 → z ≡ pos 0
-unfolding timesOne
-times-one-zero (pos n) h = ap pos (eq_of_mul-eq-mul_right unitsInOne units-pos n 0 (ap nat_abs h ∙ sym (zero-mul unitsInOne)))
-times-one-zero (negsuc n) h =
-    let z : suc n * unitsInOne ≡ 0 = sym (abs-neg-pos (suc n * unitsInOne)) ∙ ap nat_abs h in
-    let p : 0 < suc n * unitsInOne = mul-pos (suc-le-suc zero-le) units-pos in
+times_one_zero : (z : ℤ) → times_one z ≡ pos 0 → z ≡ pos 0
+unfolding times_one
+times_one_zero (pos n) h = ap pos (eq_of_mul-eq-mul_right units_in_one units_pos n 0 (ap nat_abs h ∙ sym (zero-mul units_in_one)))
+times_one_zero (negsuc n) h =
+    let z : suc n * units_in_one ≡ 0 = sym (abs_neg_pos (suc n * units_in_one)) ∙ ap nat_abs h in
+    let p : 0 < suc n * units_in_one = mul-pos (suc-le-suc zero-le) units_pos in
     absurd (omega arith)
 
-pub times-one-of-zero : timesOne (pos 0) ≡ pos 0
-unfolding timesOne
-times-one-of-zero = ap pos (zero-mul unitsInOne)
+pub times_one_of_zero : times_one (pos 0) ≡ pos 0
+unfolding times_one
+times_one_of_zero = ap pos (zero-mul units_in_one)
 
-diff-zero : (a b : ℕ) → pos a -ℤ pos b ≡ pos 0 → a ≡ b
-diff-zero a b h =
+diff_zero : (a b : ℕ) → pos a -ℤ pos b ≡ pos 0 → a ≡ b
+diff_zero a b h =
     let e : pos a ≡ pos (0 + b) = sym (-ℤ-+ℤ_cancel (pos a) (pos b)) ∙ ap (λ (z : ℤ). z +ℤ pos b) h in
     ap nat_abs e ∙ zero-add b
 
@@ -247,16 +247,16 @@ module _ {A : Type 0} (P : A → Type 0) where
 
 module _ (w : Sentinel) (g : ColumnMap) (plan : Plan) where
   abbrev pub Met : Row → Type 0
-  Met r = T (meets w (record { lower = r.lower; upper = r.upper }) (rowSum g plan r.elements))
+  Met r = T (meets w (record { lower = r.lower; upper = r.upper }) (row_sum g plan r.elements))
 
-  pub every-met : (rows : List Row) (n : ℕ) → T (all_from (rowMet w g plan) n rows) ↔ Every Met rows
-  unfolding all_from rowMet
-  every-met [] n = (λ h. tt, λ h. tt)
-  every-met (r ∷ rs) n =
-      let a : Bool = meets w (record { lower = r.lower; upper = r.upper }) (rowSum g plan r.elements) in
-      let ih = every-met rs (suc n) in (
-        λ h. (and_l a (all_from (rowMet w g plan) (suc n) rs) h, ih.0 (and_r a (all_from (rowMet w g plan) (suc n) rs) h)),
-        λ h. and_i a (all_from (rowMet w g plan) (suc n) rs) h.0 (ih.1 h.1),
+  pub every_met : (rows : List Row) (n : ℕ) → T (all_from (row_met w g plan) n rows) ↔ Every Met rows
+  unfolding all_from row_met
+  every_met [] n = (λ h. tt, λ h. tt)
+  every_met (r ∷ rs) n =
+      let a : Bool = meets w (record { lower = r.lower; upper = r.upper }) (row_sum g plan r.elements) in
+      let ih = every_met rs (suc n) in (
+        λ h. (and_l a (all_from (row_met w g plan) (suc n) rs) h, ih.0 (and_r a (all_from (row_met w g plan) (suc n) rs) h)),
+        λ h. and_i a (all_from (row_met w g plan) (suc n) rs) h.0 (ih.1 h.1),
       )
 
 -- ---- the mass rows of all nodes
@@ -273,38 +273,38 @@ pub record Joined (net : Network) (n : ℕ) : Type 0 where
 module _ (w : Sentinel) (net : Network) (noself : NoSelf net) (plan : Plan) (long : length net.edges ≡ length (columns net).of) (carries : Carries net plan)
     (room : length net.edges * 1 + length net.edges * 1 < 2 ^ 53) where
   abbrev g : ColumnMap
-  g = columnMap net
+  g = column_map net
 
-  kept-met : (n : ℕ) → Met w g plan (record { lower = zero64; upper = zero64; elements = massRow g n }) ↔ (inflow net plan n ≡ outflow net plan n)
-  kept-met n =
-      let s : rowSum g plan (massRow g n) ≡ timesOne (pos (inflow net plan n) -ℤ pos (outflow net plan n)) = mass-sum net plan long carries n room in
-      let z = zero-met w (rowSum g plan (massRow g n)) in (
-        λ h. diff-zero (inflow net plan n) (outflow net plan n) (times-one-zero _ (sym s ∙ z.0 h)),
-        λ e. z.1 (s ∙ ap timesOne (ap (λ (k : ℕ). pos k -ℤ pos (outflow net plan n)) e ∙ +ℤ_invr (pos (outflow net plan n))) ∙ times-one-of-zero),
+  kept_met : (n : ℕ) → Met w g plan (record { lower = zero64; upper = zero64; elements = mass_row g n }) ↔ (inflow net plan n ≡ outflow net plan n)
+  kept_met n =
+      let s : row_sum g plan (mass_row g n) ≡ times_one (pos (inflow net plan n) -ℤ pos (outflow net plan n)) = mass_sum net plan long carries n room in
+      let z = zero_met w (row_sum g plan (mass_row g n)) in (
+        λ h. diff_zero (inflow net plan n) (outflow net plan n) (times_one_zero _ (sym s ∙ z.0 h)),
+        λ e. z.1 (s ∙ ap times_one (ap (λ (k : ℕ). pos k -ℤ pos (outflow net plan n)) e ∙ +ℤ_invr (pos (outflow net plan n))) ∙ times_one_of_zero),
       )
 
-  abbrev massOf : ℕ → Row
-  massOf n = record { lower = zero64; upper = zero64; elements = massRow g n }
+  abbrev mass_of : ℕ → Row
+  mass_of n = record { lower = zero64; upper = zero64; elements = mass_row g n }
 
-  mass-one : (n : ℕ) (t : Bool) → (T t → Joined net n) → Every (Met w g plan) (cond (t && not (eqb (length (massRow g n)) 1)) (massOf n ∷ []) []) ↔ (T t → inflow net plan n ≡ outflow net plan n)
-  mass-one n false j = (λ h x. absurd x, λ h. tt)
-  mass-one n true j = go (eqb (length (massRow g n)) 1) refl
+  mass_one : (n : ℕ) (t : Bool) → (T t → Joined net n) → Every (Met w g plan) (cond (t && not (eqb (length (mass_row g n)) 1)) (mass_of n ∷ []) []) ↔ (T t → inflow net plan n ≡ outflow net plan n)
+  mass_one n false j = (λ h x. absurd x, λ h. tt)
+  mass_one n true j = go (eqb (length (mass_row g n)) 1) refl
     where
-      go : (u : Bool) → eqb (length (massRow g n)) 1 ≡ u → Every (Met w g plan) (cond (not u) (massOf n ∷ []) []) ↔ (T true → inflow net plan n ≡ outflow net plan n)
+      go : (u : Bool) → eqb (length (mass_row g n)) 1 ≡ u → Every (Met w g plan) (cond (not u) (mass_of n ∷ []) []) ↔ (T true → inflow net plan n ≡ outflow net plan n)
       go true e =
           let k = j tt in
-          (λ h x. dropped-balanced net noself plan long carries n k.a k.b k.mi k.mo k.ins k.outs (eqb→eq (length (massRow g n)) 1 (subst T (sym e) tt)), λ h. tt)
-      go false e = (λ h x. (kept-met n).0 h.0, λ h. ((kept-met n).1 (h tt), tt))
+          (λ h x. dropped_balanced net noself plan long carries n k.a k.b k.mi k.mo k.ins k.outs (eqb→eq (length (mass_row g n)) 1 (subst T (sym e) tt)), λ h. tt)
+      go false e = (λ h x. (kept_met n).0 h.0, λ h. ((kept_met n).1 (h tt), tt))
 
-  pub mass-met : (xs : List Node) (n : ℕ) → ((i : ℕ) (x : Node) → get_elem? xs i ≡ some x → T (eqb x.kind link) → Joined net (n + i))
-      → Every (Met w g plan) (massRowsFrom g n xs) ↔ ((i : ℕ) (x : Node) → get_elem? xs i ≡ some x → T (eqb x.kind link) → inflow net plan (n + i) ≡ outflow net plan (n + i))
-  unfolding massRowsFrom
-  mass-met [] n js = (λ h i x e. let z : ◌≡◌ {A = ℕ} 0 1 = cc in absurd (omega arith), λ h. tt)
-  mass-met (y ∷ ys) n js =
+  pub mass_met : (xs : List Node) (n : ℕ) → ((i : ℕ) (x : Node) → get_elem? xs i ≡ some x → T (eqb x.kind link) → Joined net (n + i))
+      → Every (Met w g plan) (mass_rows_from g n xs) ↔ ((i : ℕ) (x : Node) → get_elem? xs i ≡ some x → T (eqb x.kind link) → inflow net plan (n + i) ≡ outflow net plan (n + i))
+  unfolding mass_rows_from
+  mass_met [] n js = (λ h i x e. let z : ◌≡◌ {A = ℕ} 0 1 = cc in absurd (omega arith), λ h. tt)
+  mass_met (y ∷ ys) n js =
       both
-      (mass-one n (eqb y.kind link) (λ t. subst (Joined net) (add-zero n) (js 0 y refl t)))
-      (mass-met ys (suc n) (λ i x e t. subst (Joined net) (add-suc n i ∙ sym (suc-add n i)) (js (suc i) x e t)))
-      (every_append (Met w g plan) (cond (eqb y.kind link && not (eqb (length (massRow g n)) 1)) (massOf n ∷ []) []) (massRowsFrom g (suc n) ys))
+      (mass_one n (eqb y.kind link) (λ t. subst (Joined net) (add-zero n) (js 0 y refl t)))
+      (mass_met ys (suc n) (λ i x e t. subst (Joined net) (add-suc n i ∙ sym (suc-add n i)) (js (suc i) x e t)))
+      (every_append (Met w g plan) (cond (eqb y.kind link && not (eqb (length (mass_row g n)) 1)) (mass_of n ∷ []) []) (mass_rows_from g (suc n) ys))
     where
       Bal : ℕ → Type 0
       Bal k = inflow net plan k ≡ outflow net plan k

@@ -8,25 +8,25 @@ use lib.Ieee.Bits.{nan_bits_is, of_bits-fits}
 use lib.Ieee.Fits.{and_l, and_r}
 use lib.Ieee.Scale.{finite}
 use lib.Ieee.Positive.{positive}
-use Rattle.doubles.proofs.Order.{neg-num, between-finite}
-use Rattle.doubles.proofs.Rounding.{round-num}
-use Rattle.doubles.proofs.Monotone.{sub-num, div-num, raised-num, raised-in-order, positive-between}
+use Rattle.doubles.proofs.Order.{neg_num, between_finite}
+use Rattle.doubles.proofs.Rounding.{round_num}
+use Rattle.doubles.proofs.Monotone.{sub_num, div_num, raised_num, raised_in_order, positive_between}
 use Rattle.pywr.specs.declared.Sentinel.{Sentinel}
 use Rattle.pywr.specs.declared.Sentinel.TheVariants.{Infinity, Largest}
 use Rattle.pywr.specs.declared.NodeBounds.TheVariants.{Flow, Volume}
-use Rattle.pywr.specs.Numbers.{double, zero64, trillion, leastDays, mostDays, high, low, greater, isFlow, isSmall, isDays, ofPattern}
-use Rattle.pywr.specs.Interval.{sentinels, intervalOf, storageBounds, virtualBounds}
-use Rattle.pywr.specs.Period.{virtualInterval}
+use Rattle.pywr.specs.Numbers.{double, zero64, trillion, least_days, most_days, high, low, greater, is_flow, is_small, is_days, of_pattern}
+use Rattle.pywr.specs.Interval.{sentinels, interval_of, storage_bounds, virtual_bounds}
+use Rattle.pywr.specs.Period.{virtual_interval}
 use Rattle.pywr.specs.Uncrossed.{Uncrossed}
 use Rattle.pywr.proofs.ExactLaws.{number_of}
 use Rattle.pywr.proofs.BoundLaws.{IsBound, IsInterval}
-use Rattle.pywr.proofs.VaryingLaws.{sentinels-interval}
+use Rattle.pywr.proofs.VaryingLaws.{sentinels_interval}
 
 -- ---- a flow's pattern
 
-pub flow-bound : (bits : ℕ) → T (isFlow bits) → IsBound (ofPattern bits)
-unfolding isFlow ofPattern
-flow-bound bits t = (of_bits-fits binary64 bits, number_of (of_bits binary64 bits) (subst (λ (b : Bool). T (not b)) (nan_bits_is binary64 bits) t))
+pub flow_bound : (bits : ℕ) → T (is_flow bits) → IsBound (of_pattern bits)
+unfolding is_flow of_pattern
+flow_bound bits t = (of_bits-fits binary64 bits, number_of (of_bits binary64 bits) (subst (λ (b : Bool). T (not b)) (nan_bits_is binary64 bits) t))
 
 -- ---- a cost, volume or factor
 
@@ -34,83 +34,83 @@ pub record FiniteFit (x : Float) : Type 0 where
   pub finite : T (finite x)
   pub fit : T (fits binary64 x)
 
-pub trillion-finite : T (finite trillion)
+pub trillion_finite : T (finite trillion)
 unfolding trillion of_bits
-trillion-finite = tt
+trillion_finite = tt
 
-pub small_is : (bits : ℕ) → T (isSmall bits) → FiniteFit (ofPattern bits)
-unfolding isSmall ofPattern
+pub small_is : (bits : ℕ) → T (is_small bits) → FiniteFit (of_pattern bits)
+unfolding is_small of_pattern
 small_is bits t =
     let x : Float = of_bits binary64 bits in
-    let h : T (le (neg trillion) x && le x trillion) = and_r (isFlow bits) (le (neg trillion) x && le x trillion) t in
-    record { finite = between-finite trillion x trillion-finite (and_l (le (neg trillion) x) (le x trillion) h) (and_r (le (neg trillion) x) (le x trillion) h); fit = of_bits-fits binary64 bits }
+    let h : T (le (neg trillion) x && le x trillion) = and_r (is_flow bits) (le (neg trillion) x && le x trillion) t in
+    record { finite = between_finite trillion x trillion_finite (and_l (le (neg trillion) x) (le x trillion) h) (and_r (le (neg trillion) x) (le x trillion) h); fit = of_bits-fits binary64 bits }
 
 -- ---- a step's days: a double above 0.0
 
 abbrev pub Divisor : Float → Type 0
 Divisor x = T (fits binary64 x) × T (positive x)
 
-least-positive : T (positive leastDays)
-unfolding leastDays round
-least-positive = tt
+least_positive : T (positive least_days)
+unfolding least_days round
+least_positive = tt
 
-least-bound : IsBound leastDays
-unfolding leastDays
-least-bound = round-num binary64 false 1 1024
+least_bound : IsBound least_days
+unfolding least_days
+least_bound = round_num binary64 false 1 1024
 
-most-finite : T (finite mostDays)
-unfolding mostDays double round
-most-finite = tt
+most_finite : T (finite most_days)
+unfolding most_days double round
+most_finite = tt
 
-pub days-is : (bits : ℕ) → T (isDays bits) → Divisor (ofPattern bits)
-unfolding isDays ofPattern
-days-is bits t =
+pub days_is : (bits : ℕ) → T (is_days bits) → Divisor (of_pattern bits)
+unfolding is_days of_pattern
+days_is bits t =
     let x : Float = of_bits binary64 bits in
-    let b : IsBound x = (unfold ofPattern in flow-bound bits (and_l (isFlow bits) (le leastDays x && le x mostDays) t)) in
-    let h : T (le leastDays x && le x mostDays) = and_r (isFlow bits) (le leastDays x && le x mostDays) t in
-    (b.0, positive-between binary64 leastDays x mostDays least-bound b least-positive most-finite (and_l (le leastDays x) (le x mostDays) h) (and_r (le leastDays x) (le x mostDays) h))
+    let b : IsBound x = (unfold of_pattern in flow_bound bits (and_l (is_flow bits) (le least_days x && le x most_days) t)) in
+    let h : T (le least_days x && le x most_days) = and_r (is_flow bits) (le least_days x && le x most_days) t in
+    (b.0, positive_between binary64 least_days x most_days least_bound b least_positive most_finite (and_l (le least_days x) (le x most_days) h) (and_r (le least_days x) (le x most_days) h))
 
 -- ---- intervals
 
-volume-interval : (days a m : Float) → Divisor days → IsBound a → IsBound m → IsInterval (intervalOf days (Volume a m))
-unfolding intervalOf
-volume-interval days a m d p q = record { lower = div-num binary64 (neg a) days (neg-num binary64 a p) d.0 d.1; upper = div-num binary64 m days q d.0 d.1 }
+volume_interval : (days a m : Float) → Divisor days → IsBound a → IsBound m → IsInterval (interval_of days (Volume a m))
+unfolding interval_of
+volume_interval days a m d p q = record { lower = div_num binary64 (neg a) days (neg_num binary64 a p) d.0 d.1; upper = div_num binary64 m days q d.0 d.1 }
 
-less-bound : (x y : Float) → FiniteFit x → FiniteFit y → IsBound (sub binary64 x y)
-less-bound x y p q = sub-num binary64 x y p.fit q.fit p.finite q.finite
+less_bound : (x y : Float) → FiniteFit x → FiniteFit y → IsBound (sub binary64 x y)
+less_bound x y p q = sub_num binary64 x y p.fit q.fit p.finite q.finite
 
-pub storage-interval : (days least most now : Float) → Divisor days → FiniteFit least → FiniteFit most → FiniteFit now → IsInterval (intervalOf days (storageBounds least most now))
-unfolding storageBounds
-storage-interval days least most now d l m n = volume-interval days (sub binary64 now least) (sub binary64 most now) d (less-bound now least n l) (less-bound most now m n)
+pub storage_interval_lem : (days least most now : Float) → Divisor days → FiniteFit least → FiniteFit most → FiniteFit now → IsInterval (interval_of days (storage_bounds least most now))
+unfolding storage_bounds
+storage_interval_lem days least most now d l m n = volume_interval days (sub binary64 now least) (sub binary64 most now) d (less_bound now least n l) (less_bound most now m n)
 
-raised-bound : (x : Float) → IsBound x → IsBound (greater x zero64)
+raised_bound : (x : Float) → IsBound x → IsBound (greater x zero64)
 unfolding greater zero64
-raised-bound x b = raised-num binary64 x b
+raised_bound x b = raised_num binary64 x b
 
-negated-bound : (x : Float) → IsBound x → IsBound (neg x)
-negated-bound x b = neg-num binary64 x b
+negated_bound : (x : Float) → IsBound x → IsBound (neg x)
+negated_bound x b = neg_num binary64 x b
 
 -- of doubles, in whatever order they are subtracted, negated and raised
-pub virtual-interval : (w : Sentinel) (days least most now : Float) (active : Bool) → Divisor days → FiniteFit least → FiniteFit most → FiniteFit now
-    → IsInterval (virtualInterval w days active (virtualBounds least most now))
-unfolding virtualInterval virtualBounds
-virtual-interval w days least most now true d l m n = volume-interval days _ _ d (search (raised-bound, negated-bound, less-bound)) (search (raised-bound, negated-bound, less-bound))
-virtual-interval w days least most now false d l m n = sentinels-interval w
+pub virtual_interval_lem : (w : Sentinel) (days least most now : Float) (active : Bool) → Divisor days → FiniteFit least → FiniteFit most → FiniteFit now
+    → IsInterval (virtual_interval w days active (virtual_bounds least most now))
+unfolding virtual_interval virtual_bounds
+virtual_interval_lem w days least most now true d l m n = volume_interval days _ _ d (search (raised_bound, negated_bound, less_bound)) (search (raised_bound, negated_bound, less_bound))
+virtual_interval_lem w days least most now false d l m n = sentinels_interval w
 
-pub flow-interval : (days least most : Float) → IsBound least → IsBound most → IsInterval (intervalOf days (Flow least most))
-unfolding intervalOf
-flow-interval days least most bl bm = record { lower = bl; upper = bm }
+pub flow_interval : (days least most : Float) → IsBound least → IsBound most → IsInterval (interval_of days (Flow least most))
+unfolding interval_of
+flow_interval days least most bl bm = record { lower = bl; upper = bm }
 
 -- ---- a virtual storage's interval is never crossed: both volumes are raised to 0.0, and the days are above it
 
-sentinels-uncrossed : (w : Sentinel) → Uncrossed (sentinels w)
+sentinels_uncrossed : (w : Sentinel) → Uncrossed (sentinels w)
 unfolding sentinels high low le neg of_bits
-sentinels-uncrossed Infinity = tt
-sentinels-uncrossed Largest = tt
+sentinels_uncrossed Infinity = tt
+sentinels_uncrossed Largest = tt
 
-pub virtual-uncrossed : (w : Sentinel) (days least most now : Float) (active : Bool) → Divisor days → FiniteFit least → FiniteFit most → FiniteFit now
-    → Uncrossed (virtualInterval w days active (virtualBounds least most now))
-unfolding virtualInterval virtualBounds intervalOf greater zero64
-virtual-uncrossed w days least most now true d l m n =
-    raised-in-order binary64 (sub binary64 now least) (sub binary64 most now) days (less-bound now least n l) (less-bound most now m n) d.0 d.1
-virtual-uncrossed w days least most now false d l m n = sentinels-uncrossed w
+pub virtual_uncrossed : (w : Sentinel) (days least most now : Float) (active : Bool) → Divisor days → FiniteFit least → FiniteFit most → FiniteFit now
+    → Uncrossed (virtual_interval w days active (virtual_bounds least most now))
+unfolding virtual_interval virtual_bounds interval_of greater zero64
+virtual_uncrossed w days least most now true d l m n =
+    raised_in_order binary64 (sub binary64 now least) (sub binary64 most now) days (less_bound now least n l) (less_bound most now m n) d.0 d.1
+virtual_uncrossed w days least most now false d l m n = sentinels_uncrossed w

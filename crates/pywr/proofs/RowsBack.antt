@@ -10,15 +10,15 @@ use lib.Ieee.{Float}
 use Rattle.pywr.specs.Numbers.{zero64}
 use Rattle.pywr.specs.Rows.{Element}
 use Rattle.pywr.specs.Programme.{Column, Row}
-use Rattle.pywr.specs.Store.{Store, entries, elementsOf, columnsOfRow, rowEntry, columnEntry}
-use Rattle.pywr.specs.Written.{startsFrom, columnsIn, valuesIn, lowerOf, upperOf}
-use Rattle.pywr.proofs.StoreLaws.{Holds, holds-right}
+use Rattle.pywr.specs.Store.{Store, entries, elements_of, columns_of_row, row_entry, column_entry}
+use Rattle.pywr.specs.Written.{starts_from, columns_in, values_in, lower_of, upper_of}
+use Rattle.pywr.proofs.StoreLaws.{Holds, holds_right}
 
 -- a row's elements from its columns and factors
-elements-back : (es : List Element) → elementsOf (map (λ (e : Element). e.column) es) (map (λ (e : Element). e.value) es) ≡ es
-unfolding elementsOf
-elements-back [] = refl
-elements-back (e ∷ es) = ap (λ (l : List Element). e ∷ l) (elements-back es)
+elements_back : (es : List Element) → elements_of (map (λ (e : Element). e.column) es) (map (λ (e : Element). e.value) es) ≡ es
+unfolding elements_of
+elements_back [] = refl
+elements_back (e ∷ es) = ap (λ (l : List Element). e ∷ l) (elements_back es)
 
 -- the middle of three
 middle : {A : Type 0} (pre mid post : List A) (at to : ℕ) → length pre ≡ at → at + length mid ≡ to → slice at to (pre ++ (mid ++ post)) ≡ mid
@@ -27,74 +27,74 @@ middle pre mid post at to p q =
     ∙ drop_at pre mid at p
 
 -- the head of what is held, and the rest
-pub held-head : {A : Type 0} (d : A) (run : List A) (at : ℕ) (x : A) (xs : List A) → Holds d run at (x ∷ xs) → get_or run at d ≡ x
+pub held_head : {A : Type 0} (d : A) (run : List A) (at : ℕ) (x : A) (xs : List A) → Holds d run at (x ∷ xs) → get_or run at d ≡ x
 unfolding Holds
-held-head d run at x xs h = ap (λ (n : ℕ). get_or run n d) (sym (add-zero at)) ∙ h 0 (suc-le-suc zero-le)
+held_head d run at x xs h = ap (λ (n : ℕ). get_or run n d) (sym (add-zero at)) ∙ h 0 (suc-le-suc zero-le)
 
-pub held-tail : {A : Type 0} (d : A) (run : List A) (at : ℕ) (x : A) (xs : List A) → Holds d run at (x ∷ xs) → Holds d run (at + 1) xs
-held-tail d run at x xs h = holds-right d run at (x ∷ []) xs h
+pub held_tail : {A : Type 0} (d : A) (run : List A) (at : ℕ) (x : A) (xs : List A) → Holds d run at (x ∷ xs) → Holds d run (at + 1) xs
+held_tail d run at x xs h = holds_right d run at (x ∷ []) xs h
 
 -- the start of the first row of a list
-pub start-head : (at : ℕ) (rows : List Row) (run : List ℕ) (r : ℕ) → Holds 0 run r (startsFrom at rows) → get_or run r 0 ≡ at
-unfolding startsFrom
-start-head at [] run r h = held-head 0 run r at [] h
-start-head at (x ∷ xs) run r h = held-head 0 run r at (startsFrom (at + length x.elements) xs) h
+pub start_head : (at : ℕ) (rows : List Row) (run : List ℕ) (r : ℕ) → Holds 0 run r (starts_from at rows) → get_or run r 0 ≡ at
+unfolding starts_from
+start_head at [] run r h = held_head 0 run r at [] h
+start_head at (x ∷ xs) run r h = held_head 0 run r at (starts_from (at + length x.elements) xs) h
 
 -- a part of a run that is the middle of three
-pub part-is : {A : Type 0} (run pre mid rest post : List A) (from to at : ℕ) → run ≡ pre ++ ((mid ++ rest) ++ post) → length pre ≡ at → from ≡ at → to ≡ at + length mid
+pub part_is : {A : Type 0} (run pre mid rest post : List A) (from to at : ℕ) → run ≡ pre ++ ((mid ++ rest) ++ post) → length pre ≡ at → from ≡ at → to ≡ at + length mid
     → slice from to run ≡ mid
-part-is run pre mid rest post from to at e p qf qt =
+part_is run pre mid rest post from to at e p qf qt =
     ap (λ l. slice from to l) (e ∙ ap (λ l. pre ++ l) (append_assoc mid rest post))
     ∙ middle pre mid (rest ++ post) from to (p ∙ sym qf) (ap (λ (n : ℕ). n + length mid) qf ∙ sym qt)
 
-pub columns-length : (x : Row) → length (columnsIn x) ≡ length x.elements
-unfolding columnsIn
-columns-length x = length-map x.elements (λ (e : Element). e.column)
+pub columns_length : (x : Row) → length (columns_in x) ≡ length x.elements
+unfolding columns_in
+columns_length x = length-map x.elements (λ (e : Element). e.column)
 
-pub values_length : (x : Row) → length (valuesIn x) ≡ length x.elements
-unfolding valuesIn
+pub values_length : (x : Row) → length (values_in x) ≡ length x.elements
+unfolding values_in
 values_length x = length-map x.elements (λ (e : Element). e.value)
 
-row_here : (s : Store) (x : Row) (xs : List Row) (r at : ℕ) (preC postC : List ℕ) (preE postE : List Float)
-    → s.columns ≡ preC ++ (flat_map columnsIn (x ∷ xs) ++ postC) → length preC ≡ at
-    → s.elements ≡ preE ++ (flat_map valuesIn (x ∷ xs) ++ postE) → length preE ≡ at
-    → Holds 0 s.rowStarts r (startsFrom at (x ∷ xs))
-    → Holds zero64 s.rowLower r (map lowerOf (x ∷ xs)) → Holds zero64 s.rowUpper r (map upperOf (x ∷ xs))
-    → rowEntry s r ≡ x
-unfolding rowEntry columnsOfRow flat_map startsFrom lowerOf upperOf columnsIn valuesIn
-row_here s x xs r at preC postC preE postE ec lc ee le hs hl hu =
+row_here : (s : Store) (x : Row) (xs : List Row) (r at : ℕ) (pre_c post_c : List ℕ) (pre_e post_e : List Float)
+    → s.columns ≡ pre_c ++ (flat_map columns_in (x ∷ xs) ++ post_c) → length pre_c ≡ at
+    → s.elements ≡ pre_e ++ (flat_map values_in (x ∷ xs) ++ post_e) → length pre_e ≡ at
+    → Holds 0 s.row_starts r (starts_from at (x ∷ xs))
+    → Holds zero64 s.row_lower r (map lower_of (x ∷ xs)) → Holds zero64 s.row_upper r (map upper_of (x ∷ xs))
+    → row_entry s r ≡ x
+unfolding row_entry columns_of_row flat_map starts_from lower_of upper_of columns_in values_in
+row_here s x xs r at pre_c post_c pre_e post_e ec lc ee le hs hl hu =
     let n : ℕ = length x.elements in
-    let first : get_or s.rowStarts r 0 ≡ at = start-head at (x ∷ xs) s.rowStarts r hs in
-    let second : get_or s.rowStarts (r + 1) 0 ≡ at + n = start-head (at + n) xs s.rowStarts (r + 1) (held-tail 0 s.rowStarts r at (startsFrom (at + n) xs) hs) in
-    let cols = part-is s.columns preC (columnsIn x) (flat_map columnsIn xs) postC (get_or s.rowStarts r 0) (get_or s.rowStarts (r + 1) 0) at ec lc first
-    (second ∙ ap (λ (m : ℕ). at + m) (sym (columns-length x))) in
-    let facs = part-is s.elements preE (valuesIn x) (flat_map valuesIn xs) postE (get_or s.rowStarts r 0) (get_or s.rowStarts (r + 1) 0) at ee le first
+    let first : get_or s.row_starts r 0 ≡ at = start_head at (x ∷ xs) s.row_starts r hs in
+    let second : get_or s.row_starts (r + 1) 0 ≡ at + n = start_head (at + n) xs s.row_starts (r + 1) (held_tail 0 s.row_starts r at (starts_from (at + n) xs) hs) in
+    let cols = part_is s.columns pre_c (columns_in x) (flat_map columns_in xs) post_c (get_or s.row_starts r 0) (get_or s.row_starts (r + 1) 0) at ec lc first
+    (second ∙ ap (λ (m : ℕ). at + m) (sym (columns_length x))) in
+    let facs = part_is s.elements pre_e (values_in x) (flat_map values_in xs) post_e (get_or s.row_starts r 0) (get_or s.row_starts (r + 1) 0) at ee le first
     (second ∙ ap (λ (m : ℕ). at + m) (sym (values_length x))) in
-    let lower = held-head zero64 s.rowLower r x.lower (map lowerOf xs) hl in
-    let upper = held-head zero64 s.rowUpper r x.upper (map upperOf xs) hu in
-    λ i. record { lower = lower i; upper = upper i; elements = (ap₂ elementsOf cols facs ∙ elements-back x.elements) i }
+    let lower = held_head zero64 s.row_lower r x.lower (map lower_of xs) hl in
+    let upper = held_head zero64 s.row_upper r x.upper (map upper_of xs) hu in
+    λ i. record { lower = lower i; upper = upper i; elements = (ap₂ elements_of cols facs ∙ elements_back x.elements) i }
 
 -- Rows r, r + 1, .. of a store are `rows`: the elements from `at` on are theirs
-pub rows_back : (s : Store) (rows : List Row) (r at : ℕ) (preC postC : List ℕ) (preE postE : List Float)
-    → s.columns ≡ preC ++ (flat_map columnsIn rows ++ postC) → length preC ≡ at
-    → s.elements ≡ preE ++ (flat_map valuesIn rows ++ postE) → length preE ≡ at
-    → Holds 0 s.rowStarts r (startsFrom at rows)
-    → Holds zero64 s.rowLower r (map lowerOf rows) → Holds zero64 s.rowUpper r (map upperOf rows)
-    → entries (rowEntry s) 1 r (length rows) ≡ rows
-unfolding entries flat_map startsFrom
-rows_back s [] r at preC postC preE postE ec lc ee le hs hl hu = refl
-rows_back s (x ∷ xs) r at preC postC preE postE ec lc ee le hs hl hu =
+pub rows_back : (s : Store) (rows : List Row) (r at : ℕ) (pre_c post_c : List ℕ) (pre_e post_e : List Float)
+    → s.columns ≡ pre_c ++ (flat_map columns_in rows ++ post_c) → length pre_c ≡ at
+    → s.elements ≡ pre_e ++ (flat_map values_in rows ++ post_e) → length pre_e ≡ at
+    → Holds 0 s.row_starts r (starts_from at rows)
+    → Holds zero64 s.row_lower r (map lower_of rows) → Holds zero64 s.row_upper r (map upper_of rows)
+    → entries (row_entry s) 1 r (length rows) ≡ rows
+unfolding entries flat_map starts_from
+rows_back s [] r at pre_c post_c pre_e post_e ec lc ee le hs hl hu = refl
+rows_back s (x ∷ xs) r at pre_c post_c pre_e post_e ec lc ee le hs hl hu =
     let n : ℕ = length x.elements in
     ap₂ (λ a b. a ∷ b)
-    (row_here s x xs r at preC postC preE postE ec lc ee le hs hl hu)
-    (rows_back s xs (r + 1) (at + n) (preC ++ columnsIn x) postC (preE ++ valuesIn x) postE
-    (ec ∙ ap (λ l. preC ++ l) (append_assoc (columnsIn x) (flat_map columnsIn xs) postC) ∙ sym (append_assoc preC (columnsIn x) (flat_map columnsIn xs ++ postC)))
-    (length-append preC (columnsIn x) ∙ ap₂ (λ (a b : ℕ). a + b) lc (columns-length x))
-    (ee ∙ ap (λ l. preE ++ l) (append_assoc (valuesIn x) (flat_map valuesIn xs) postE) ∙ sym (append_assoc preE (valuesIn x) (flat_map valuesIn xs ++ postE)))
-    (length-append preE (valuesIn x) ∙ ap₂ (λ (a b : ℕ). a + b) le (values_length x))
-    (held-tail 0 s.rowStarts r at (startsFrom (at + n) xs) hs)
-    (held-tail zero64 s.rowLower r (lowerOf x) (map lowerOf xs) hl)
-    (held-tail zero64 s.rowUpper r (upperOf x) (map upperOf xs) hu))
+    (row_here s x xs r at pre_c post_c pre_e post_e ec lc ee le hs hl hu)
+    (rows_back s xs (r + 1) (at + n) (pre_c ++ columns_in x) post_c (pre_e ++ values_in x) post_e
+    (ec ∙ ap (λ l. pre_c ++ l) (append_assoc (columns_in x) (flat_map columns_in xs) post_c) ∙ sym (append_assoc pre_c (columns_in x) (flat_map columns_in xs ++ post_c)))
+    (length-append pre_c (columns_in x) ∙ ap₂ (λ (a b : ℕ). a + b) lc (columns_length x))
+    (ee ∙ ap (λ l. pre_e ++ l) (append_assoc (values_in x) (flat_map values_in xs) post_e) ∙ sym (append_assoc pre_e (values_in x) (flat_map values_in xs ++ post_e)))
+    (length-append pre_e (values_in x) ∙ ap₂ (λ (a b : ℕ). a + b) le (values_length x))
+    (held_tail 0 s.row_starts r at (starts_from (at + n) xs) hs)
+    (held_tail zero64 s.row_lower r (lower_of x) (map lower_of xs) hl)
+    (held_tail zero64 s.row_upper r (upper_of x) (map upper_of xs) hu))
 
 -- ---- the columns
 
@@ -103,20 +103,20 @@ pub data Typed (edges : ℕ) : ℕ → List Column → Type 0 where
   none : {c : ℕ} → Typed edges c []
   more : {c : ℕ} {x : Column} {xs : List Column} → x.integer ≡ leb edges c → Typed edges (c + 1) xs → Typed edges c (x ∷ xs)
 
-pub columns-back : (s : Store) (edges : ℕ) → get_or s.shape 3 0 ≡ edges → (cols : List Column) (c : ℕ) → Typed edges c cols
-    → Holds zero64 s.colLower c (map (λ (x : Column). x.lower) cols)
-    → Holds zero64 s.colUpper c (map (λ (x : Column). x.upper) cols)
-    → Holds zero64 s.colObjCoef c (map (λ (x : Column). x.cost) cols)
-    → entries (columnEntry s) 1 c (length cols) ≡ cols
-unfolding entries columnEntry
-columns-back s edges e [] c none hl hu hc = refl
-columns-back s edges e (x ∷ xs) c (more t ts) hl hu hc =
-    let lower = held-head zero64 s.colLower c x.lower (map (λ (y : Column). y.lower) xs) hl in
-    let upper = held-head zero64 s.colUpper c x.upper (map (λ (y : Column). y.upper) xs) hu in
-    let cost = held-head zero64 s.colObjCoef c x.cost (map (λ (y : Column). y.cost) xs) hc in
-    let here : columnEntry s c ≡ x = (λ i. record { integer = (ap (λ (n : ℕ). leb n c) e ∙ sym t) i; lower = lower i; upper = upper i; cost = cost i }) in
+pub columns_back : (s : Store) (edges : ℕ) → get_or s.shape 3 0 ≡ edges → (cols : List Column) (c : ℕ) → Typed edges c cols
+    → Holds zero64 s.col_lower c (map (λ (x : Column). x.lower) cols)
+    → Holds zero64 s.col_upper c (map (λ (x : Column). x.upper) cols)
+    → Holds zero64 s.col_obj_coef c (map (λ (x : Column). x.cost) cols)
+    → entries (column_entry s) 1 c (length cols) ≡ cols
+unfolding entries column_entry
+columns_back s edges e [] c none hl hu hc = refl
+columns_back s edges e (x ∷ xs) c (more t ts) hl hu hc =
+    let lower = held_head zero64 s.col_lower c x.lower (map (λ (y : Column). y.lower) xs) hl in
+    let upper = held_head zero64 s.col_upper c x.upper (map (λ (y : Column). y.upper) xs) hu in
+    let cost = held_head zero64 s.col_obj_coef c x.cost (map (λ (y : Column). y.cost) xs) hc in
+    let here : column_entry s c ≡ x = (λ i. record { integer = (ap (λ (n : ℕ). leb n c) e ∙ sym t) i; lower = lower i; upper = upper i; cost = cost i }) in
     ap₂ (λ a b. a ∷ b) here
-    (columns-back s edges e xs (c + 1) ts
-    (held-tail zero64 s.colLower c x.lower (map (λ (y : Column). y.lower) xs) hl)
-    (held-tail zero64 s.colUpper c x.upper (map (λ (y : Column). y.upper) xs) hu)
-    (held-tail zero64 s.colObjCoef c x.cost (map (λ (y : Column). y.cost) xs) hc))
+    (columns_back s edges e xs (c + 1) ts
+    (held_tail zero64 s.col_lower c x.lower (map (λ (y : Column). y.lower) xs) hl)
+    (held_tail zero64 s.col_upper c x.upper (map (λ (y : Column). y.upper) xs) hu)
+    (held_tail zero64 s.col_obj_coef c x.cost (map (λ (y : Column). y.cost) xs) hc))

@@ -8,11 +8,11 @@ use mathlib.Core.List.{List, [], ◌∷◌, ◌++◌, map, flat_map}
 use lib.ListN.{length, get_or, set, length-set, length-append, get_or-append}
 use lib.Seq.{sets, length-sets, get_or-set_same, get_or-set_other, get_or-append-add}
 use lib.Dec.{eqb, lit≤}
-use Rattle.layout.specs.Layout.{aggregatesAt, edges_at, flowOrderAt, makersAt, nodeRowCeiling, nodeRowsAt, shapeLength, virtualStoragesAt}
+use Rattle.layout.specs.Layout.{aggregates_at, edges_at, flow_order_at, makers_at, node_row_ceiling, node_rows_at, shape_length, virtual_storages_at}
 use Rattle.pywr.specs.ColEdgeMap.{MappedEdge}
-use Rattle.pywr.specs.Programme.{NodeShape, RowType, continuous, binaryUpper, binaryLower, NodeRow, VirtualStorageShape, Maker, Built}
-use Rattle.pywr.specs.Store.{Store, rowTypeOf, entries, nodeEntry, edgeEntry, nodeRowEntry, virtualStorageEntry, makerEntry, makersIn, shape_of}
-use Rattle.pywr.specs.Written.{rowTypeWord, flagWord, nodeWords, edgeWords, nodeRowWords, virtualStorageWords, makerWords, countWords, shapeAfter, builtStore}
+use Rattle.pywr.specs.Programme.{NodeShape, RowType, continuous, binary_upper, binary_lower, NodeRow, VirtualStorageShape, Maker, Built}
+use Rattle.pywr.specs.Store.{Store, row_type_of, entries, node_entry, edge_entry, node_row_entry, virtual_storage_entry, maker_entry, makers_in, shape_of}
+use Rattle.pywr.specs.Written.{row_type_word, flag_word, node_words, edge_words, node_row_words, virtual_storage_words, maker_words, count_words, shape_after, built_store}
 
 -- ---- a run of words at an offset
 
@@ -26,39 +26,39 @@ module _ {A : Type 0} (d : A) where
   sets_below (v ∷ vs) run at k h = sets_below vs (set run at v) (suc at) k (omega arith) ∙ get_or-set_other run at k v d (λ e. let z : k < k = subst (λ (n : ℕ). k < n) (sym e) h in omega arith)
 
   -- and holds what was stored
-  pub sets-holds : (vs run : List A) (at : ℕ) → at + length vs ≤ length run → Holds (sets run at vs) at vs
+  pub sets_holds : (vs run : List A) (at : ℕ) → at + length vs ≤ length run → Holds (sets run at vs) at vs
   unfolding Holds
-  sets-holds [] run at h i k = absurd (not-suc-le-zero k)
-  sets-holds (v ∷ vs) run at h zero k =
+  sets_holds [] run at h i k = absurd (not-suc-le-zero k)
+  sets_holds (v ∷ vs) run at h zero k =
       ap (λ (n : ℕ). get_or (sets (set run at v) (suc at) vs) n d) (add-zero at)
       ∙ sets_below vs (set run at v) (suc at) at (le_refl (suc at))
       ∙ get_or-set_same run at v d (omega arith)
-  sets-holds (v ∷ vs) run at h (suc i) k =
+  sets_holds (v ∷ vs) run at h (suc i) k =
       ap (λ (n : ℕ). get_or (sets (set run at v) (suc at) vs) n d) (add-suc at i ∙ sym (suc-add at i))
-      ∙ sets-holds vs (set run at v) (suc at) (let l = length-set run at v in omega arith) i (let m : suc i < suc (length vs) = k in omega arith)
+      ∙ sets_holds vs (set run at v) (suc at) (let l = length-set run at v in omega arith) i (let m : suc i < suc (length vs) = k in omega arith)
 
   pub holds_after : (vs ws run : List A) (at later : ℕ) → at + length ws ≤ later → Holds run at ws → Holds (sets run later vs) at ws
   unfolding Holds
   holds_after vs ws run at later h holds i k = sets_below vs run later (at + i) (omega arith) ∙ holds i k
 
   -- a run of stores leaves what is after it
-  sets-above : (vs run : List A) (at k : ℕ) → at + length vs ≤ k → get_or (sets run at vs) k d ≡ get_or run k d
-  sets-above [] run at k h = refl
-  sets-above (v ∷ vs) run at k h = sets-above vs (set run at v) (suc at) k (omega arith)
+  sets_above : (vs run : List A) (at k : ℕ) → at + length vs ≤ k → get_or (sets run at vs) k d ≡ get_or run k d
+  sets_above [] run at k h = refl
+  sets_above (v ∷ vs) run at k h = sets_above vs (set run at v) (suc at) k (omega arith)
       ∙ get_or-set_other run at k v d (λ e. let m : at + suc (length vs) ≤ k = h in let z : at < at = (let q = e in omega arith) in omega arith)
 
-  pub holds-before : (vs ws run : List A) (at earlier : ℕ) → earlier + length vs ≤ at → Holds run at ws → Holds (sets run earlier vs) at ws
+  pub holds_before : (vs ws run : List A) (at earlier : ℕ) → earlier + length vs ≤ at → Holds run at ws → Holds (sets run earlier vs) at ws
   unfolding Holds
-  holds-before vs ws run at earlier h holds i k = sets-above vs run earlier (at + i) (omega arith) ∙ holds i k
+  holds_before vs ws run at earlier h holds i k = sets_above vs run earlier (at + i) (omega arith) ∙ holds i k
 
   -- the two halves of what is held
-  pub holds-left : (run : List A) (at : ℕ) (ws vs : List A) → Holds run at (ws ++ vs) → Holds run at ws
+  pub holds_left : (run : List A) (at : ℕ) (ws vs : List A) → Holds run at (ws ++ vs) → Holds run at ws
   unfolding Holds
-  holds-left run at ws vs holds i k = holds i (let l = length-append ws vs in omega arith) ∙ get_or-append ws vs d i k
+  holds_left run at ws vs holds i k = holds i (let l = length-append ws vs in omega arith) ∙ get_or-append ws vs d i k
 
-  pub holds-right : (run : List A) (at : ℕ) (ws vs : List A) → Holds run at (ws ++ vs) → Holds run (at + length ws) vs
+  pub holds_right : (run : List A) (at : ℕ) (ws vs : List A) → Holds run at (ws ++ vs) → Holds run (at + length ws) vs
   unfolding Holds
-  holds-right run at ws vs holds i k =
+  holds_right run at ws vs holds i k =
       ap (λ (n : ℕ). get_or run n d) (add_assoc at (length ws) i)
       ∙ holds (length ws + i) (let l = length-append ws vs in omega arith)
       ∙ get_or-append-add ws vs i d
@@ -66,24 +66,24 @@ module _ {A : Type 0} (d : A) where
 -- ---- a table: entries of so many words, each read back from its words
 
 -- each read as f has it
-pub entries-read : {A B C : Type 0} (d : B) (run : List B) (entry : ℕ → C) (words : ℕ) (code : A → List B) (f : A → C)
+pub entries_read : {A B C : Type 0} (d : B) (run : List B) (entry : ℕ → C) (words : ℕ) (code : A → List B) (f : A → C)
     → ((x : A) → length (code x) ≡ words) → ((at : ℕ) (x : A) → Holds d run at (code x) → entry at ≡ f x)
     → (xs : List A) (at : ℕ) → Holds d run at (flat_map code xs) → entries entry words at (length xs) ≡ map f xs
 unfolding entries flat_map
-entries-read d run entry words code f wide reads [] at holds = refl
-entries-read d run entry words code f wide reads (x ∷ xs) at holds =
-    ap₂ (λ a b. a ∷ b) (reads at x (holds-left d run at (code x) (flat_map code xs) holds))
-    (entries-read d run entry words code f wide reads xs (at + words)
-    (subst (λ (n : ℕ). Holds d run (at + n) (flat_map code xs)) (wide x) (holds-right d run at (code x) (flat_map code xs) holds)))
+entries_read d run entry words code f wide reads [] at holds = refl
+entries_read d run entry words code f wide reads (x ∷ xs) at holds =
+    ap₂ (λ a b. a ∷ b) (reads at x (holds_left d run at (code x) (flat_map code xs) holds))
+    (entries_read d run entry words code f wide reads xs (at + words)
+    (subst (λ (n : ℕ). Holds d run (at + n) (flat_map code xs)) (wide x) (holds_right d run at (code x) (flat_map code xs) holds)))
 
 pub map_same : {A : Type 0} (xs : List A) → map (λ (x : A). x) xs ≡ xs
 map_same [] = refl
 map_same {A} (x ∷ xs) = ap (λ (l : List A). x ∷ l) (map_same xs)
 
-entries-back : {A B : Type 0} (d : B) (run : List B) (entry : ℕ → A) (words : ℕ) (code : A → List B)
+entries_back : {A B : Type 0} (d : B) (run : List B) (entry : ℕ → A) (words : ℕ) (code : A → List B)
     → ((x : A) → length (code x) ≡ words) → ((at : ℕ) (x : A) → Holds d run at (code x) → entry at ≡ x)
     → (xs : List A) (at : ℕ) → Holds d run at (flat_map code xs) → entries entry words at (length xs) ≡ xs
-entries-back {A} d run entry words code wide reads xs at holds = entries-read d run entry words code (λ (x : A). x) wide reads xs at holds ∙ map_same xs
+entries_back {A} d run entry words code wide reads xs at holds = entries_read d run entry words code (λ (x : A). x) wide reads xs at holds ∙ map_same xs
 
 -- the word at the head, and at the next places
 module _ (run : List ℕ) (at : ℕ) (ws : List ℕ) (holds : Holds 0 run at ws) where
@@ -95,105 +95,105 @@ module _ (run : List ℕ) (at : ℕ) (ws : List ℕ) (holds : Holds 0 run at ws)
   unfolding Holds
   first_word h = ap (λ (n : ℕ). get_or run n 0) (sym (add-zero at)) ∙ holds 0 h
 
-flag-back : (b : Bool) → eqb (flagWord b) 1 ≡ b
-unfolding flagWord
-flag-back true = refl
-flag-back false = refl
+flag_back : (b : Bool) → eqb (flag_word b) 1 ≡ b
+unfolding flag_word
+flag_back true = refl
+flag_back false = refl
 
-period-back : (b : Bool) → eqb (flagWord (not b)) 0 ≡ b
-unfolding flagWord
-period-back true = refl
-period-back false = refl
+period_back : (b : Bool) → eqb (flag_word (not b)) 0 ≡ b
+unfolding flag_word
+period_back true = refl
+period_back false = refl
 
-type-back : (t : RowType) → rowTypeOf (rowTypeWord t) ≡ t
-unfolding rowTypeOf rowTypeWord
-type-back continuous = refl
-type-back binaryUpper = refl
-type-back binaryLower = refl
+type_back : (t : RowType) → row_type_of (row_type_word t) ≡ t
+unfolding row_type_of row_type_word
+type_back continuous = refl
+type_back binary_upper = refl
+type_back binary_lower = refl
 
 module _ (s : Store) where
-  node-reads : (at : ℕ) (x : NodeShape) → Holds 0 s.shape at (nodeWords x) → nodeEntry s at ≡ x
-  unfolding nodeEntry nodeWords
-  node-reads at x h =
-      let a = first_word s.shape at (nodeWords x) h (lit≤ tt) in
-      let b = word_at s.shape at (nodeWords x) h 1 (lit≤ tt) in
-      λ i. record { kind = a i; constant = (ap (λ (w : ℕ). eqb w 1) b ∙ flag-back x.constant) i }
+  node_reads : (at : ℕ) (x : NodeShape) → Holds 0 s.shape at (node_words x) → node_entry s at ≡ x
+  unfolding node_entry node_words
+  node_reads at x h =
+      let a = first_word s.shape at (node_words x) h (lit≤ tt) in
+      let b = word_at s.shape at (node_words x) h 1 (lit≤ tt) in
+      λ i. record { kind = a i; constant = (ap (λ (w : ℕ). eqb w 1) b ∙ flag_back x.constant) i }
 
-  pipe-reads : (at : ℕ) (x : MappedEdge) → Holds 0 s.shape at (edgeWords x) → edgeEntry s at ≡ x
-  unfolding edgeEntry edgeWords
-  pipe-reads at x h =
-      let a = first_word s.shape at (edgeWords x) h (lit≤ tt) in
-      let b = word_at s.shape at (edgeWords x) h 1 (lit≤ tt) in
-      let c = word_at s.shape at (edgeWords x) h 2 (lit≤ tt) in
+  pipe_reads : (at : ℕ) (x : MappedEdge) → Holds 0 s.shape at (edge_words x) → edge_entry s at ≡ x
+  unfolding edge_entry edge_words
+  pipe_reads at x h =
+      let a = first_word s.shape at (edge_words x) h (lit≤ tt) in
+      let b = word_at s.shape at (edge_words x) h 1 (lit≤ tt) in
+      let c = word_at s.shape at (edge_words x) h 2 (lit≤ tt) in
       λ i. record { from = a i; to = b i; column = c i }
 
-  nodeRow-reads : (at : ℕ) (x : NodeRow) → Holds 0 s.shape at (nodeRowWords x) → nodeRowEntry s at ≡ x
-  unfolding nodeRowEntry nodeRowWords
-  nodeRow-reads at x h =
-      let a = first_word s.shape at (nodeRowWords x) h (lit≤ tt) in
-      let b = word_at s.shape at (nodeRowWords x) h 1 (lit≤ tt) in
-      let c = word_at s.shape at (nodeRowWords x) h 2 (lit≤ tt) in
-      let e = word_at s.shape at (nodeRowWords x) h 3 (lit≤ tt) in
-      λ i. record { node = a i; row = b i; rowType = (ap rowTypeOf c ∙ type-back x.rowType) i; set = e i }
+  node_row_reads : (at : ℕ) (x : NodeRow) → Holds 0 s.shape at (node_row_words x) → node_row_entry s at ≡ x
+  unfolding node_row_entry node_row_words
+  node_row_reads at x h =
+      let a = first_word s.shape at (node_row_words x) h (lit≤ tt) in
+      let b = word_at s.shape at (node_row_words x) h 1 (lit≤ tt) in
+      let c = word_at s.shape at (node_row_words x) h 2 (lit≤ tt) in
+      let e = word_at s.shape at (node_row_words x) h 3 (lit≤ tt) in
+      λ i. record { node = a i; row = b i; row_type = (ap row_type_of c ∙ type_back x.row_type) i; set = e i }
 
-  virtual-storage-reads : (at : ℕ) (x : VirtualStorageShape) → Holds 0 s.shape at (virtualStorageWords x) → virtualStorageEntry s at ≡ x
-  unfolding virtualStorageEntry virtualStorageWords
-  virtual-storage-reads at x h =
-      let a = first_word s.shape at (virtualStorageWords x) h (lit≤ tt) in
-      let b = word_at s.shape at (virtualStorageWords x) h 1 (lit≤ tt) in
-      let c = word_at s.shape at (virtualStorageWords x) h 2 (lit≤ tt) in
-      let e = word_at s.shape at (virtualStorageWords x) h 3 (lit≤ tt) in
-      let f = word_at s.shape at (virtualStorageWords x) h 4 (lit≤ tt) in
-      let g = word_at s.shape at (virtualStorageWords x) h 5 (lit≤ tt) in
+  virtual_storage_reads : (at : ℕ) (x : VirtualStorageShape) → Holds 0 s.shape at (virtual_storage_words x) → virtual_storage_entry s at ≡ x
+  unfolding virtual_storage_entry virtual_storage_words
+  virtual_storage_reads at x h =
+      let a = first_word s.shape at (virtual_storage_words x) h (lit≤ tt) in
+      let b = word_at s.shape at (virtual_storage_words x) h 1 (lit≤ tt) in
+      let c = word_at s.shape at (virtual_storage_words x) h 2 (lit≤ tt) in
+      let e = word_at s.shape at (virtual_storage_words x) h 3 (lit≤ tt) in
+      let f = word_at s.shape at (virtual_storage_words x) h 4 (lit≤ tt) in
+      let g = word_at s.shape at (virtual_storage_words x) h 5 (lit≤ tt) in
       λ i.
       record {
         row = a i;
         period =
-            record { always = (ap (λ (w : ℕ). eqb w 0) b ∙ period-back x.period.always) i; startMonth = c i; startDay = e i; endMonth = f i; endDay = g i };
+            record { always = (ap (λ (w : ℕ). eqb w 0) b ∙ period_back x.period.always) i; start_month = c i; start_day = e i; end_month = f i; end_day = g i };
       }
 
-  maker-reads : (at : ℕ) (x : Maker) → Holds 0 s.shape at (makerWords x) → makerEntry s at ≡ x
-  unfolding makerEntry makerWords
-  maker-reads at x h =
-      let a = first_word s.shape at (makerWords x) h (lit≤ tt) in
-      let b = word_at s.shape at (makerWords x) h 1 (lit≤ tt) in
-      let c = word_at s.shape at (makerWords x) h 2 (lit≤ tt) in
-      λ i. record { kind = a i; index = b i; sharedBy = c i }
+  maker_reads : (at : ℕ) (x : Maker) → Holds 0 s.shape at (maker_words x) → maker_entry s at ≡ x
+  unfolding maker_entry maker_words
+  maker_reads at x h =
+      let a = first_word s.shape at (maker_words x) h (lit≤ tt) in
+      let b = word_at s.shape at (maker_words x) h 1 (lit≤ tt) in
+      let c = word_at s.shape at (maker_words x) h 2 (lit≤ tt) in
+      λ i. record { kind = a i; index = b i; shared_by = c i }
 
   row_reads : (at x : ℕ) → Holds 0 s.shape at (x ∷ []) → get_or s.shape at 0 ≡ x
   row_reads at x h = first_word s.shape at (x ∷ []) h (lit≤ tt)
 
 -- ---- the shape of a built store
 
-pub flat-length : {A : Type 0} (code : A → List ℕ) (words : ℕ) → ((x : A) → length (code x) ≡ words) → (xs : List A) → length (flat_map code xs) ≡ length xs * words
+pub flat_length : {A : Type 0} (code : A → List ℕ) (words : ℕ) → ((x : A) → length (code x) ≡ words) → (xs : List A) → length (flat_map code xs) ≡ length xs * words
 unfolding flat_map
-flat-length code words wide [] = sym (zero-mul words)
-flat-length code words wide (x ∷ xs) =
-    length-append (code x) (flat_map code xs) ∙ ap₂ (λ (a b : ℕ). a + b) (wide x) (flat-length code words wide xs) ∙ add_comm words (length xs * words) ∙ sym (suc-mul (length xs) words)
+flat_length code words wide [] = sym (zero-mul words)
+flat_length code words wide (x ∷ xs) =
+    length-append (code x) (flat_map code xs) ∙ ap₂ (λ (a b : ℕ). a + b) (wide x) (flat_length code words wide xs) ∙ add_comm words (length xs * words) ∙ sym (suc-mul (length xs) words)
 
-pub node_wide : (x : NodeShape) → length (nodeWords x) ≡ 2
-unfolding nodeWords
+pub node_wide : (x : NodeShape) → length (node_words x) ≡ 2
+unfolding node_words
 node_wide x = refl
 
-pub pipe-wide : (x : MappedEdge) → length (edgeWords x) ≡ 3
-unfolding edgeWords
-pipe-wide x = refl
+pub pipe_wide : (x : MappedEdge) → length (edge_words x) ≡ 3
+unfolding edge_words
+pipe_wide x = refl
 
-pub nodeRow-wide : (x : NodeRow) → length (nodeRowWords x) ≡ 4
-unfolding nodeRowWords
-nodeRow-wide x = refl
+pub node_row_wide : (x : NodeRow) → length (node_row_words x) ≡ 4
+unfolding node_row_words
+node_row_wide x = refl
 
-pub virtual-storage-wide : (x : VirtualStorageShape) → length (virtualStorageWords x) ≡ 6
-unfolding virtualStorageWords
-virtual-storage-wide x = refl
+pub virtual_storage_wide : (x : VirtualStorageShape) → length (virtual_storage_words x) ≡ 6
+unfolding virtual_storage_words
+virtual_storage_wide x = refl
 
-pub maker-wide : (x : Maker) → length (makerWords x) ≡ 3
-unfolding makerWords
-maker-wide x = refl
+pub maker_wide : (x : Maker) → length (maker_words x) ≡ 3
+unfolding maker_words
+maker_wide x = refl
 
-counts-wide : (b : Built) → length (countWords b) ≡ 11
-unfolding countWords
-counts-wide b = refl
+counts_wide : (b : Built) → length (count_words b) ≡ 11
+unfolding count_words
+counts_wide b = refl
 
 pub singles : (xs : List ℕ) → flat_map (λ (x : ℕ). x ∷ []) xs ≡ xs
 unfolding flat_map
@@ -202,226 +202,226 @@ singles (x ∷ xs) = ap (λ (l : List ℕ). x ∷ l) (singles xs)
 
 pub record TablesFit (b : Built) : Type 0 where
   pub nodes : length b.shape.nodes ≤ 256
-  pub mappedEdges : length b.shape.mappedEdges ≤ 512
-  pub nodeRows : length b.shape.nodeRows ≤ nodeRowCeiling
+  pub mapped_edges : length b.shape.mapped_edges ≤ 512
+  pub node_rows : length b.shape.node_rows ≤ node_row_ceiling
   pub aggregates : length b.shape.aggregates ≤ 64
-  pub virtualStorages : length b.shape.virtualStorages ≤ 32
+  pub virtual_storages : length b.shape.virtual_storages ≤ 32
   pub rows : length b.programme.varying + length b.programme.fixed ≤ 1024
   pub makers : length b.makers ≡ length b.programme.varying + length b.programme.fixed
-  pub flowOrder : length b.shape.flowOrder ≡ length b.shape.mappedEdges
+  pub flow_order : length b.shape.flow_order ≡ length b.shape.mapped_edges
 
 module _ (b : Built) where
-  abbrev nodeTable : List ℕ
-  nodeTable = flat_map nodeWords b.shape.nodes
+  abbrev node_table : List ℕ
+  node_table = flat_map node_words b.shape.nodes
 
-  abbrev pipeTable : List ℕ
-  pipeTable = flat_map edgeWords b.shape.mappedEdges
+  abbrev pipe_table : List ℕ
+  pipe_table = flat_map edge_words b.shape.mapped_edges
 
-  abbrev nodeRowTable : List ℕ
-  nodeRowTable = flat_map nodeRowWords b.shape.nodeRows
+  abbrev node_row_table : List ℕ
+  node_row_table = flat_map node_row_words b.shape.node_rows
 
-  abbrev virtualStorageTable : List ℕ
-  virtualStorageTable = flat_map virtualStorageWords b.shape.virtualStorages
+  abbrev virtual_storage_table : List ℕ
+  virtual_storage_table = flat_map virtual_storage_words b.shape.virtual_storages
 
-  abbrev makerTable : List ℕ
-  makerTable = flat_map makerWords b.makers
+  abbrev maker_table : List ℕ
+  maker_table = flat_map maker_words b.makers
 
   -- the run after each table
   abbrev r1 : List ℕ → List ℕ
-  r1 old = sets old 0 (countWords b)
+  r1 old = sets old 0 (count_words b)
 
   abbrev r2 : List ℕ → List ℕ
-  r2 old = sets (r1 old) 11 nodeTable
+  r2 old = sets (r1 old) 11 node_table
 
   abbrev r3 : List ℕ → List ℕ
-  r3 old = sets (r2 old) edges_at pipeTable
+  r3 old = sets (r2 old) edges_at pipe_table
 
   abbrev r4 : List ℕ → List ℕ
-  r4 old = sets (r3 old) nodeRowsAt nodeRowTable
+  r4 old = sets (r3 old) node_rows_at node_row_table
 
   abbrev r5 : List ℕ → List ℕ
-  r5 old = sets (r4 old) aggregatesAt b.shape.aggregates
+  r5 old = sets (r4 old) aggregates_at b.shape.aggregates
 
   abbrev r6 : List ℕ → List ℕ
-  r6 old = sets (r5 old) virtualStoragesAt virtualStorageTable
+  r6 old = sets (r5 old) virtual_storages_at virtual_storage_table
 
   abbrev r7 : List ℕ → List ℕ
-  r7 old = sets (r6 old) makersAt makerTable
+  r7 old = sets (r6 old) makers_at maker_table
 
-module _ (old : List ℕ) (b : Built) (room : shapeLength ≤ length old) (fit : TablesFit b) where
+module _ (old : List ℕ) (b : Built) (room : shape_length ≤ length old) (fit : TablesFit b) where
   l1 : length (r1 b old) ≡ length old
-  l1 = length-sets old 0 (countWords b)
+  l1 = length-sets old 0 (count_words b)
 
   l2 : length (r2 b old) ≡ length old
-  l2 = length-sets (r1 b old) 11 (nodeTable b) ∙ l1
+  l2 = length-sets (r1 b old) 11 (node_table b) ∙ l1
 
   l3 : length (r3 b old) ≡ length old
-  l3 = length-sets (r2 b old) edges_at (pipeTable b) ∙ l2
+  l3 = length-sets (r2 b old) edges_at (pipe_table b) ∙ l2
 
   l4 : length (r4 b old) ≡ length old
-  l4 = length-sets (r3 b old) nodeRowsAt (nodeRowTable b) ∙ l3
+  l4 = length-sets (r3 b old) node_rows_at (node_row_table b) ∙ l3
 
   l5 : length (r5 b old) ≡ length old
-  l5 = length-sets (r4 b old) aggregatesAt b.shape.aggregates ∙ l4
+  l5 = length-sets (r4 b old) aggregates_at b.shape.aggregates ∙ l4
 
   l6 : length (r6 b old) ≡ length old
-  l6 = length-sets (r5 b old) virtualStoragesAt (virtualStorageTable b) ∙ l5
+  l6 = length-sets (r5 b old) virtual_storages_at (virtual_storage_table b) ∙ l5
 
   l7 : length (r7 b old) ≡ length old
-  l7 = length-sets (r6 b old) makersAt (makerTable b) ∙ l6
+  l7 = length-sets (r6 b old) makers_at (maker_table b) ∙ l6
 
-  n2 : 11 + length (nodeTable b) ≤ edges_at
-  n2 = let e = flat-length nodeWords 2 node_wide b.shape.nodes in let h = fit.nodes in omega arith
+  n2 : 11 + length (node_table b) ≤ edges_at
+  n2 = let e = flat_length node_words 2 node_wide b.shape.nodes in let h = fit.nodes in omega arith
 
-  n3 : edges_at + length (pipeTable b) ≤ nodeRowsAt
-  n3 = let e = flat-length edgeWords 3 pipe-wide b.shape.mappedEdges in let h = fit.mappedEdges in omega arith
+  n3 : edges_at + length (pipe_table b) ≤ node_rows_at
+  n3 = let e = flat_length edge_words 3 pipe_wide b.shape.mapped_edges in let h = fit.mapped_edges in omega arith
 
-  n4 : nodeRowsAt + length (nodeRowTable b) ≤ aggregatesAt
-  n4 = let e = flat-length nodeRowWords 4 nodeRow-wide b.shape.nodeRows in let h = fit.nodeRows in omega arith
+  n4 : node_rows_at + length (node_row_table b) ≤ aggregates_at
+  n4 = let e = flat_length node_row_words 4 node_row_wide b.shape.node_rows in let h = fit.node_rows in omega arith
 
-  n5 : aggregatesAt + length b.shape.aggregates ≤ virtualStoragesAt
+  n5 : aggregates_at + length b.shape.aggregates ≤ virtual_storages_at
   n5 = let h = fit.aggregates in omega arith
 
-  n6 : virtualStoragesAt + length (virtualStorageTable b) ≤ makersAt
-  n6 = let e = flat-length virtualStorageWords 6 virtual-storage-wide b.shape.virtualStorages in let h = fit.virtualStorages in omega arith
+  n6 : virtual_storages_at + length (virtual_storage_table b) ≤ makers_at
+  n6 = let e = flat_length virtual_storage_words 6 virtual_storage_wide b.shape.virtual_storages in let h = fit.virtual_storages in omega arith
 
-  n7 : makersAt + length (makerTable b) ≤ flowOrderAt
-  n7 = let e = flat-length makerWords 3 maker-wide b.makers in let h = fit.rows in let k = fit.makers in omega arith
+  n7 : makers_at + length (maker_table b) ≤ flow_order_at
+  n7 = let e = flat_length maker_words 3 maker_wide b.makers in let h = fit.rows in let k = fit.makers in omega arith
 
-  n8 : flowOrderAt + length b.shape.flowOrder ≤ shapeLength
-  n8 = let e = fit.flowOrder in let h = fit.mappedEdges in omega arith
+  n8 : flow_order_at + length b.shape.flow_order ≤ shape_length
+  n8 = let e = fit.flow_order in let h = fit.mapped_edges in omega arith
 
   -- the flow order is written last, behind every other table
-  held-last : (xs : List ℕ) (at : ℕ) → at + length xs ≤ flowOrderAt → Holds 0 (r7 b old) at xs → Holds 0 (shapeAfter old b) at xs
-  unfolding shapeAfter
-  held-last xs at n h = holds_after 0 b.shape.flowOrder xs (r7 b old) at flowOrderAt n h
+  held_last : (xs : List ℕ) (at : ℕ) → at + length xs ≤ flow_order_at → Holds 0 (r7 b old) at xs → Holds 0 (shape_after old b) at xs
+  unfolding shape_after
+  held_last xs at n h = holds_after 0 b.shape.flow_order xs (r7 b old) at flow_order_at n h
 
-  pub counts-held : Holds 0 (shapeAfter old b) 0 (countWords b)
-  unfolding shapeAfter
-  counts-held =
-      let w = counts-wide b in
-      let a = sets-holds 0 (countWords b) old 0 (omega arith) in
-      let c = holds_after 0 (nodeTable b) (countWords b) (r1 b old) 0 11 (omega arith) a in
-      let d = holds_after 0 (pipeTable b) (countWords b) (r2 b old) 0 edges_at (omega arith) c in
-      let e = holds_after 0 (nodeRowTable b) (countWords b) (r3 b old) 0 nodeRowsAt (omega arith) d in
-      let f = holds_after 0 b.shape.aggregates (countWords b) (r4 b old) 0 aggregatesAt (omega arith) e in
-      let g = holds_after 0 (virtualStorageTable b) (countWords b) (r5 b old) 0 virtualStoragesAt (omega arith) f in
-      let h = holds_after 0 (makerTable b) (countWords b) (r6 b old) 0 makersAt (omega arith) g in
-      held-last (countWords b) 0 (omega arith) h
+  pub counts_held : Holds 0 (shape_after old b) 0 (count_words b)
+  unfolding shape_after
+  counts_held =
+      let w = counts_wide b in
+      let a = sets_holds 0 (count_words b) old 0 (omega arith) in
+      let c = holds_after 0 (node_table b) (count_words b) (r1 b old) 0 11 (omega arith) a in
+      let d = holds_after 0 (pipe_table b) (count_words b) (r2 b old) 0 edges_at (omega arith) c in
+      let e = holds_after 0 (node_row_table b) (count_words b) (r3 b old) 0 node_rows_at (omega arith) d in
+      let f = holds_after 0 b.shape.aggregates (count_words b) (r4 b old) 0 aggregates_at (omega arith) e in
+      let g = holds_after 0 (virtual_storage_table b) (count_words b) (r5 b old) 0 virtual_storages_at (omega arith) f in
+      let h = holds_after 0 (maker_table b) (count_words b) (r6 b old) 0 makers_at (omega arith) g in
+      held_last (count_words b) 0 (omega arith) h
 
-  pub nodes-held : Holds 0 (shapeAfter old b) 11 (nodeTable b)
-  unfolding shapeAfter
-  nodes-held =
+  pub nodes_held : Holds 0 (shape_after old b) 11 (node_table b)
+  unfolding shape_after
+  nodes_held =
       let n = n2 in
-      let c = sets-holds 0 (nodeTable b) (r1 b old) 11 (let l = l1 in omega arith) in
-      let d = holds_after 0 (pipeTable b) (nodeTable b) (r2 b old) 11 edges_at n c in
-      let e = holds_after 0 (nodeRowTable b) (nodeTable b) (r3 b old) 11 nodeRowsAt (omega arith) d in
-      let f = holds_after 0 b.shape.aggregates (nodeTable b) (r4 b old) 11 aggregatesAt (omega arith) e in
-      let g = holds_after 0 (virtualStorageTable b) (nodeTable b) (r5 b old) 11 virtualStoragesAt (omega arith) f in
-      let h = holds_after 0 (makerTable b) (nodeTable b) (r6 b old) 11 makersAt (omega arith) g in
-      held-last (nodeTable b) 11 (omega arith) h
+      let c = sets_holds 0 (node_table b) (r1 b old) 11 (let l = l1 in omega arith) in
+      let d = holds_after 0 (pipe_table b) (node_table b) (r2 b old) 11 edges_at n c in
+      let e = holds_after 0 (node_row_table b) (node_table b) (r3 b old) 11 node_rows_at (omega arith) d in
+      let f = holds_after 0 b.shape.aggregates (node_table b) (r4 b old) 11 aggregates_at (omega arith) e in
+      let g = holds_after 0 (virtual_storage_table b) (node_table b) (r5 b old) 11 virtual_storages_at (omega arith) f in
+      let h = holds_after 0 (maker_table b) (node_table b) (r6 b old) 11 makers_at (omega arith) g in
+      held_last (node_table b) 11 (omega arith) h
 
-  pub pipes-held : Holds 0 (shapeAfter old b) edges_at (pipeTable b)
-  unfolding shapeAfter
-  pipes-held =
+  pub pipes_held : Holds 0 (shape_after old b) edges_at (pipe_table b)
+  unfolding shape_after
+  pipes_held =
       let n = n3 in
-      let d = sets-holds 0 (pipeTable b) (r2 b old) edges_at (let l = l2 in omega arith) in
-      let e = holds_after 0 (nodeRowTable b) (pipeTable b) (r3 b old) edges_at nodeRowsAt n d in
-      let f = holds_after 0 b.shape.aggregates (pipeTable b) (r4 b old) edges_at aggregatesAt (omega arith) e in
-      let g = holds_after 0 (virtualStorageTable b) (pipeTable b) (r5 b old) edges_at virtualStoragesAt (omega arith) f in
-      let h = holds_after 0 (makerTable b) (pipeTable b) (r6 b old) edges_at makersAt (omega arith) g in
-      held-last (pipeTable b) edges_at (omega arith) h
+      let d = sets_holds 0 (pipe_table b) (r2 b old) edges_at (let l = l2 in omega arith) in
+      let e = holds_after 0 (node_row_table b) (pipe_table b) (r3 b old) edges_at node_rows_at n d in
+      let f = holds_after 0 b.shape.aggregates (pipe_table b) (r4 b old) edges_at aggregates_at (omega arith) e in
+      let g = holds_after 0 (virtual_storage_table b) (pipe_table b) (r5 b old) edges_at virtual_storages_at (omega arith) f in
+      let h = holds_after 0 (maker_table b) (pipe_table b) (r6 b old) edges_at makers_at (omega arith) g in
+      held_last (pipe_table b) edges_at (omega arith) h
 
-  pub nodeRows-held : Holds 0 (shapeAfter old b) nodeRowsAt (nodeRowTable b)
-  unfolding shapeAfter
-  nodeRows-held =
+  pub node_rows_held : Holds 0 (shape_after old b) node_rows_at (node_row_table b)
+  unfolding shape_after
+  node_rows_held =
       let n = n4 in
-      let e = sets-holds 0 (nodeRowTable b) (r3 b old) nodeRowsAt (let l = l3 in omega arith) in
-      let f = holds_after 0 b.shape.aggregates (nodeRowTable b) (r4 b old) nodeRowsAt aggregatesAt n e in
-      let g = holds_after 0 (virtualStorageTable b) (nodeRowTable b) (r5 b old) nodeRowsAt virtualStoragesAt (omega arith) f in
-      let h = holds_after 0 (makerTable b) (nodeRowTable b) (r6 b old) nodeRowsAt makersAt (omega arith) g in
-      held-last (nodeRowTable b) nodeRowsAt (omega arith) h
+      let e = sets_holds 0 (node_row_table b) (r3 b old) node_rows_at (let l = l3 in omega arith) in
+      let f = holds_after 0 b.shape.aggregates (node_row_table b) (r4 b old) node_rows_at aggregates_at n e in
+      let g = holds_after 0 (virtual_storage_table b) (node_row_table b) (r5 b old) node_rows_at virtual_storages_at (omega arith) f in
+      let h = holds_after 0 (maker_table b) (node_row_table b) (r6 b old) node_rows_at makers_at (omega arith) g in
+      held_last (node_row_table b) node_rows_at (omega arith) h
 
-  pub aggregates-held : Holds 0 (shapeAfter old b) aggregatesAt b.shape.aggregates
-  unfolding shapeAfter
-  aggregates-held =
+  pub aggregates_held : Holds 0 (shape_after old b) aggregates_at b.shape.aggregates
+  unfolding shape_after
+  aggregates_held =
       let n = n5 in
-      let f = sets-holds 0 b.shape.aggregates (r4 b old) aggregatesAt (let l = l4 in omega arith) in
-      let g = holds_after 0 (virtualStorageTable b) b.shape.aggregates (r5 b old) aggregatesAt virtualStoragesAt n f in
-      let h = holds_after 0 (makerTable b) b.shape.aggregates (r6 b old) aggregatesAt makersAt (omega arith) g in
-      held-last b.shape.aggregates aggregatesAt (omega arith) h
+      let f = sets_holds 0 b.shape.aggregates (r4 b old) aggregates_at (let l = l4 in omega arith) in
+      let g = holds_after 0 (virtual_storage_table b) b.shape.aggregates (r5 b old) aggregates_at virtual_storages_at n f in
+      let h = holds_after 0 (maker_table b) b.shape.aggregates (r6 b old) aggregates_at makers_at (omega arith) g in
+      held_last b.shape.aggregates aggregates_at (omega arith) h
 
-  pub virtual-storages-held : Holds 0 (shapeAfter old b) virtualStoragesAt (virtualStorageTable b)
-  unfolding shapeAfter
-  virtual-storages-held =
+  pub virtual_storages_held_lem : Holds 0 (shape_after old b) virtual_storages_at (virtual_storage_table b)
+  unfolding shape_after
+  virtual_storages_held_lem =
       let n = n6 in
-      let g = sets-holds 0 (virtualStorageTable b) (r5 b old) virtualStoragesAt (let l = l5 in omega arith) in
-      let h = holds_after 0 (makerTable b) (virtualStorageTable b) (r6 b old) virtualStoragesAt makersAt n g in
-      held-last (virtualStorageTable b) virtualStoragesAt (omega arith) h
+      let g = sets_holds 0 (virtual_storage_table b) (r5 b old) virtual_storages_at (let l = l5 in omega arith) in
+      let h = holds_after 0 (maker_table b) (virtual_storage_table b) (r6 b old) virtual_storages_at makers_at n g in
+      held_last (virtual_storage_table b) virtual_storages_at (omega arith) h
 
-  pub makers-held : Holds 0 (shapeAfter old b) makersAt (makerTable b)
-  unfolding shapeAfter
-  makers-held =
+  pub makers_held : Holds 0 (shape_after old b) makers_at (maker_table b)
+  unfolding shape_after
+  makers_held =
       let n = n7 in
-      let h = sets-holds 0 (makerTable b) (r6 b old) makersAt (let l = l6 in omega arith) in
-      held-last (makerTable b) makersAt n h
+      let h = sets_holds 0 (maker_table b) (r6 b old) makers_at (let l = l6 in omega arith) in
+      held_last (maker_table b) makers_at n h
 
-  pub flow-order-held : Holds 0 (shapeAfter old b) flowOrderAt b.shape.flowOrder
-  unfolding shapeAfter
-  flow-order-held = let n = n8 in sets-holds 0 b.shape.flowOrder (r7 b old) flowOrderAt (let l = l7 in omega arith)
+  pub flow_order_held : Holds 0 (shape_after old b) flow_order_at b.shape.flow_order
+  unfolding shape_after
+  flow_order_held = let n = n8 in sets_holds 0 b.shape.flow_order (r7 b old) flow_order_at (let l = l7 in omega arith)
 
 -- ---- what is read of a built store is what was built
 
 -- a table of one word an entry
-numbers-back : (s : Store) (at : ℕ) (xs : List ℕ) → Holds 0 s.shape at xs → entries (λ (i : ℕ). get_or s.shape i 0) 1 at (length xs) ≡ xs
-numbers-back s at xs h =
-    entries-back 0 s.shape (λ (i : ℕ). get_or s.shape i 0) 1 (λ (x : ℕ). x ∷ []) (λ x. refl) (row_reads s) xs at
+numbers_back : (s : Store) (at : ℕ) (xs : List ℕ) → Holds 0 s.shape at xs → entries (λ (i : ℕ). get_or s.shape i 0) 1 at (length xs) ≡ xs
+numbers_back s at xs h =
+    entries_back 0 s.shape (λ (i : ℕ). get_or s.shape i 0) 1 (λ (x : ℕ). x ∷ []) (λ x. refl) (row_reads s) xs at
     (subst (λ (l : List ℕ). Holds 0 s.shape at l) (sym (singles xs)) h)
 
-module _ (old : Store) (b : Built) (room : shapeLength ≤ length old.shape) (fit : TablesFit b) where
-  pub count-is : (i : ℕ) → i < 11 → get_or (shapeAfter old.shape b) i 0 ≡ get_or (countWords b) i 0
+module _ (old : Store) (b : Built) (room : shape_length ≤ length old.shape) (fit : TablesFit b) where
+  pub count_is : (i : ℕ) → i < 11 → get_or (shape_after old.shape b) i 0 ≡ get_or (count_words b) i 0
   unfolding Holds
-  count-is i h = ap (λ (n : ℕ). get_or (shapeAfter old.shape b) n 0) (sym (zero-add i)) ∙ counts-held old.shape b room fit i (let w = counts-wide b in omega arith)
+  count_is i h = ap (λ (n : ℕ). get_or (shape_after old.shape b) n 0) (sym (zero-add i)) ∙ counts_held old.shape b room fit i (let w = counts_wide b in omega arith)
 
-  pub shape-back : shape_of (builtStore old b) ≡ b.shape
-  unfolding shape_of builtStore countWords
-  shape-back =
-      let s : Store = builtStore old b in
-      let run : List ℕ = shapeAfter old.shape b in
-      let nodes : entries (nodeEntry s) 2 11 (get_or run 1 0) ≡ b.shape.nodes =
-      ap (entries (nodeEntry s) 2 11) (count-is 1 (lit≤ tt))
-      ∙ entries-back 0 run (nodeEntry s) 2 nodeWords node_wide (node-reads s) b.shape.nodes 11 (nodes-held old.shape b room fit) in
-      let mappedEdges : entries (edgeEntry s) 3 edges_at (get_or run 2 0) ≡ b.shape.mappedEdges =
-      ap (entries (edgeEntry s) 3 edges_at) (count-is 2 (lit≤ tt))
-      ∙ entries-back 0 run (edgeEntry s) 3 edgeWords pipe-wide (pipe-reads s) b.shape.mappedEdges edges_at (pipes-held old.shape b room fit) in
-      let nodeRows : entries (nodeRowEntry s) 4 nodeRowsAt (get_or run 8 0) ≡ b.shape.nodeRows =
-      ap (entries (nodeRowEntry s) 4 nodeRowsAt) (count-is 8 (lit≤ tt))
-      ∙ entries-back 0 run (nodeRowEntry s) 4 nodeRowWords nodeRow-wide (nodeRow-reads s) b.shape.nodeRows nodeRowsAt (nodeRows-held old.shape b room fit) in
-      let aggregates : entries (λ (at : ℕ). get_or run at 0) 1 aggregatesAt (get_or run 9 0) ≡ b.shape.aggregates =
-      ap (entries (λ (at : ℕ). get_or run at 0) 1 aggregatesAt) (count-is 9 (lit≤ tt))
-      ∙ numbers-back s aggregatesAt b.shape.aggregates (aggregates-held old.shape b room fit) in
-      let virtualStorages : entries (virtualStorageEntry s) 6 virtualStoragesAt (get_or run 10 0) ≡ b.shape.virtualStorages =
-      ap (entries (virtualStorageEntry s) 6 virtualStoragesAt) (count-is 10 (lit≤ tt))
-      ∙ entries-back 0 run (virtualStorageEntry s) 6 virtualStorageWords virtual-storage-wide (virtual-storage-reads s) b.shape.virtualStorages
-      virtualStoragesAt (virtual-storages-held old.shape b room fit) in
-      let flow : entries (λ (at : ℕ). get_or run at 0) 1 flowOrderAt (get_or run 2 0) ≡ b.shape.flowOrder =
-      ap (entries (λ (at : ℕ). get_or run at 0) 1 flowOrderAt) (count-is 2 (lit≤ tt) ∙ sym fit.flowOrder)
-      ∙ numbers-back s flowOrderAt b.shape.flowOrder (flow-order-held old.shape b room fit) in
+  pub shape_back : shape_of (built_store old b) ≡ b.shape
+  unfolding shape_of built_store count_words
+  shape_back =
+      let s : Store = built_store old b in
+      let run : List ℕ = shape_after old.shape b in
+      let nodes : entries (node_entry s) 2 11 (get_or run 1 0) ≡ b.shape.nodes =
+      ap (entries (node_entry s) 2 11) (count_is 1 (lit≤ tt))
+      ∙ entries_back 0 run (node_entry s) 2 node_words node_wide (node_reads s) b.shape.nodes 11 (nodes_held old.shape b room fit) in
+      let mapped_edges : entries (edge_entry s) 3 edges_at (get_or run 2 0) ≡ b.shape.mapped_edges =
+      ap (entries (edge_entry s) 3 edges_at) (count_is 2 (lit≤ tt))
+      ∙ entries_back 0 run (edge_entry s) 3 edge_words pipe_wide (pipe_reads s) b.shape.mapped_edges edges_at (pipes_held old.shape b room fit) in
+      let node_rows : entries (node_row_entry s) 4 node_rows_at (get_or run 8 0) ≡ b.shape.node_rows =
+      ap (entries (node_row_entry s) 4 node_rows_at) (count_is 8 (lit≤ tt))
+      ∙ entries_back 0 run (node_row_entry s) 4 node_row_words node_row_wide (node_row_reads s) b.shape.node_rows node_rows_at (node_rows_held old.shape b room fit) in
+      let aggregates : entries (λ (at : ℕ). get_or run at 0) 1 aggregates_at (get_or run 9 0) ≡ b.shape.aggregates =
+      ap (entries (λ (at : ℕ). get_or run at 0) 1 aggregates_at) (count_is 9 (lit≤ tt))
+      ∙ numbers_back s aggregates_at b.shape.aggregates (aggregates_held old.shape b room fit) in
+      let virtual_storages : entries (virtual_storage_entry s) 6 virtual_storages_at (get_or run 10 0) ≡ b.shape.virtual_storages =
+      ap (entries (virtual_storage_entry s) 6 virtual_storages_at) (count_is 10 (lit≤ tt))
+      ∙ entries_back 0 run (virtual_storage_entry s) 6 virtual_storage_words virtual_storage_wide (virtual_storage_reads s) b.shape.virtual_storages
+      virtual_storages_at (virtual_storages_held_lem old.shape b room fit) in
+      let flow : entries (λ (at : ℕ). get_or run at 0) 1 flow_order_at (get_or run 2 0) ≡ b.shape.flow_order =
+      ap (entries (λ (at : ℕ). get_or run at 0) 1 flow_order_at) (count_is 2 (lit≤ tt) ∙ sym fit.flow_order)
+      ∙ numbers_back s flow_order_at b.shape.flow_order (flow_order_held old.shape b room fit) in
       λ i.
       record {
         nodes = nodes i;
-        mappedEdges = mappedEdges i;
-        flowOrder = flow i;
-        edgeColumns = count-is 3 (lit≤ tt) i;
-        nodeRows = nodeRows i;
+        mapped_edges = mapped_edges i;
+        flow_order = flow i;
+        edge_columns = count_is 3 (lit≤ tt) i;
+        node_rows = node_rows i;
         aggregates = aggregates i;
-        virtualStorages = virtualStorages i;
+        virtual_storages = virtual_storages i;
       }
 
-  pub makers-back : makersIn (builtStore old b) ≡ b.makers
-  unfolding makersIn builtStore countWords
-  makers-back =
-      let s : Store = builtStore old b in
-      let run : List ℕ = shapeAfter old.shape b in
-      ap (entries (makerEntry s) 3 makersAt) (ap₂ (λ (m n : ℕ). m + n) (count-is 5 (lit≤ tt)) (count-is 6 (lit≤ tt)) ∙ sym fit.makers)
-      ∙ entries-back 0 run (makerEntry s) 3 makerWords maker-wide (maker-reads s) b.makers makersAt (makers-held old.shape b room fit)
+  pub makers_back : makers_in (built_store old b) ≡ b.makers
+  unfolding makers_in built_store count_words
+  makers_back =
+      let s : Store = built_store old b in
+      let run : List ℕ = shape_after old.shape b in
+      ap (entries (maker_entry s) 3 makers_at) (ap₂ (λ (m n : ℕ). m + n) (count_is 5 (lit≤ tt)) (count_is 6 (lit≤ tt)) ∙ sym fit.makers)
+      ∙ entries_back 0 run (maker_entry s) 3 maker_words maker_wide (maker_reads s) b.makers makers_at (makers_held old.shape b room fit)

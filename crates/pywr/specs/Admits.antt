@@ -4,7 +4,7 @@ use Rattle.pywr.specs.declared.Sentinel.{Sentinel}
 use Rattle.pywr.specs.ColEdgeMap.{MappedEdge}
 use Rattle.pywr.specs.Rows.{Element, ColumnMap}
 use Rattle.pywr.specs.Programme.{Column, Row, Programme}
-use Rattle.pywr.specs.Plans.{Amount, Product, product, exact, meets, Plan, unitsInOne, timesOne, all_from}
+use Rattle.pywr.specs.Plans.{Amount, Product, product, exact, meets, Plan, units_in_one, times_one, all_from}
 
 -- the amount of a column's first edge; the first edge of the list has this number
 unfoldable pub carried : Plan → ℕ → ℕ → List MappedEdge → Amount
@@ -12,31 +12,31 @@ carried plan column number [] = 0
 carried plan column number (edge ∷ edges) = cond (eqb edge.column column) (plan.amount number) (carried plan column (suc number) edges)
 
 -- "edges of a column (by col_edge_map.rs above) carry equal amounts": each edge carries what its column's first does
-unfoldable pub equalInColumn : Plan → List MappedEdge → ℕ → MappedEdge → Bool
-equalInColumn plan edges number edge = eqb (plan.amount number) (carried plan edge.column 0 edges)
+unfoldable pub equal_in_column : Plan → List MappedEdge → ℕ → MappedEdge → Bool
+equal_in_column plan edges number edge = eqb (plan.amount number) (carried plan edge.column 0 edges)
 
 -- "with that amount on the column and 1 or 0 on a set's column as it is on or off"
-unfoldable pub onColumn : ColumnMap → Plan → ℕ → Amount
-onColumn mapping plan column =
-    cond (ltb column mapping.edgeColumns) (carried plan column 0 mapping.mappedEdges)
-    (cond (plan.on (get_or mapping.sets (column - mapping.edgeColumns) [])) unitsInOne 0)
+unfoldable pub on_column : ColumnMap → Plan → ℕ → Amount
+on_column mapping plan column =
+    cond (ltb column mapping.edge_columns) (carried plan column 0 mapping.mapped_edges)
+    (cond (plan.on (get_or mapping.sets (column - mapping.edge_columns) [])) units_in_one 0)
 
 -- a row's sum: each element times the amount on its column
-unfoldable pub rowSum : ColumnMap → Plan → List Element → Product
-rowSum mapping plan [] = pos 0
-rowSum mapping plan (e ∷ es) = product (exact e.value) (pos (onColumn mapping plan e.column)) +ℤ rowSum mapping plan es
+unfoldable pub row_sum : ColumnMap → Plan → List Element → Product
+row_sum mapping plan [] = pos 0
+row_sum mapping plan (e ∷ es) = product (exact e.value) (pos (on_column mapping plan e.column)) +ℤ row_sum mapping plan es
 
 -- "every column and row bound is met, summed exactly"
-unfoldable pub rowMet : Sentinel → ColumnMap → Plan → ℕ → Row → Bool
-rowMet s mapping plan number row = meets s (record { lower = row.lower; upper = row.upper }) (rowSum mapping plan row.elements)
+unfoldable pub row_met : Sentinel → ColumnMap → Plan → ℕ → Row → Bool
+row_met s mapping plan number row = meets s (record { lower = row.lower; upper = row.upper }) (row_sum mapping plan row.elements)
 
-unfoldable pub columnMet : Sentinel → ColumnMap → Plan → ℕ → Column → Bool
-columnMet s mapping plan number column = meets s (record { lower = column.lower; upper = column.upper }) (timesOne (pos (onColumn mapping plan number)))
+unfoldable pub column_met : Sentinel → ColumnMap → Plan → ℕ → Column → Bool
+column_met s mapping plan number column = meets s (record { lower = column.lower; upper = column.upper }) (times_one (pos (on_column mapping plan number)))
 
 -- the programme admits the plan
 unfoldable pub admits : ColumnMap → Programme → Plan → Bool
 admits mapping p plan =
-    all_from (equalInColumn plan mapping.mappedEdges) 0 mapping.mappedEdges
-    && all_from (columnMet p.sentinel mapping plan) 0 p.columns
-    && all_from (rowMet p.sentinel mapping plan) 0 p.varying
-    && all_from (rowMet p.sentinel mapping plan) 0 p.fixed
+    all_from (equal_in_column plan mapping.mapped_edges) 0 mapping.mapped_edges
+    && all_from (column_met p.sentinel mapping plan) 0 p.columns
+    && all_from (row_met p.sentinel mapping plan) 0 p.varying
+    && all_from (row_met p.sentinel mapping plan) 0 p.fixed

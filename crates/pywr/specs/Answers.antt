@@ -20,10 +20,10 @@ place_of Accepted = 0
 place_of (Refused number place) = place
 
 -- the same of reading a row
-unfoldable pub rowNumberOf : RowAnswer → ℕ
-rowNumberOf (RowAnswer.Part start end) = 0
-rowNumberOf (RowAnswer.Refused number place) = number
+unfoldable pub row_number_of : RowAnswer → ℕ
+row_number_of (RowAnswer.Part start end) = 0
+row_number_of (RowAnswer.Refused number place) = number
 
-unfoldable pub rowPlaceOf : RowAnswer → ℕ
-rowPlaceOf (RowAnswer.Part start end) = 0
-rowPlaceOf (RowAnswer.Refused number place) = place
+unfoldable pub row_place_of : RowAnswer → ℕ
+row_place_of (RowAnswer.Part start end) = 0
+row_place_of (RowAnswer.Refused number place) = place

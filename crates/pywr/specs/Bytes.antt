@@ -22,8 +22,8 @@ abbrev pub within : List ℕ → ℕ → ℕ → Bool
 within file at count = leb (at + count) (length file)
 
 -- "A two-byte ASCII mark opens each record"
-abbrev pub markIs : List ℕ → ℕ → ℕ → ℕ → Bool
-markIs file at first second = eqb (byte file at) first && eqb (byte file (at + 1)) second
+abbrev pub mark_is : List ℕ → ℕ → ℕ → ℕ → Bool
+mark_is file at first second = eqb (byte file at) first && eqb (byte file (at + 1)) second
 
 -- A field of the record at `place`, in the bytes from `at`. `short` is the refusal where the file ends inside the field: 1 in a network, 12 in a step.
 module _ (file : List ℕ) (place short : ℕ) where

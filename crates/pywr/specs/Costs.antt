@@ -9,15 +9,15 @@ use Rattle.pywr.specs.Programme.{NodeShape, Shape}
 use Rattle.pywr.specs.StepFile.{NodeStep}
 
 -- "A link gives half its cost either way; storage minus its cost out, plus in."
-unfoldable pub outgoingCost : ℕ → Float → Float
-outgoingCost kind cost = cond (eqb kind link) (div binary64 cost two64) (cond (eqb kind storage) (neg cost) cost)
+unfoldable pub outgoing_cost : ℕ → Float → Float
+outgoing_cost kind cost = cond (eqb kind link) (div binary64 cost two64) (cond (eqb kind storage) (neg cost) cost)
 
-unfoldable pub incomingCost : ℕ → Float → Float
-incomingCost kind cost = cond (eqb kind link) (div binary64 cost two64) cost
+unfoldable pub incoming_cost : ℕ → Float → Float
+incoming_cost kind cost = cond (eqb kind link) (div binary64 cost two64) cost
 
 -- "Cost: from's outgoing plus to's incoming."
-unfoldable pub edgeCost : ℕ → Float → ℕ → Float → Float
-edgeCost fromKind fromCost toKind toCost = add binary64 (outgoingCost fromKind fromCost) (incomingCost toKind toCost)
+unfoldable pub edge_cost : ℕ → Float → ℕ → Float → Float
+edge_cost from_kind from_cost to_kind to_cost = add binary64 (outgoing_cost from_kind from_cost) (incoming_cost to_kind to_cost)
 
 -- a node's kind and its cost, by its number
 unfoldable pub kind_at : List NodeShape → ℕ → ℕ
@@ -25,29 +25,29 @@ kind_at [] node = 0
 kind_at (x ∷ xs) zero = x.kind
 kind_at (x ∷ xs) (suc node) = kind_at xs node
 
-unfoldable pub costAt : List NodeStep → ℕ → Float
-costAt [] node = zero64
-costAt (x ∷ xs) zero = x.cost
-costAt (x ∷ xs) (suc node) = costAt xs node
+unfoldable pub cost_at : List NodeStep → ℕ → Float
+cost_at [] node = zero64
+cost_at (x ∷ xs) zero = x.cost
+cost_at (x ∷ xs) (suc node) = cost_at xs node
 
 -- the costs of these edges added into their columns, one after the other
-unfoldable pub addCosts : List NodeShape → List NodeStep → List MappedEdge → List Float → List Float
-addCosts shapes steps [] costs = costs
-addCosts shapes steps (edge ∷ edges) costs =
-    let cost : Float = edgeCost (kind_at shapes edge.from) (costAt steps edge.from) (kind_at shapes edge.to) (costAt steps edge.to) in
-    addCosts shapes steps edges (set costs edge.column (add binary64 (get_or costs edge.column zero64) cost))
+unfoldable pub add_costs : List NodeShape → List NodeStep → List MappedEdge → List Float → List Float
+add_costs shapes steps [] costs = costs
+add_costs shapes steps (edge ∷ edges) costs =
+    let cost : Float = edge_cost (kind_at shapes edge.from) (cost_at steps edge.from) (kind_at shapes edge.to) (cost_at steps edge.to) in
+    add_costs shapes steps edges (set costs edge.column (add binary64 (get_or costs edge.column zero64) cost))
 
--- the edges that have these numbers. A well-shaped store's numbers are under the edge count, so `noMappedEdge` never stands
-unfoldable pub noMappedEdge : MappedEdge
-noMappedEdge = record { from = 0; to = 0; column = 0 }
+-- the edges that have these numbers. A well-shaped store's numbers are under the edge count, so `no_mapped_edge` never stands
+unfoldable pub no_mapped_edge : MappedEdge
+no_mapped_edge = record { from = 0; to = 0; column = 0 }
 
-unfoldable pub edgesNumbered : List ℕ → List MappedEdge → List MappedEdge
-edgesNumbered numbers edges = map (λ (number : ℕ). get_or edges number noMappedEdge) numbers
+unfoldable pub edges_numbered : List ℕ → List MappedEdge → List MappedEdge
+edges_numbered numbers edges = map (λ (number : ℕ). get_or edges number no_mapped_edge) numbers
 
 -- the cost of every column: "Sum each column in flow order" (document 02, L10), from 0.0
-unfoldable pub stepCosts : Shape → ℕ → List NodeStep → List Float
-stepCosts shape columns steps = addCosts shape.nodes steps (edgesNumbered shape.flowOrder shape.mappedEdges) (replicate columns zero64)
+unfoldable pub step_costs : Shape → ℕ → List NodeStep → List Float
+step_costs shape columns steps = add_costs shape.nodes steps (edges_numbered shape.flow_order shape.mapped_edges) (replicate columns zero64)
 
 -- the same in edge order, "Costs add into the column in edge order from 0.0." (document 01); no step has these costs since L10 but where they are equal
-unfoldable pub edgeOrderCosts : Shape → ℕ → List NodeStep → List Float
-edgeOrderCosts shape columns steps = addCosts shape.nodes steps shape.mappedEdges (replicate columns zero64)
+unfoldable pub edge_order_costs : Shape → ℕ → List NodeStep → List Float
+edge_order_costs shape columns steps = add_costs shape.nodes steps shape.mapped_edges (replicate columns zero64)

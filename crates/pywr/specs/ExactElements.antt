@@ -7,13 +7,13 @@ use Rattle.std.proofs.Math.ListN.{get_elem?}
 use Rattle.pywr.specs.declared.Sentinel.{Sentinel}
 use Rattle.pywr.specs.Result.{value}
 use Rattle.pywr.specs.Network.{output, storage, Part, VirtualStorage, Network, kind_of}
-use Rattle.pywr.specs.NetworkFile.{parseNetwork}
-use Rattle.pywr.specs.Rows.{Element, ColumnMap, columnMap, columnsInto, columnsOutOf, virtualStorageRow}
+use Rattle.pywr.specs.NetworkFile.{parse_network}
+use Rattle.pywr.specs.Rows.{Element, ColumnMap, column_map, columns_into, columns_out_of, virtual_storage_row}
 use Rattle.pywr.specs.Programme.{Row, VirtualStorageShape}
-use Rattle.pywr.specs.Store.{Store, shape_of, programmeIn}
-use Rattle.pywr.specs.Calls.{buildAnswer, buildStore, isAccepted}
+use Rattle.pywr.specs.Store.{Store, shape_of, programme_in}
+use Rattle.pywr.specs.Calls.{build_answer, build_store, is_accepted}
 use Rattle.pywr.specs.Plans.{SignedAmount, exact, is_finite}
-use Rattle.pywr.specs.Correspondence.{Call, storeAfter, factorsIn1024ths}
+use Rattle.pywr.specs.Correspondence.{Call, store_after, factors_in1024ths}
 
 -- how often the list has the column
 unfoldable pub occurrences : ℕ → List ℕ → ℕ
@@ -21,40 +21,40 @@ occurrences column [] = 0
 occurrences column (c ∷ cs) = cond (eqb c column) 1 0 + occurrences column cs
 
 -- how often a node's row counts the column: "input and link use outgoing edges, output incoming, storage + incoming − outgoing"
-unfoldable pub nodeTimes : ColumnMap → ℕ → ℕ → ℤ
-nodeTimes mapping column node =
-    let into : ℤ = pos (occurrences column (columnsInto node mapping.mappedEdges)) in
-    let out : ℤ = pos (occurrences column (columnsOutOf node mapping.mappedEdges)) in
+unfoldable pub node_times : ColumnMap → ℕ → ℕ → ℤ
+node_times mapping column node =
+    let into : ℤ = pos (occurrences column (columns_into node mapping.mapped_edges)) in
+    let out : ℤ = pos (occurrences column (columns_out_of node mapping.mapped_edges)) in
     cond (eqb (kind_of mapping.nodes node) output) into
     (cond (eqb (kind_of mapping.nodes node) storage) (into -ℤ out) out)
 
 -- the exact sum of the parts on a column: "minus factor times node row"
-unfoldable pub factorSum : ColumnMap → ℕ → List Part → SignedAmount
-factorSum mapping column [] = pos 0
-factorSum mapping column (part ∷ parts) = neg_ℤ (exact part.factor) *ℤ nodeTimes mapping column part.node +ℤ factorSum mapping column parts
+unfoldable pub factor_sum : ColumnMap → ℕ → List Part → SignedAmount
+factor_sum mapping column [] = pos 0
+factor_sum mapping column (part ∷ parts) = neg_ℤ (exact part.factor) *ℤ node_times mapping column part.node +ℤ factor_sum mapping column parts
 
 -- of the elements of a virtual storage's row
 pub record ElementsExact (mapping : ColumnMap) (v : VirtualStorage) (row : List Element) : Type 0 where
   pub finite : (e : Element) → Memᴰ e row → is_finite e.value ≡ true
-  pub each : (e : Element) → Memᴰ e row → exact e.value ≡ factorSum mapping e.column v.parts
+  pub each : (e : Element) → Memᴰ e row → exact e.value ≡ factor_sum mapping e.column v.parts
   -- where the row has no element, the parts sum to 0
-  pub elsewhere : (column : ℕ) → ((e : Element) → Memᴰ e row → e.column ≢ column) → factorSum mapping column v.parts ≡ pos 0
+  pub elsewhere : (column : ℕ) → ((e : Element) → Memᴰ e row → e.column ≢ column) → factor_sum mapping column v.parts ≡ pos 0
 
 -- of every network that is read from a file, with demand 3's premise on factors and no other
 abbrev pub ExactElements : Type 0
-ExactElements = (networkFile : List ℕ) (net : Network) → parseNetwork networkFile ≡ value net → factorsIn1024ths net ≡ true
-    → (n : ℕ) (v : VirtualStorage) → get_elem? net.virtualStorages n ≡ some v → ElementsExact (columnMap net) v (virtualStorageRow (columnMap net) v)
+ExactElements = (network_file : List ℕ) (net : Network) → parse_network network_file ≡ value net → factors_in1024ths net ≡ true
+    → (n : ℕ) (v : VirtualStorage) → get_elem? net.virtual_storages n ≡ some v → ElementsExact (column_map net) v (virtual_storage_row (column_map net) v)
 
 -- of a store: the row that its table gives virtual storage n
 pub record RowExact (net : Network) (n : ℕ) (v : VirtualStorage) (store : Store) : Type 0 where
   pub entry : VirtualStorageShape
-  pub listed : get_elem? (shape_of store).virtualStorages n ≡ some entry
+  pub listed : get_elem? (shape_of store).virtual_storages n ≡ some entry
   pub row : Row
-  pub found : get_elem? (programmeIn store).varying entry.row ≡ some row
-  pub elements : ElementsExact (columnMap net) v row.elements
+  pub found : get_elem? (programme_in store).varying entry.row ≡ some row
+  pub elements : ElementsExact (column_map net) v row.elements
 
 -- after any accepted build and any list of steps, refused ones too: exclusive nodes may vary
 abbrev pub ExactElementsKept : Type 0
-ExactElementsKept = (networkFile : List ℕ) (s : Sentinel) (old : Store) (words : List ℕ) (numbers : List Float) (net : Network) → parseNetwork networkFile ≡ value net
-    → isAccepted (buildAnswer s networkFile old words numbers) ≡ true → factorsIn1024ths net ≡ true → (calls : List Call)
-    → (n : ℕ) (v : VirtualStorage) → get_elem? net.virtualStorages n ≡ some v → RowExact net n v (storeAfter (buildStore s networkFile old words numbers) calls)
+ExactElementsKept = (network_file : List ℕ) (s : Sentinel) (old : Store) (words : List ℕ) (numbers : List Float) (net : Network) → parse_network network_file ≡ value net
+    → is_accepted (build_answer s network_file old words numbers) ≡ true → factors_in1024ths net ≡ true → (calls : List Call)
+    → (n : ℕ) (v : VirtualStorage) → get_elem? net.virtual_storages n ≡ some v → RowExact net n v (store_after (build_store s network_file old words numbers) calls)

@@ -27,31 +27,31 @@ unfoldable pub edge : ℕ → ℕ → List ℕ
 edge from to = 69 ∷ 68 ∷ w16 from ++ w16 to
 
 -- a set of nodes, and an exclusive aggregate
-unfoldable pub setBytes : List ℕ → List ℕ
-setBytes set = length set ∷ flat_map w16 set
+unfoldable pub set_bytes : List ℕ → List ℕ
+set_bytes set = length set ∷ flat_map w16 set
 
 unfoldable pub exclusive : ℕ → ℕ → List (List ℕ) → List ℕ
-exclusive least most sets = 65 ∷ 71 ∷ 1 ∷ length sets ∷ w32 least ++ w32 most ++ flat_map setBytes sets
+exclusive least most sets = 65 ∷ 71 ∷ 1 ∷ length sets ∷ w32 least ++ w32 most ++ flat_map set_bytes sets
 
-unfoldable pub partBytes : Part → List ℕ
-partBytes part = w16 part.node ++ w64 part.factor
+unfoldable pub part_bytes : Part → List ℕ
+part_bytes part = w16 part.node ++ w64 part.factor
 
 -- a virtual storage, and one of one part; a period is five bytes, 0 throughout for always
-unfoldable pub virtualStorageOf : List ℕ → List Part → List ℕ
-virtualStorageOf period parts = 86 ∷ 83 ∷ period ++ length parts ∷ flat_map partBytes parts
+unfoldable pub virtual_storage_of : List ℕ → List Part → List ℕ
+virtual_storage_of period parts = 86 ∷ 83 ∷ period ++ length parts ∷ flat_map part_bytes parts
 
-unfoldable pub virtualStorage : List ℕ → ℕ → Float → List ℕ
-virtualStorage period node factor = virtualStorageOf period (record { node = node; factor = factor } ∷ [])
+unfoldable pub virtual_storage : List ℕ → ℕ → Float → List ℕ
+virtual_storage period node factor = virtual_storage_of period (record { node = node; factor = factor } ∷ [])
 
 -- the records of a step file: `ST`, `NB`, `GB`, `VB`
 unfoldable pub date : ℕ → ℕ → Float → List ℕ
 date month day days = 83 ∷ 84 ∷ month ∷ day ∷ w64 days
 
-unfoldable pub nodeStep : Float → Float → Float → Float → List ℕ
-nodeStep cost min max volume = 78 ∷ 66 ∷ w64 cost ++ w64 min ++ w64 max ++ w64 volume
+unfoldable pub node_step : Float → Float → Float → Float → List ℕ
+node_step cost min max volume = 78 ∷ 66 ∷ w64 cost ++ w64 min ++ w64 max ++ w64 volume
 
-unfoldable pub aggregateStep : Float → Float → List ℕ
-aggregateStep lower upper = 71 ∷ 66 ∷ w64 lower ++ w64 upper
+unfoldable pub aggregate_step : Float → Float → List ℕ
+aggregate_step lower upper = 71 ∷ 66 ∷ w64 lower ++ w64 upper
 
-unfoldable pub virtualStorageStep : Float → Float → Float → List ℕ
-virtualStorageStep min max volume = 86 ∷ 66 ∷ w64 min ++ w64 max ++ w64 volume
+unfoldable pub virtual_storage_step : Float → Float → Float → List ℕ
+virtual_storage_step min max volume = 86 ∷ 66 ∷ w64 min ++ w64 max ++ w64 volume

@@ -30,11 +30,11 @@ unfoldable pub trillion : Float
 trillion = of_bits binary64 0x426d1a94a2000000
 
 -- 1/1024 and 366, the ends of a step's days
-unfoldable pub leastDays : Float
-leastDays = round binary64 false 1 1024
+unfoldable pub least_days : Float
+least_days = round binary64 false 1 1024
 
-unfoldable pub mostDays : Float
-mostDays = double 366
+unfoldable pub most_days : Float
+most_days = double 366
 
 -- "the caller picks infinity or the largest finite double as high sentinel ..; low is its negation"
 unfoldable pub high : Sentinel → Float
@@ -52,17 +52,17 @@ unfoldable pub greater : Float → Float → Float
 greater held x = cond (lt held x) x held
 
 -- a field's bit pattern: "Flow bounds: anything but NaN."
-unfoldable pub isFlow : ℕ → Bool
-isFlow bits = not (nan_bits binary64 bits)
+unfoldable pub is_flow : ℕ → Bool
+is_flow bits = not (nan_bits binary64 bits)
 
 -- a cost, volume or factor
-unfoldable pub isSmall : ℕ → Bool
-isSmall bits = isFlow bits && (le (neg trillion) (of_bits binary64 bits) && le (of_bits binary64 bits) trillion)
+unfoldable pub is_small : ℕ → Bool
+is_small bits = is_flow bits && (le (neg trillion) (of_bits binary64 bits) && le (of_bits binary64 bits) trillion)
 
 -- "days f64 in 1/1024..366"
-unfoldable pub isDays : ℕ → Bool
-isDays bits = isFlow bits && (le leastDays (of_bits binary64 bits) && le (of_bits binary64 bits) mostDays)
+unfoldable pub is_days : ℕ → Bool
+is_days bits = is_flow bits && (le least_days (of_bits binary64 bits) && le (of_bits binary64 bits) most_days)
 
 -- the double of a field's bit pattern
-unfoldable pub ofPattern : ℕ → Float
-ofPattern bits = of_bits binary64 bits
+unfoldable pub of_pattern : ℕ → Float
+of_pattern bits = of_bits binary64 bits

@@ -5,11 +5,11 @@ use Rattle.pywr.specs.declared.Answer.{Answer}
 use Rattle.pywr.specs.declared.Answer.TheVariants.{Accepted, Refused}
 use Rattle.pywr.specs.Result.{value}
 use Rattle.pywr.specs.Network.{Network}
-use Rattle.pywr.specs.NetworkFile.{parseNetwork}
+use Rattle.pywr.specs.NetworkFile.{parse_network}
 use Rattle.pywr.specs.Store.{Store}
 use Rattle.pywr.specs.Calls.{AfterBuild, AfterStep}
 use Rattle.pywr.specs.Plans.{Plan}
-use Rattle.pywr.specs.Correspondence.{Call, Report, networkAllows, programmeAdmits, factorsIn1024ths, anyAccepted}
+use Rattle.pywr.specs.Correspondence.{Call, Report, network_allows, programme_admits, factors_in1024ths, any_accepted}
 
 -- a call of `step` with what it answered
 pub record Answered : Type 0 where
@@ -31,12 +31,12 @@ report a = record { file = a.call.file; accepted = accepts a.answer }
 
 abbrev pub PortCorrespondence : Type 0
 PortCorrespondence =
-    (networkFile : List ℕ) (s : Sentinel) (old built : Store) (words words' : List ℕ) (numbers numbers' : List Float) (net : Network)
-    → parseNetwork networkFile ≡ value net
-    → AfterBuild s networkFile old words numbers Accepted built words' numbers'
-    → factorsIn1024ths net ≡ true
+    (network_file : List ℕ) (s : Sentinel) (old built : Store) (words words' : List ℕ) (numbers numbers' : List Float) (net : Network)
+    → parse_network network_file ≡ value net
+    → AfterBuild s network_file old words numbers Accepted built words' numbers'
+    → factors_in1024ths net ≡ true
     → (calls : List Answered) (last : Store)
     → Run built calls last
-    → anyAccepted (map report calls) ≡ true
+    → any_accepted (map report calls) ≡ true
     → (plan : Plan)
-    → programmeAdmits (parseNetwork networkFile) last plan ≡ networkAllows (parseNetwork networkFile) s (map report calls) plan
+    → programme_admits (parse_network network_file) last plan ≡ network_allows (parse_network network_file) s (map report calls) plan

@@ -32,13 +32,13 @@ pub record NodeShape : Type 0 where
 -- NodeRowType: what a step does to the row. A continuous row's bounds are tightened by the node's interval; on a binary one, which is an upper or a lower row
 -- of an exclusive node, the coefficient on the set's column is set
 pub data RowType : Type 0 where
-  continuous binaryUpper binaryLower : RowType
+  continuous binary_upper binary_lower : RowType
 
 -- NodeRowId, for each row that a varying node asked for: `row` is the row's number, `set` that of the exclusive set, and 0 in a continuous one
 pub record NodeRow : Type 0 where
   pub node : ℕ
   pub row : ℕ
-  pub rowType : RowType
+  pub row_type : RowType
   pub set : ℕ
 
 -- `row` is the number of its row
@@ -46,40 +46,40 @@ pub record VirtualStorageShape : Type 0 where
   pub row : ℕ
   pub period : Period
 
--- `flowOrder` has the edges' numbers in flow order, `aggregates` the number of each aggregate's row
+-- `flow_order` has the edges' numbers in flow order, `aggregates` the number of each aggregate's row
 pub record Shape : Type 0 where
   pub nodes : List NodeShape
-  pub mappedEdges : List MappedEdge
-  pub flowOrder : List ℕ
-  pub edgeColumns : ℕ
-  pub nodeRows : List NodeRow
+  pub mapped_edges : List MappedEdge
+  pub flow_order : List ℕ
+  pub edge_columns : ℕ
+  pub node_rows : List NodeRow
   pub aggregates : List ℕ
-  pub virtualStorages : List VirtualStorageShape
+  pub virtual_storages : List VirtualStorageShape
 
 -- ---- who made a row
 
 -- document 02, L5: "kind (mass, node, aggregate, virtual storage, exclusivity)", "kinds 0 to 4 in that order"
-abbrev pub byMass : ℕ
-byMass = 0
+abbrev pub by_mass : ℕ
+by_mass = 0
 
-abbrev pub byNode : ℕ
-byNode = 1
+abbrev pub by_node : ℕ
+by_node = 1
 
-abbrev pub byAggregate : ℕ
-byAggregate = 2
+abbrev pub by_aggregate : ℕ
+by_aggregate = 2
 
-abbrev pub byVirtualStorage : ℕ
-byVirtualStorage = 3
+abbrev pub by_virtual_storage : ℕ
+by_virtual_storage = 3
 
-abbrev pub byExclusivity : ℕ
-byExclusivity = 4
+abbrev pub by_exclusivity : ℕ
+by_exclusivity = 4
 
 -- "its first maker's kind .. and index, and how many makers share it". The index is a node's where the kind is mass or node, an aggregate's where it is
 -- aggregate or exclusivity, and a virtual storage's where it is virtual storage
 pub record Maker : Type 0 where
   pub kind : ℕ
   pub index : ℕ
-  pub sharedBy : ℕ
+  pub shared_by : ℕ
 
 -- `makers` has one for each row, the varying rows' first; see `Makers`
 pub record Built : Type 0 where

@@ -18,11 +18,11 @@ unfoldable pub need : {A : Type 0} → Bool → ℕ → ℕ → A → Result A
 need ok number place x = cond ok (value x) (refused number place)
 
 -- the first of a list at which the test gives a refusal: its number, and the place, which is the index; the first of the list has this one
-unfoldable pub firstRefused : {A : Type 0} → (ℕ → A → Option ℕ) → ℕ → List A → Option (ℕ × ℕ)
-firstRefused test index [] = none
-firstRefused test index (x ∷ xs) = elim (test index x) [ none ↦ firstRefused test (suc index) xs | some number ↦ some (number, index) ]
+unfoldable pub first_refused : {A : Type 0} → (ℕ → A → Option ℕ) → ℕ → List A → Option (ℕ × ℕ)
+first_refused test index [] = none
+first_refused test index (x ∷ xs) = elim (test index x) [ none ↦ first_refused test (suc index) xs | some number ↦ some (number, index) ]
 
 -- x, or the refusal that was found
-unfoldable pub refusedIf : {A : Type 0} → A → Option (ℕ × ℕ) → Result A
-refusedIf x none = value x
-refusedIf x (some found) = refused found.0 found.1
+unfoldable pub refused_if : {A : Type 0} → A → Option (ℕ × ℕ) → Result A
+refused_if x none = value x
+refused_if x (some found) = refused found.0 found.1

@@ -5,12 +5,12 @@ use Rattle.std.proofs.Math.Option.{Option, none, some}
 use Rattle.std.proofs.Math.ListN.{get_elem?}
 use Rattle.std.specs.Float.Ieee.{le}
 use Rattle.pywr.specs.declared.Interval.{Interval}
-use Rattle.pywr.specs.Result.{Result, value, ◌>>=◌, firstRefused, refusedIf}
+use Rattle.pywr.specs.Result.{Result, value, ◌>>=◌, first_refused, refused_if}
 use Rattle.pywr.specs.StepFile.{StepFile}
-use Rattle.pywr.specs.StepIntervals.{Intervals, isCrossed}
-use Rattle.pywr.specs.Step.{stepRows, stepped}
-use Rattle.pywr.specs.Store.{Store, shape_of, programmeIn}
-use Rattle.pywr.specs.Calls.{stepRead, stepIntervals, stepOrdered, stepAnswer}
+use Rattle.pywr.specs.StepIntervals.{Intervals, is_crossed}
+use Rattle.pywr.specs.Step.{step_rows, stepped}
+use Rattle.pywr.specs.Store.{Store, shape_of, programme_in}
+use Rattle.pywr.specs.Calls.{step_read, step_intervals, step_ordered, step_answer}
 
 -- lower not over upper. `le` is false of a NaN, so both are numbers
 abbrev pub Uncrossed : Interval → Type 0
@@ -18,31 +18,31 @@ Uncrossed i = T (le i.lower i.upper)
 
 -- the intervals that a step applies: the store's virtual storages have one each, active or not, and none of these is crossed
 pub record VirtualStoragesUncrossed (store : Store) (f : StepFile) : Type 0 where
-  pub applied : (stepped (shape_of store) f (programmeIn store)).varying
-      ≡ stepRows (programmeIn store).sentinel (shape_of store) (stepIntervals store f) (programmeIn store).varying
-  pub each : length (stepIntervals store f).virtualStorages ≡ length (shape_of store).virtualStorages
-  pub uncrossed : (number : ℕ) (i : Interval) → get_elem? (stepIntervals store f).virtualStorages number ≡ some i → Uncrossed i
+  pub applied : (stepped (shape_of store) f (programme_in store)).varying
+      ≡ step_rows (programme_in store).sentinel (shape_of store) (step_intervals store f) (programme_in store).varying
+  pub each : length (step_intervals store f).virtual_storages ≡ length (shape_of store).virtual_storages
+  pub uncrossed : (number : ℕ) (i : Interval) → get_elem? (step_intervals store f).virtual_storages number ≡ some i → Uncrossed i
 
 -- Of any store that passes 16 and 17, also one that no build made, with either sentinel, and any file that passes 12 and 13; 14 and 21 are not needed
 abbrev pub ReadUncrossed : Type 0
-ReadUncrossed = (store : Store) (file : List ℕ) (work : List Float) (f : StepFile) → stepRead store file work ≡ value f → VirtualStoragesUncrossed store f
+ReadUncrossed = (store : Store) (file : List ℕ) (work : List Float) (f : StepFile) → step_read store file work ≡ value f → VirtualStoragesUncrossed store f
 
 -- ---- dropping the check changes no answer
 
 -- as before, 15 "the same for a virtual storage (its index)"
-unfoldable pub crossedVirtualStorage : ℕ → Interval → Option ℕ
-crossedVirtualStorage index interval = cond (isCrossed interval) (some 15) none
+unfoldable pub crossed_virtual_storage : ℕ → Interval → Option ℕ
+crossed_virtual_storage index interval = cond (is_crossed interval) (some 15) none
 
-unfoldable pub virtualStoragesOrdered : Intervals → Result Intervals
-virtualStoragesOrdered intervals = refusedIf intervals (firstRefused crossedVirtualStorage 0 intervals.virtualStorages)
+unfoldable pub virtual_storages_ordered : Intervals → Result Intervals
+virtual_storages_ordered intervals = refused_if intervals (first_refused crossed_virtual_storage 0 intervals.virtual_storages)
 
 -- document 01's "Step: 16, 17, file left to right, 14, 15.", with document 02's 21 beside 14
-unfoldable pub stepAnswerWithFifteen : Store → List ℕ → List Float → Result StepFile
-stepAnswerWithFifteen store file work = do
-  f ← stepRead store file work
-  intervals ← stepOrdered store f
-  _ ← virtualStoragesOrdered intervals
+unfoldable pub step_answer_with_fifteen : Store → List ℕ → List Float → Result StepFile
+step_answer_with_fifteen store file work = do
+  f ← step_read store file work
+  intervals ← step_ordered store f
+  _ ← virtual_storages_ordered intervals
   value f
 
 abbrev pub FifteenUnreached : Type 0
-FifteenUnreached = (store : Store) (file : List ℕ) (work : List Float) → stepAnswerWithFifteen store file work ≡ stepAnswer store file work
+FifteenUnreached = (store : Store) (file : List ℕ) (work : List Float) → step_answer_with_fifteen store file work ≡ step_answer store file work

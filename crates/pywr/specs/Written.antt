@@ -2,128 +2,128 @@
 use Rattle.std.specs.Prelude.{ℕ, suc, ◌+◌, Bool, true, false, cond, not, length, Float}
 use mathlib.Core.List.{List, [], ◌∷◌, ◌++◌, map, flat_map}
 use Rattle.std.proofs.lemmas.List.Edits.{sets}
-use Rattle.layout.specs.Layout.{nodesAt, edges_at, nodeRowsAt, aggregatesAt, virtualStoragesAt, makersAt, flowOrderAt}
+use Rattle.layout.specs.Layout.{nodes_at, edges_at, node_rows_at, aggregates_at, virtual_storages_at, makers_at, flow_order_at}
 use Rattle.pywr.specs.declared.Sentinel.{Sentinel}
 use Rattle.pywr.specs.declared.Sentinel.TheVariants.{Infinity, Largest}
 use Rattle.pywr.specs.ColEdgeMap.{MappedEdge}
 use Rattle.pywr.specs.Rows.{Element}
-use Rattle.pywr.specs.Programme.{Column, Row, Programme, NodeShape, RowType, continuous, binaryUpper, binaryLower, NodeRow, VirtualStorageShape, Maker, Built}
-use Rattle.pywr.specs.Build.{elementCount}
+use Rattle.pywr.specs.Programme.{Column, Row, Programme, NodeShape, RowType, continuous, binary_upper, binary_lower, NodeRow, VirtualStorageShape, Maker, Built}
+use Rattle.pywr.specs.Build.{element_count}
 use Rattle.pywr.specs.Store.{Store}
 
-unfoldable pub sentinelWord : Sentinel → ℕ
-sentinelWord Infinity = 0
-sentinelWord Largest = 1
+unfoldable pub sentinel_word : Sentinel → ℕ
+sentinel_word Infinity = 0
+sentinel_word Largest = 1
 
-unfoldable pub rowTypeWord : RowType → ℕ
-rowTypeWord continuous = 0
-rowTypeWord binaryUpper = 1
-rowTypeWord binaryLower = 2
+unfoldable pub row_type_word : RowType → ℕ
+row_type_word continuous = 0
+row_type_word binary_upper = 1
+row_type_word binary_lower = 2
 
-unfoldable pub flagWord : Bool → ℕ
-flagWord false = 0
-flagWord true = 1
+unfoldable pub flag_word : Bool → ℕ
+flag_word false = 0
+flag_word true = 1
 
-unfoldable pub nodeWords : NodeShape → List ℕ
-nodeWords n = n.kind ∷ flagWord n.constant ∷ []
+unfoldable pub node_words : NodeShape → List ℕ
+node_words n = n.kind ∷ flag_word n.constant ∷ []
 
-unfoldable pub edgeWords : MappedEdge → List ℕ
-edgeWords p = p.from ∷ p.to ∷ p.column ∷ []
+unfoldable pub edge_words : MappedEdge → List ℕ
+edge_words p = p.from ∷ p.to ∷ p.column ∷ []
 
-unfoldable pub nodeRowWords : NodeRow → List ℕ
-nodeRowWords r = r.node ∷ r.row ∷ rowTypeWord r.rowType ∷ r.set ∷ []
+unfoldable pub node_row_words : NodeRow → List ℕ
+node_row_words r = r.node ∷ r.row ∷ row_type_word r.row_type ∷ r.set ∷ []
 
-unfoldable pub virtualStorageWords : VirtualStorageShape → List ℕ
-virtualStorageWords v =
+unfoldable pub virtual_storage_words : VirtualStorageShape → List ℕ
+virtual_storage_words v =
     v.row
-    ∷ flagWord (not v.period.always)
-    ∷ v.period.startMonth
-    ∷ v.period.startDay
-    ∷ v.period.endMonth
-    ∷ v.period.endDay
+    ∷ flag_word (not v.period.always)
+    ∷ v.period.start_month
+    ∷ v.period.start_day
+    ∷ v.period.end_month
+    ∷ v.period.end_day
     ∷ []
 
-unfoldable pub makerWords : Maker → List ℕ
-makerWords m = m.kind ∷ m.index ∷ m.sharedBy ∷ []
+unfoldable pub maker_words : Maker → List ℕ
+maker_words m = m.kind ∷ m.index ∷ m.shared_by ∷ []
 
-unfoldable pub integerColumns : List Column → ℕ
-integerColumns [] = 0
-integerColumns (c ∷ cs) = cond c.integer (suc (integerColumns cs)) (integerColumns cs)
+unfoldable pub integer_columns : List Column → ℕ
+integer_columns [] = 0
+integer_columns (c ∷ cs) = cond c.integer (suc (integer_columns cs)) (integer_columns cs)
 
-unfoldable pub countWords : Built → List ℕ
-countWords b =
-    sentinelWord b.programme.sentinel
+unfoldable pub count_words : Built → List ℕ
+count_words b =
+    sentinel_word b.programme.sentinel
     ∷ length b.shape.nodes
-    ∷ length b.shape.mappedEdges
-    ∷ b.shape.edgeColumns
-    ∷ integerColumns b.programme.columns
+    ∷ length b.shape.mapped_edges
+    ∷ b.shape.edge_columns
+    ∷ integer_columns b.programme.columns
     ∷ length b.programme.varying
     ∷ length b.programme.fixed
-    ∷ (elementCount b.programme.varying + elementCount b.programme.fixed)
-    ∷ length b.shape.nodeRows
+    ∷ (element_count b.programme.varying + element_count b.programme.fixed)
+    ∷ length b.shape.node_rows
     ∷ length b.shape.aggregates
-    ∷ length b.shape.virtualStorages
+    ∷ length b.shape.virtual_storages
     ∷ []
 
-unfoldable pub shapeAfter : List ℕ → Built → List ℕ
-shapeAfter old b =
-    let counts : List ℕ = sets old 0 (countWords b) in
-    let nodes : List ℕ = sets counts nodesAt (flat_map nodeWords b.shape.nodes) in
-    let edges : List ℕ = sets nodes edges_at (flat_map edgeWords b.shape.mappedEdges) in
-    let nodeRows : List ℕ = sets edges nodeRowsAt (flat_map nodeRowWords b.shape.nodeRows) in
-    let aggregates : List ℕ = sets nodeRows aggregatesAt b.shape.aggregates in
-    let virtualStorages : List ℕ = sets aggregates virtualStoragesAt (flat_map virtualStorageWords b.shape.virtualStorages) in
-    let makers : List ℕ = sets virtualStorages makersAt (flat_map makerWords b.makers) in
-    sets makers flowOrderAt b.shape.flowOrder
+unfoldable pub shape_after : List ℕ → Built → List ℕ
+shape_after old b =
+    let counts : List ℕ = sets old 0 (count_words b) in
+    let nodes : List ℕ = sets counts nodes_at (flat_map node_words b.shape.nodes) in
+    let edges : List ℕ = sets nodes edges_at (flat_map edge_words b.shape.mapped_edges) in
+    let node_rows : List ℕ = sets edges node_rows_at (flat_map node_row_words b.shape.node_rows) in
+    let aggregates : List ℕ = sets node_rows aggregates_at b.shape.aggregates in
+    let virtual_storages : List ℕ = sets aggregates virtual_storages_at (flat_map virtual_storage_words b.shape.virtual_storages) in
+    let makers : List ℕ = sets virtual_storages makers_at (flat_map maker_words b.makers) in
+    sets makers flow_order_at b.shape.flow_order
 
 -- the starts of the rows and, last, the element count
-unfoldable pub startsFrom : ℕ → List Row → List ℕ
-startsFrom at [] = at ∷ []
-startsFrom at (r ∷ rs) = at ∷ startsFrom (at + length r.elements) rs
+unfoldable pub starts_from : ℕ → List Row → List ℕ
+starts_from at [] = at ∷ []
+starts_from at (r ∷ rs) = at ∷ starts_from (at + length r.elements) rs
 
-unfoldable pub columnsIn : Row → List ℕ
-columnsIn r = map (λ (e : Element). e.column) r.elements
+unfoldable pub columns_in : Row → List ℕ
+columns_in r = map (λ (e : Element). e.column) r.elements
 
-unfoldable pub valuesIn : Row → List Float
-valuesIn r = map (λ (e : Element). e.value) r.elements
+unfoldable pub values_in : Row → List Float
+values_in r = map (λ (e : Element). e.value) r.elements
 
-unfoldable pub lowerOf : Row → Float
-lowerOf r = r.lower
+unfoldable pub lower_of : Row → Float
+lower_of r = r.lower
 
-unfoldable pub upperOf : Row → Float
-upperOf r = r.upper
+unfoldable pub upper_of : Row → Float
+upper_of r = r.upper
 
 unfoldable pub rows_of : Programme → List Row
 rows_of p = p.varying ++ p.fixed
 
 -- the store after an accepted build
-unfoldable pub builtStore : Store → Built → Store
-builtStore old b =
+unfoldable pub built_store : Store → Built → Store
+built_store old b =
     let p : Programme = b.programme in
     let rows : List Row = rows_of p in
     record {
-      colLower = sets old.colLower 0 (map (λ (c : Column). c.lower) p.columns);
-      colUpper = sets old.colUpper 0 (map (λ (c : Column). c.upper) p.columns);
-      colObjCoef = sets old.colObjCoef 0 (map (λ (c : Column). c.cost) p.columns);
-      rowLower = sets old.rowLower 0 (map lowerOf rows);
-      rowUpper = sets old.rowUpper 0 (map upperOf rows);
-      elements = sets old.elements 0 (flat_map valuesIn rows);
-      columns = sets old.columns 0 (flat_map columnsIn rows);
-      rowStarts = sets old.rowStarts 0 (startsFrom 0 rows);
-      shape = shapeAfter old.shape b;
+      col_lower = sets old.col_lower 0 (map (λ (c : Column). c.lower) p.columns);
+      col_upper = sets old.col_upper 0 (map (λ (c : Column). c.upper) p.columns);
+      col_obj_coef = sets old.col_obj_coef 0 (map (λ (c : Column). c.cost) p.columns);
+      row_lower = sets old.row_lower 0 (map lower_of rows);
+      row_upper = sets old.row_upper 0 (map upper_of rows);
+      elements = sets old.elements 0 (flat_map values_in rows);
+      columns = sets old.columns 0 (flat_map columns_in rows);
+      row_starts = sets old.row_starts 0 (starts_from 0 rows);
+      shape = shape_after old.shape b;
     }
 
 -- the store after an accepted step: costs, varying rows' bounds and varying rows' elements
-unfoldable pub steppedStore : Store → Programme → Store
-steppedStore old p =
+unfoldable pub stepped_store : Store → Programme → Store
+stepped_store old p =
     record {
-      colLower = old.colLower;
-      colUpper = old.colUpper;
-      colObjCoef = sets old.colObjCoef 0 (map (λ (c : Column). c.cost) p.columns);
-      rowLower = sets old.rowLower 0 (map lowerOf p.varying);
-      rowUpper = sets old.rowUpper 0 (map upperOf p.varying);
-      elements = sets old.elements 0 (flat_map valuesIn p.varying);
+      col_lower = old.col_lower;
+      col_upper = old.col_upper;
+      col_obj_coef = sets old.col_obj_coef 0 (map (λ (c : Column). c.cost) p.columns);
+      row_lower = sets old.row_lower 0 (map lower_of p.varying);
+      row_upper = sets old.row_upper 0 (map upper_of p.varying);
+      elements = sets old.elements 0 (flat_map values_in p.varying);
       columns = old.columns;
-      rowStarts = old.rowStarts;
+      row_starts = old.row_starts;
       shape = old.shape;
     }

@@ -21,24 +21,24 @@ pub extern "C" fn pywr_build(
     numbers: &mut [f64],
 ) -> Refusal
     ensures { BuildCrossed (picked infinite) file.now (record {
-      colLower = col_lower.old;
-      colUpper = col_upper.old;
-      colObjCoef = col_obj_coef.old;
-      rowLower = row_lower.old;
-      rowUpper = row_upper.old;
+      col_lower = col_lower.old;
+      col_upper = col_upper.old;
+      col_obj_coef = col_obj_coef.old;
+      row_lower = row_lower.old;
+      row_upper = row_upper.old;
       elements = elements.old;
       columns = columns.old;
-      rowStarts = row_starts.old;
+      row_starts = row_starts.old;
       shape = shape.old;
     }) words.old numbers.old result.number result.place (record {
-      colLower = col_lower.new;
-      colUpper = col_upper.new;
-      colObjCoef = col_obj_coef.new;
-      rowLower = row_lower.new;
-      rowUpper = row_upper.new;
+      col_lower = col_lower.new;
+      col_upper = col_upper.new;
+      col_obj_coef = col_obj_coef.new;
+      row_lower = row_lower.new;
+      row_upper = row_upper.new;
       elements = elements.new;
       columns = columns.new;
-      rowStarts = row_starts.new;
+      row_starts = row_starts.new;
       shape = shape.new;
     }) words.new numbers.new }
 {
@@ -76,24 +76,24 @@ pub extern "C" fn pywr_step(
     work: &mut [f64],
 ) -> Refusal
     ensures { StepCrossed file.now (record {
-      colLower = col_lower.now;
-      colUpper = col_upper.now;
-      colObjCoef = col_obj_coef.old;
-      rowLower = row_lower.old;
-      rowUpper = row_upper.old;
+      col_lower = col_lower.now;
+      col_upper = col_upper.now;
+      col_obj_coef = col_obj_coef.old;
+      row_lower = row_lower.old;
+      row_upper = row_upper.old;
       elements = elements.old;
       columns = columns.now;
-      rowStarts = row_starts.now;
+      row_starts = row_starts.now;
       shape = shape.now;
     }) work.old result.number result.place (record {
-      colLower = col_lower.now;
-      colUpper = col_upper.now;
-      colObjCoef = col_obj_coef.new;
-      rowLower = row_lower.new;
-      rowUpper = row_upper.new;
+      col_lower = col_lower.now;
+      col_upper = col_upper.now;
+      col_obj_coef = col_obj_coef.new;
+      row_lower = row_lower.new;
+      row_upper = row_upper.new;
       elements = elements.new;
       columns = columns.now;
-      rowStarts = row_starts.now;
+      row_starts = row_starts.now;
       shape = shape.now;
     }) work.new }
 {
@@ -128,14 +128,14 @@ pub extern "C" fn pywr_row(
     row: usize,
 ) -> RowPart
     ensures { RowCrossed (record {
-      colLower = col_lower.now;
-      colUpper = col_upper.now;
-      colObjCoef = col_obj_coef.now;
-      rowLower = row_lower.now;
-      rowUpper = row_upper.now;
+      col_lower = col_lower.now;
+      col_upper = col_upper.now;
+      col_obj_coef = col_obj_coef.now;
+      row_lower = row_lower.now;
+      row_upper = row_upper.now;
       elements = elements.now;
       columns = columns.now;
-      rowStarts = row_starts.now;
+      row_starts = row_starts.now;
       shape = shape.now;
     }) row result.number result.place result.start result.length }
 {

@@ -4,7 +4,7 @@ use Rattle.pywr.specs.declared.Sentinel.{Sentinel}
 use Rattle.pywr.specs.declared.Sentinel.TheVariants.{Infinity, Largest}
 use Rattle.pywr.specs.declared.Answer.{Answer}
 use Rattle.pywr.specs.declared.RowAnswer.{RowAnswer}
-use Rattle.pywr.specs.Answers.{number_of, place_of, rowNumberOf, rowPlaceOf}
+use Rattle.pywr.specs.Answers.{number_of, place_of, row_number_of, row_place_of}
 use Rattle.pywr.specs.Store.{Store}
 use Rattle.pywr.specs.Calls.{AfterBuild, AfterStep}
 use Rattle.store.specs.Reading.{RowAnswered}
@@ -20,13 +20,13 @@ Rises (RowAnswer.Part start end) = start ≤ end
 Rises (RowAnswer.Refused number place) = Unit {0}
 
 -- where a row's part starts in the column list, and its length: 0 and 0 where it is refused
-unfoldable pub partStart : RowAnswer → ℕ
-partStart (RowAnswer.Part start end) = start
-partStart (RowAnswer.Refused number place) = 0
+unfoldable pub part_start : RowAnswer → ℕ
+part_start (RowAnswer.Part start end) = start
+part_start (RowAnswer.Refused number place) = 0
 
-unfoldable pub partLength : RowAnswer → ℕ
-partLength (RowAnswer.Part start end) = end - start
-partLength (RowAnswer.Refused number place) = 0
+unfoldable pub part_length : RowAnswer → ℕ
+part_length (RowAnswer.Part start end) = end - start
+part_length (RowAnswer.Refused number place) = 0
 
 -- number n and place p are those of a build's answer
 pub record BuildCrossed (s : Sentinel) (file : List ℕ) (old : Store) (words : List ℕ) (numbers : List Float) (n p : ℕ) (new : Store) (words' : List ℕ) (numbers' : List Float) : Type 0 where
@@ -46,7 +46,7 @@ pub record StepCrossed (file : List ℕ) (old : Store) (work : List Float) (n p 
 pub record RowCrossed (s : Store) (row n p start size : ℕ) : Type 0 where
   pub answer : RowAnswer
   pub answered : RowAnswered s row answer
-  pub number : n ≡ rowNumberOf answer
-  pub place : p ≡ rowPlaceOf answer
-  pub starts : start ≡ partStart answer
-  pub length : size ≡ partLength answer
+  pub number : n ≡ row_number_of answer
+  pub place : p ≡ row_place_of answer
+  pub starts : start ≡ part_start answer
+  pub length : size ≡ part_length answer

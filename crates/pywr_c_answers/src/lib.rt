@@ -1,7 +1,7 @@
 // How the answers of the calls cross to C and Rust: each as its numbers.
 ghost use Rattle.std.specs.Prelude.{◌≡◌};
-ghost use Rattle.pywr.specs.Answers.{number_of, place_of, rowNumberOf, rowPlaceOf};
-ghost use Rattle.pywr_c_answers.specs.Crossing.{picked, Rises, partStart, partLength};
+ghost use Rattle.pywr.specs.Answers.{number_of, place_of, row_number_of, row_place_of};
+ghost use Rattle.pywr_c_answers.specs.Crossing.{picked, Rises, part_start, part_length};
 
 use pywr::{Answer, RowAnswer, Sentinel};
 
@@ -50,7 +50,7 @@ pub fn refusal_of(answer: Answer) -> Refusal
 
 pub fn part_of(answer: RowAnswer) -> RowPart
     requires { Rises answer }
-    ensures { (result.number ≡ rowNumberOf answer) × (result.place ≡ rowPlaceOf answer) × (result.start ≡ partStart answer) × (result.length ≡ partLength answer) }
+    ensures { (result.number ≡ row_number_of answer) × (result.place ≡ row_place_of answer) × (result.start ≡ part_start answer) × (result.length ≡ part_length answer) }
 {
     match answer {
         RowAnswer::Refused(n, p) => RowPart {

@@ -6,7 +6,7 @@ use native.Mathlib.Omega.{arith}
 use lib.ListN.{length, get_or, take, set, replicate, length-set, length-replicate}
 use lib.Seq.{sets}
 use lib.Ieee.{binary64, of_bits}
-use Rattle.laws.proofs.Sets.{sets-next, take_whole, sets-whole}
+use Rattle.laws.proofs.Sets.{sets_next, take_whole, sets_whole}
 use Rattle.pywr.specs.Numbers.{zero64}
 
 module _ {A : Type 0} where
@@ -25,7 +25,7 @@ module _ {A : Type 0} where
       record {
         whole_length = c.whole_length;
         few = omega arith;
-        run = sets-next d d₀ xs to i v z (omega (arith, c.whole_length)) g c.run;
+        run = sets_next d d₀ xs to i v z (omega (arith, c.whole_length)) g c.run;
         long = length-set d (to + i) v ∙ c.long;
       }
 
@@ -34,9 +34,9 @@ module _ {A : Type 0} where
 
   -- a run that is filled over its whole length
   pub filled : (w : List A) (v : A) → sets w 0 (replicate (length w) v) ≡ replicate (length w) v
-  filled w v = sets-whole w (replicate (length w) v) (length-replicate (length w) v)
+  filled w v = sets_whole w (replicate (length w) v) (length-replicate (length w) v)
 
 -- the literal 0.0
-pub zero-literal : of_bits binary64 0 ≡ zero64
+pub zero_literal : of_bits binary64 0 ≡ zero64
 unfolding of_bits zero64
-zero-literal = refl
+zero_literal = refl

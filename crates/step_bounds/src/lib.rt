@@ -1,21 +1,21 @@
 // Bounds of nodes and of virtual storages, and the interval that they are over the days of a step (node.rs, virtual_storage.rs).
 ghost use Rattle.std.specs.Prelude.{◌≡◌};
-ghost use Rattle.pywr.specs.Interval.{sentinels, intervalOf, storageBounds, virtualBounds};
-ghost use Rattle.pywr.specs.StepIntervals.{isCrossed, isBeyond};
+ghost use Rattle.pywr.specs.Interval.{sentinels, interval_of, storage_bounds, virtual_bounds};
+ghost use Rattle.pywr.specs.StepIntervals.{is_crossed, is_beyond};
 
 use extremes::greater;
 use pywr::{Interval, NodeBounds, Sentinel};
 
 // A storage's available and missing volume.
 pub fn storage_bounds(min: f64, max: f64, volume: f64) -> NodeBounds
-    ensures { result ≡ storageBounds min max volume }
+    ensures { result ≡ storage_bounds min max volume }
 {
     NodeBounds::Volume(volume - min, max - volume)
 }
 
 // A virtual storage's available and missing volume, each at least 0.0.
 pub fn virtual_bounds(min: f64, max: f64, volume: f64) -> NodeBounds
-    ensures { result ≡ virtualBounds min max volume }
+    ensures { result ≡ virtual_bounds min max volume }
 {
     let available = greater(volume - min, 0.0);
     let missing = greater(max - volume, 0.0);
@@ -24,7 +24,7 @@ pub fn virtual_bounds(min: f64, max: f64, volume: f64) -> NodeBounds
 
 // Flows are bounds as they are; a volume is spread over the days.
 pub fn interval_of(days: f64, bounds: NodeBounds) -> Interval
-    ensures { result ≡ intervalOf days bounds }
+    ensures { result ≡ interval_of days bounds }
 {
     match bounds {
         NodeBounds::Flow(least, most) => Interval {
@@ -50,14 +50,14 @@ pub fn sentinels(sentinel: Sentinel) -> Interval
 
 // The lower bound is over the upper.
 pub fn is_crossed(i: Interval) -> bool
-    ensures { result ≡ isCrossed i }
+    ensures { result ≡ is_crossed i }
 {
     i.upper < i.lower
 }
 
 // A bound at or beyond either sentinel.
 pub fn is_beyond(bound: f64, sentinel: Sentinel) -> bool
-    ensures { result ≡ isBeyond sentinel bound }
+    ensures { result ≡ is_beyond sentinel bound }
 {
     (bound <= sentinel.low()) | (sentinel.high() <= bound)
 }

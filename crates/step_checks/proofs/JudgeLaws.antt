@@ -8,109 +8,109 @@ use lib.ListN.{length}
 use lib.Dec.{leb, leb→le}
 use lib.Ieee.{Float}
 use lib.Ieee.Fits.{and_l, and_r}
-use Rattle.layout.specs.Layout.{stepWorkLength}
+use Rattle.layout.specs.Layout.{step_work_length}
 use Rattle.pywr.specs.declared.Answer.{Answer}
 use Rattle.pywr.specs.declared.Answer.TheVariants.{Accepted, Refused}
 use Rattle.pywr.specs.Result.{Result, value, refused, ◌>>=◌, need}
 use Rattle.pywr.specs.Answers.{answer_of}
-use Rattle.pywr.specs.Store.{Store, storeHasRoom, word, nodeCount, aggregateCount, virtualStorageCount, nodesAt, aggregatesAt, virtualStoragesAt, nodeEntry, virtualStorageEntry, shape_of}
-use Rattle.pywr.specs.Misshapen.{wellShaped}
-use Rattle.pywr.specs.Calls.{stepRoom, stepRead, stepIntervals, stepOrdered, stepAnswer}
-use Rattle.laws.proofs.Tests.{of-true}
+use Rattle.pywr.specs.Store.{Store, store_has_room, word, node_count, aggregate_count, virtual_storage_count, nodes_at, aggregates_at, virtual_storages_at, node_entry, virtual_storage_entry, shape_of}
+use Rattle.pywr.specs.Misshapen.{well_shaped}
+use Rattle.pywr.specs.Calls.{step_room, step_read, step_intervals, step_ordered, step_answer}
+use Rattle.laws.proofs.Tests.{of_true}
 use Rattle.pywr.proofs.Represents.{Roomy}
-use Rattle.pywr.proofs.DemandThree.{roomy-parts}
-use Rattle.pywr.proofs.AcceptedLaws.{afterReading, step-answers}
-use Rattle.store_shape.proofs.EntryLaws.{entries-length}
-use Rattle.step_file.specs.Decoded.{fileLength}
-use Rattle.step_file.proofs.DecodedLaws.{accepted-decoded, accepted-length}
+use Rattle.pywr.proofs.DemandThree.{roomy_parts}
+use Rattle.pywr.proofs.AcceptedLaws.{after_reading, step_answers}
+use Rattle.store_shape.proofs.EntryLaws.{entries_length}
+use Rattle.step_file.specs.Decoded.{file_length}
+use Rattle.step_file.proofs.DecodedLaws.{accepted_decoded, accepted_length}
 use Rattle.step_work.specs.WorkRun.{IntervalsHeld}
 use Rattle.store.proofs.Passed.{shaped}
-use Rattle.step_checks.specs.Judged.{read_on, decodedBy, Judged}
+use Rattle.step_checks.specs.Judged.{read_on, decoded_by, Judged}
 
 -- ---- answers and results
 
-pub refused-is : {A : Type 0} (r : Result A) (n p : ℕ) → answer_of r ≡ Refused n p → r ≡ refused n p
+pub refused_is : {A : Type 0} (r : Result A) (n p : ℕ) → answer_of r ≡ Refused n p → r ≡ refused n p
 unfolding answer_of
-refused-is (value x) n p e = let z : ◌≡◌ {A = ℕ} 0 1 = cc in absurd (omega arith)
-refused-is (refused m q) n p e = cc
+refused_is (value x) n p e = let z : ◌≡◌ {A = ℕ} 0 1 = cc in absurd (omega arith)
+refused_is (refused m q) n p e = cc
 
-not-accepted : {n p : ℕ} {X : Type 0} → Refused n p ≡ Accepted → X
-not-accepted e = let z : ◌≡◌ {A = ℕ} 0 1 = cc in absurd (omega arith)
+not_accepted : {n p : ℕ} {X : Type 0} → Refused n p ≡ Accepted → X
+not_accepted e = let z : ◌≡◌ {A = ℕ} 0 1 = cc in absurd (omega arith)
 
 -- a file in order is answered as its intervals are
-ordered-answer : {A B : Type 0} (r : Result A) (f : B) → answer_of (r >>= λ _. value f) ≡ answer_of r
+ordered_answer : {A B : Type 0} (r : Result A) (f : B) → answer_of (r >>= λ _. value f) ≡ answer_of r
 unfolding answer_of ◌>>=◌
-ordered-answer (value x) f = refl
-ordered-answer (refused n p) f = refl
+ordered_answer (value x) f = refl
+ordered_answer (refused n p) f = refl
 
-ordered-value : {A B : Type 0} (r : Result A) (f : B) → answer_of r ≡ Accepted → (r >>= λ _. value f) ≡ value f
+ordered_value : {A B : Type 0} (r : Result A) (f : B) → answer_of r ≡ Accepted → (r >>= λ _. value f) ≡ value f
 unfolding answer_of ◌>>=◌
-ordered-value (value x) f e = refl
-ordered-value (refused n p) f e = not-accepted e
+ordered_value (value x) f e = refl
+ordered_value (refused n p) f e = not_accepted e
 
 -- ---- room
 
-pub room_store : (s : Store) (work : List Float) → stepRoom s work ≡ true → Roomy s
-unfolding stepRoom
-room_store s work e = roomy-parts s (and_l (storeHasRoom s) (leb stepWorkLength (length work)) (of-true (storeHasRoom s && leb stepWorkLength (length work)) e))
+pub room_store : (s : Store) (work : List Float) → step_room s work ≡ true → Roomy s
+unfolding step_room
+room_store s work e = roomy_parts s (and_l (store_has_room s) (leb step_work_length (length work)) (of_true (store_has_room s && leb step_work_length (length work)) e))
 
-pub room-work : (s : Store) (work : List Float) → stepRoom s work ≡ true → stepWorkLength ≤ length work
-unfolding stepRoom
-room-work s work e = leb→le stepWorkLength (length work) (and_r (storeHasRoom s) (leb stepWorkLength (length work)) (of-true (storeHasRoom s && leb stepWorkLength (length work)) e))
+pub room_work : (s : Store) (work : List Float) → step_room s work ≡ true → step_work_length ≤ length work
+unfolding step_room
+room_work s work e = leb→le step_work_length (length work) (and_r (store_has_room s) (leb step_work_length (length work)) (of_true (store_has_room s && leb step_work_length (length work)) e))
 
 module _ (s : Store) (file : List ℕ) (work : List Float) where
   -- 17
-  misshapen : wellShaped s ≡ false → (lent : List Float) → stepRoom s lent ≡ true → stepAnswer s file lent ≡ refused 17 0
-  unfolding stepAnswer stepRead need ◌>>=◌
+  misshapen : well_shaped s ≡ false → (lent : List Float) → step_room s lent ≡ true → step_answer s file lent ≡ refused 17 0
+  unfolding step_answer step_read need ◌>>=◌
   misshapen e lent room = rw (room, e)
 
-  pub judged-shape : wellShaped s ≡ false → Judged s file (Refused 17 0) work
+  pub judged_shape : well_shaped s ≡ false → Judged s file (Refused 17 0) work
   unfolding answer_of
-  judged-shape e = record { answer = λ lent room. sym (ap answer_of (misshapen e lent room)); read = λ lent room q. not-accepted q; ready = λ q. not-accepted q }
+  judged_shape e = record { answer = λ lent room. sym (ap answer_of (misshapen e lent room)); read = λ lent room q. not_accepted q; ready = λ q. not_accepted q }
 
-  module _ (ok : wellShaped s ≡ true) where
-    answers : (lent : List Float) → stepRoom s lent ≡ true
-        → stepAnswer s file lent ≡ afterReading (stepOrdered s) (read_on s file)
-    unfolding stepRoom
+  module _ (ok : well_shaped s ≡ true) where
+    answers : (lent : List Float) → step_room s lent ≡ true
+        → step_answer s file lent ≡ after_reading (step_ordered s) (read_on s file)
+    unfolding step_room
     answers lent room =
-        step-answers s file lent (and_l (storeHasRoom s) (leb stepWorkLength (length lent)) (of-true (storeHasRoom s && leb stepWorkLength (length lent)) room))
-        (room-work s lent room) (of-true (wellShaped s) ok)
+        step_answers s file lent (and_l (store_has_room s) (leb step_work_length (length lent)) (of_true (store_has_room s && leb step_work_length (length lent)) room))
+        (room_work s lent room) (of_true (well_shaped s) ok)
 
     -- 12, 13
-    pub judged-file : {n p : ℕ} → Refused n p ≡ answer_of (read_on s file) → Judged s file (Refused n p) work
-    unfolding answer_of afterReading ◌>>=◌
-    judged-file {n} {p} e =
+    pub judged_file : {n p : ℕ} → Refused n p ≡ answer_of (read_on s file) → Judged s file (Refused n p) work
+    unfolding answer_of after_reading ◌>>=◌
+    judged_file {n} {p} e =
         record {
-          answer = λ lent room. sym (ap answer_of (answers lent room ∙ ap (afterReading (stepOrdered s)) (refused-is (read_on s file) n p (sym e))));
-          read = λ lent room q. not-accepted q;
-          ready = λ q. not-accepted q;
+          answer = λ lent room. sym (ap answer_of (answers lent room ∙ ap (after_reading (step_ordered s)) (refused_is (read_on s file) n p (sym e))));
+          read = λ lent room q. not_accepted q;
+          ready = λ q. not_accepted q;
         }
 
     module _ (e : Accepted ≡ answer_of (read_on s file)) where
-      read_as : read_on s file ≡ value (decodedBy s file)
-      read_as = accepted-decoded (shape_of s).nodes (length (shape_of s).aggregates) (length (shape_of s).virtualStorages) file (sym e)
+      read_as : read_on s file ≡ value (decoded_by s file)
+      read_as = accepted_decoded (shape_of s).nodes (length (shape_of s).aggregates) (length (shape_of s).virtual_storages) file (sym e)
 
-      judged : (lent : List Float) → stepRoom s lent ≡ true → stepAnswer s file lent ≡ (stepOrdered s (decodedBy s file) >>= λ _. value (decodedBy s file))
-      unfolding afterReading ◌>>=◌
-      judged lent room = answers lent room ∙ ap (afterReading (stepOrdered s)) read_as
+      judged : (lent : List Float) → step_room s lent ≡ true → step_answer s file lent ≡ (step_ordered s (decoded_by s file) >>= λ _. value (decoded_by s file))
+      unfolding after_reading ◌>>=◌
+      judged lent room = answers lent room ∙ ap (after_reading (step_ordered s)) read_as
 
-      pub long : fileLength (nodeCount s) (aggregateCount s) (virtualStorageCount s) ≤ length file
+      pub long : file_length (node_count s) (aggregate_count s) (virtual_storage_count s) ≤ length file
       unfolding shape_of
       long =
-          let l = accepted-length (shape_of s).nodes (length (shape_of s).aggregates) (length (shape_of s).virtualStorages) file (sym e) in
-          let n = entries-length (nodeEntry s) 2 nodesAt (nodeCount s) in
-          let a = entries-length (word s) 1 aggregatesAt (aggregateCount s) in
-          let v = entries-length (virtualStorageEntry s) 6 virtualStoragesAt (virtualStorageCount s) in
+          let l = accepted_length (shape_of s).nodes (length (shape_of s).aggregates) (length (shape_of s).virtual_storages) file (sym e) in
+          let n = entries_length (node_entry s) 2 nodes_at (node_count s) in
+          let a = entries_length (word s) 1 aggregates_at (aggregate_count s) in
+          let v = entries_length (virtual_storage_entry s) 6 virtual_storages_at (virtual_storage_count s) in
           omega (arith, l, n, a, v)
 
       -- 14 or 21, or accepted
-      pub judged-intervals : (r : Answer) → r ≡ answer_of (stepOrdered s (decodedBy s file))
-          → (r ≡ Accepted → IntervalsHeld (nodeCount s) (aggregateCount s) (virtualStorageCount s) work (stepIntervals s (decodedBy s file)))
+      pub judged_intervals : (r : Answer) → r ≡ answer_of (step_ordered s (decoded_by s file))
+          → (r ≡ Accepted → IntervalsHeld (node_count s) (aggregate_count s) (virtual_storage_count s) work (step_intervals s (decoded_by s file)))
           → Judged s file r work
-      judged-intervals r a h =
-          let i = stepOrdered s (decodedBy s file) in
+      judged_intervals r a h =
+          let i = step_ordered s (decoded_by s file) in
           record {
-            answer = λ lent room. a ∙ sym (ap answer_of (judged lent room) ∙ ordered-answer i (decodedBy s file));
-            read = λ lent room q. judged lent room ∙ ordered-value i (decodedBy s file) (sym a ∙ q);
+            answer = λ lent room. a ∙ sym (ap answer_of (judged lent room) ∙ ordered_answer i (decoded_by s file));
+            read = λ lent room q. judged lent room ∙ ordered_value i (decoded_by s file) (sym a ∙ q);
             ready = λ q. record { shaped = ok; long = long; held = h q };
           }

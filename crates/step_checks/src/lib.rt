@@ -1,8 +1,8 @@
 // The checks of a step: the room of the runs lent (16), then the store's shape and the file (17, 12 and 13, 14 and 21).
 ghost use Rattle.std.specs.Prelude.{◌≡◌, ◌≤◌, List, length, Float};
-ghost use Rattle.layout.specs.Layout.{elementCeiling, rowStartsLength, shapeLength, stepWorkLength};
+ghost use Rattle.layout.specs.Layout.{element_ceiling, row_starts_length, shape_length, step_work_length};
 ghost use Rattle.pywr.specs.Store.{Store};
-ghost use Rattle.pywr.specs.Calls.{stepRoom};
+ghost use Rattle.pywr.specs.Calls.{step_room};
 ghost use Rattle.store.specs.Reading.{Lengths};
 ghost use Rattle.step_checks.specs.Judged.{Judged};
 
@@ -23,7 +23,7 @@ pub fn has_room(
     work: usize,
 ) -> bool
     ensures { (s : Store) (x : List Float) → Lengths s col_lower col_upper col_obj_coef row_lower row_upper elements columns row_starts shape
-        → length x ≡ work → result ≡ stepRoom s x }
+        → length x ≡ work → result ≡ step_room s x }
 {
     store::has_room(
         col_lower,
@@ -47,8 +47,8 @@ pub fn judge(
     shape: &[u16],
     work: &mut [f64],
 ) -> Answer
-    requires { (elementCeiling ≤ length columns.now) × (rowStartsLength ≤ length row_starts.now) × (shapeLength ≤ length shape.now) × (stepWorkLength ≤ length work.old) }
-    ensures { (s : Store) → s.columns ≡ columns.now → s.rowStarts ≡ row_starts.now → s.shape ≡ shape.now
+    requires { (element_ceiling ≤ length columns.now) × (row_starts_length ≤ length row_starts.now) × (shape_length ≤ length shape.now) × (step_work_length ≤ length work.old) }
+    ensures { (s : Store) → s.columns ≡ columns.now → s.row_starts ≡ row_starts.now → s.shape ≡ shape.now
         → Judged s file.now result work.new }
 {
     if !store::well_shaped(columns, row_starts, shape) {

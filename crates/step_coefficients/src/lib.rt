@@ -1,7 +1,7 @@
 // The coefficients of a step: one element of a row set or lowered (apply_updated_coefficients of builder.rs).
 ghost use Rattle.std.specs.Prelude.{◌≡◌, true, ◌+◌, ◌<◌, ◌≤◌, length, get_or};
 ghost use Rattle.std.proofs.Math.Seq.{slice};
-ghost use Rattle.layout.specs.Layout.{elementCeiling};
+ghost use Rattle.layout.specs.Layout.{element_ceiling};
 ghost use Rattle.pywr.specs.Numbers.{lesser};
 ghost use Rattle.pywr.specs.Network.{listed};
 ghost use Rattle.step_coefficients.specs.RowCoefficients.{CoefficientChanged};
@@ -42,7 +42,7 @@ pub fn set_coefficient(
     column: ColumnIndex,
     value: f64,
 )
-    requires { (row + 1 < length row_starts.now) × (get_or row_starts.now (row + 1) 0 ≤ elementCeiling) × (elementCeiling ≤ length columns.now) × (elementCeiling ≤ length elements.old)
+    requires { (row + 1 < length row_starts.now) × (get_or row_starts.now (row + 1) 0 ≤ element_ceiling) × (element_ceiling ≤ length columns.now) × (element_ceiling ≤ length elements.old)
         × (listed column.0 (slice (get_or row_starts.now row 0) (get_or row_starts.now (row + 1) 0) columns.now) ≡ true) }
     ensures { CoefficientChanged columns.now row_starts.now row column.0 (λ held. value) elements.old elements.new }
 {
@@ -59,7 +59,7 @@ pub fn lower_coefficient(
     column: ColumnIndex,
     value: f64,
 )
-    requires { (row + 1 < length row_starts.now) × (get_or row_starts.now (row + 1) 0 ≤ elementCeiling) × (elementCeiling ≤ length columns.now) × (elementCeiling ≤ length elements.old)
+    requires { (row + 1 < length row_starts.now) × (get_or row_starts.now (row + 1) 0 ≤ element_ceiling) × (element_ceiling ≤ length columns.now) × (element_ceiling ≤ length elements.old)
         × (listed column.0 (slice (get_or row_starts.now row 0) (get_or row_starts.now (row + 1) 0) columns.now) ≡ true) }
     ensures { CoefficientChanged columns.now row_starts.now row column.0 (λ held. lesser held value) elements.old elements.new }
 {

@@ -1,12 +1,12 @@
 // The costs of a step: each edge's cost added into its column, in flow order (update_edge_objectives of builder.rs, cost of edge.rs and node.rs).
 ghost use Rattle.std.specs.Prelude.{◌≡◌, true, ℕ, ◌+◌, ◌≤◌, ◌<◌, length, set};
 ghost use Rattle.std.proofs.lemmas.List.Edits.{sets};
-ghost use Rattle.layout.specs.Layout.{nodeCeiling, edgeCeiling, setCeiling, columnCeiling, shapeLength, edges_at, edgeWidth, nodesIn, edgesIn, edgeColumnsIn, setsIn};
-ghost use Rattle.layout.specs.Layout.{flowOrderAt, flowOrderWidth, uppersAt, stepWorkLength};
-ghost use Rattle.pywr.specs.Store.{Store, edge_count, columnCount, shape_of};
-ghost use Rattle.pywr.specs.Misshapen.{edgeFits, flowOrderFits, allEntries};
-ghost use Rattle.pywr.specs.Costs.{outgoingCost, incomingCost, stepCosts};
-ghost use Rattle.step_file.specs.Decoded.{decoded, aggregateStepsAt};
+ghost use Rattle.layout.specs.Layout.{node_ceiling, edge_ceiling, set_ceiling, column_ceiling, shape_length, edges_at, edge_width, nodes_in, edges_in, edge_columns_in, sets_in};
+ghost use Rattle.layout.specs.Layout.{flow_order_at, flow_order_width, uppers_at, step_work_length};
+ghost use Rattle.pywr.specs.Store.{Store, edge_count, column_count, shape_of};
+ghost use Rattle.pywr.specs.Misshapen.{edge_fits, flow_order_fits, all_entries};
+ghost use Rattle.pywr.specs.Costs.{outgoing_cost, incoming_cost, step_costs};
+ghost use Rattle.step_file.specs.Decoded.{decoded, aggregate_steps_at};
 ghost use Rattle.step_costs.specs.NodeCosts.{CostsAreNumbers, NodeCosts};
 
 use layout::{
@@ -18,7 +18,7 @@ use widths::wide16;
 
 // The cost that a node gives to its edges out.
 fn outgoing_cost(kind: u16, cost: f64) -> f64
-    ensures { result ≡ outgoingCost kind cost }
+    ensures { result ≡ outgoing_cost kind cost }
 {
     if kind == 2 {
         return cost / 2.0;
@@ -31,8 +31,8 @@ fn outgoing_cost(kind: u16, cost: f64) -> f64
 
 // Writes the costs that node k gives to its edges out and in. A link's half is divided once, and no other cost is.
 fn write_costs(kind: u16, cost: f64, k: usize, work: &mut [f64])
-    requires { (stepWorkLength ≤ length work.old) × (k < uppersAt) }
-    ensures { work.new ≡ set (set work.old k (outgoingCost kind cost)) (uppersAt + k) (incomingCost kind cost) }
+    requires { (step_work_length ≤ length work.old) × (k < uppers_at) }
+    ensures { work.new ≡ set (set work.old k (outgoing_cost kind cost)) (uppers_at + k) (incoming_cost kind cost) }
 {
     if kind == 2 {
         let half = cost / 2.0;
@@ -47,8 +47,8 @@ fn write_costs(kind: u16, cost: f64, k: usize, work: &mut [f64])
 // Writes the table of the nodes' costs into the work run: at k what node k gives to its edges out, at UPPERS_AT + k what it gives to its edges in.
 // The file's costs were tested when it was read, so their bits are not tested for a NaN again.
 fn write_node_costs(file: &[u8], shape: &[u16], work: &mut [f64])
-    requires { (shapeLength ≤ length shape.now) × (stepWorkLength ≤ length work.old) × (nodesIn shape.now ≤ nodeCeiling)
-        × (aggregateStepsAt (nodesIn shape.now) ≤ length file.now) × CostsAreNumbers file.now shape.now }
+    requires { (shape_length ≤ length shape.now) × (step_work_length ≤ length work.old) × (nodes_in shape.now ≤ node_ceiling)
+        × (aggregate_steps_at (nodes_in shape.now) ≤ length file.now) × CostsAreNumbers file.now shape.now }
     ensures { NodeCosts file.now shape.now work.new }
 {
     let nodes = wide16(shape[NODE_COUNT_AT]);
@@ -69,15 +69,15 @@ pub fn update_edge_objectives(
     work: &mut [f64],
     col_obj_coef: &mut [f64],
 )
-    requires { (shapeLength ≤ length shape.now) × (columnCeiling ≤ length col_obj_coef.old) × (nodesIn shape.now ≤ nodeCeiling) × (edgesIn shape.now ≤ edgeCeiling)
-        × (edgeColumnsIn shape.now ≤ edgeCeiling) × (setsIn shape.now ≤ setCeiling)
-        × ((s : Store) → s.shape ≡ shape.now → allEntries (edgeFits s) edgeWidth edges_at (edge_count s) ≡ true)
-        × ((s : Store) → s.shape ≡ shape.now → allEntries (flowOrderFits s) flowOrderWidth flowOrderAt (edge_count s) ≡ true)
-        × (aggregateStepsAt (nodesIn shape.now) ≤ length file.now) × CostsAreNumbers file.now shape.now × (stepWorkLength ≤ length work.old) }
+    requires { (shape_length ≤ length shape.now) × (column_ceiling ≤ length col_obj_coef.old) × (nodes_in shape.now ≤ node_ceiling) × (edges_in shape.now ≤ edge_ceiling)
+        × (edge_columns_in shape.now ≤ edge_ceiling) × (sets_in shape.now ≤ set_ceiling)
+        × ((s : Store) → s.shape ≡ shape.now → all_entries (edge_fits s) edge_width edges_at (edge_count s) ≡ true)
+        × ((s : Store) → s.shape ≡ shape.now → all_entries (flow_order_fits s) flow_order_width flow_order_at (edge_count s) ≡ true)
+        × (aggregate_steps_at (nodes_in shape.now) ≤ length file.now) × CostsAreNumbers file.now shape.now × (step_work_length ≤ length work.old) }
     ensures { (s : Store) (a v : ℕ) → s.shape ≡ shape.now
         → col_obj_coef.new
         ≡ sets col_obj_coef.old 0
-        (stepCosts (shape_of s) (columnCount s) (decoded (shape_of s).nodes a v file.now).nodes) }
+        (step_costs (shape_of s) (column_count s) (decoded (shape_of s).nodes a v file.now).nodes) }
 {
     write_node_costs(file, shape, work);
     let edges = wide16(shape[EDGE_COUNT_AT]);

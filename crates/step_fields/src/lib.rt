@@ -1,10 +1,10 @@
 // The fields of a step file, each read at its place; the offsets are those of step_record.
 ghost use Rattle.std.specs.Prelude.{◌≡◌, ◌+◌, ◌≤◌, length};
-ghost use Rattle.layout.specs.Layout.{nodeCeiling, aggregateCeiling, virtualStorageCeiling};
+ghost use Rattle.layout.specs.Layout.{node_ceiling, aggregate_ceiling, virtual_storage_ceiling};
 ghost use Rattle.pywr.specs.Bytes.{byte};
-ghost use Rattle.step_record.specs.Check.{dateLength, monthOffset, dayOffset, daysOffset, nodeStepLength, nodeCostOffset, nodeMinOffset, nodeMaxOffset, nodeVolumeOffset};
-ghost use Rattle.step_record.specs.Check.{aggregateStepLength, aggregateLowerOffset, aggregateUpperOffset, virtualStorageStepLength, virtualMinOffset, virtualMaxOffset, virtualVolumeOffset};
-ghost use Rattle.step_file.specs.Decoded.{f64At, nodeStepPlace, aggregateStepPlace, virtualStorageStepPlace};
+ghost use Rattle.step_record.specs.Check.{date_length, month_offset, day_offset, days_offset, node_step_length, node_cost_offset, node_min_offset, node_max_offset, node_volume_offset};
+ghost use Rattle.step_record.specs.Check.{aggregate_step_length, aggregate_lower_offset, aggregate_upper_offset, virtual_storage_step_length, virtual_min_offset, virtual_max_offset, virtual_volume_offset};
+ghost use Rattle.step_file.specs.Decoded.{f64_at, node_step_place, aggregate_step_place, virtual_storage_step_place};
 
 use fields::f64_at;
 use pywr::NodeIndex;
@@ -17,54 +17,54 @@ use step_record::{
 
 // The date.
 pub fn month(file: &[u8]) -> u16
-    requires { daysOffset ≤ length file.now }
-    ensures { result ≡ byte file.now monthOffset }
+    requires { days_offset ≤ length file.now }
+    ensures { result ≡ byte file.now month_offset }
 {
     widths::byte_to_u16(file[MONTH_OFFSET])
 }
 
 pub fn day(file: &[u8]) -> u16
-    requires { daysOffset ≤ length file.now }
-    ensures { result ≡ byte file.now dayOffset }
+    requires { days_offset ≤ length file.now }
+    ensures { result ≡ byte file.now day_offset }
 {
     widths::byte_to_u16(file[DAY_OFFSET])
 }
 
 pub fn days(file: &[u8]) -> f64
-    requires { dateLength ≤ length file.now }
-    ensures { result ≡ f64At file.now daysOffset }
+    requires { date_length ≤ length file.now }
+    ensures { result ≡ f64_at file.now days_offset }
 {
     f64_at(file, DAYS_OFFSET)
 }
 
 // The record of a node.
 pub fn node_cost(file: &[u8], node: NodeIndex) -> f64
-    requires { nodeStepPlace node.0 + nodeStepLength ≤ length file.now }
-    ensures { result ≡ f64At file.now (nodeStepPlace node.0 + nodeCostOffset) }
+    requires { node_step_place node.0 + node_step_length ≤ length file.now }
+    ensures { result ≡ f64_at file.now (node_step_place node.0 + node_cost_offset) }
 {
     let k = widths::wide16(node.0);
     f64_at(file, DATE_LENGTH + NODE_STEP_LENGTH * k + NODE_COST_OFFSET)
 }
 
 pub fn node_min(file: &[u8], node: NodeIndex) -> f64
-    requires { nodeStepPlace node.0 + nodeStepLength ≤ length file.now }
-    ensures { result ≡ f64At file.now (nodeStepPlace node.0 + nodeMinOffset) }
+    requires { node_step_place node.0 + node_step_length ≤ length file.now }
+    ensures { result ≡ f64_at file.now (node_step_place node.0 + node_min_offset) }
 {
     let k = widths::wide16(node.0);
     f64_at(file, DATE_LENGTH + NODE_STEP_LENGTH * k + NODE_MIN_OFFSET)
 }
 
 pub fn node_max(file: &[u8], node: NodeIndex) -> f64
-    requires { nodeStepPlace node.0 + nodeStepLength ≤ length file.now }
-    ensures { result ≡ f64At file.now (nodeStepPlace node.0 + nodeMaxOffset) }
+    requires { node_step_place node.0 + node_step_length ≤ length file.now }
+    ensures { result ≡ f64_at file.now (node_step_place node.0 + node_max_offset) }
 {
     let k = widths::wide16(node.0);
     f64_at(file, DATE_LENGTH + NODE_STEP_LENGTH * k + NODE_MAX_OFFSET)
 }
 
 pub fn node_volume(file: &[u8], node: NodeIndex) -> f64
-    requires { nodeStepPlace node.0 + nodeStepLength ≤ length file.now }
-    ensures { result ≡ f64At file.now (nodeStepPlace node.0 + nodeVolumeOffset) }
+    requires { node_step_place node.0 + node_step_length ≤ length file.now }
+    ensures { result ≡ f64_at file.now (node_step_place node.0 + node_volume_offset) }
 {
     let k = widths::wide16(node.0);
     f64_at(
@@ -75,8 +75,8 @@ pub fn node_volume(file: &[u8], node: NodeIndex) -> f64
 
 // The record of aggregate k, behind those of all nodes.
 pub fn aggregate_lower(file: &[u8], nodes: usize, k: usize) -> f64
-    requires { aggregateStepPlace nodes k + aggregateStepLength ≤ length file.now }
-    ensures { result ≡ f64At file.now (aggregateStepPlace nodes k + aggregateLowerOffset) }
+    requires { aggregate_step_place nodes k + aggregate_step_length ≤ length file.now }
+    ensures { result ≡ f64_at file.now (aggregate_step_place nodes k + aggregate_lower_offset) }
 {
     f64_at(
         file,
@@ -85,8 +85,8 @@ pub fn aggregate_lower(file: &[u8], nodes: usize, k: usize) -> f64
 }
 
 pub fn aggregate_upper(file: &[u8], nodes: usize, k: usize) -> f64
-    requires { aggregateStepPlace nodes k + aggregateStepLength ≤ length file.now }
-    ensures { result ≡ f64At file.now (aggregateStepPlace nodes k + aggregateUpperOffset) }
+    requires { aggregate_step_place nodes k + aggregate_step_length ≤ length file.now }
+    ensures { result ≡ f64_at file.now (aggregate_step_place nodes k + aggregate_upper_offset) }
 {
     f64_at(
         file,
@@ -96,8 +96,8 @@ pub fn aggregate_upper(file: &[u8], nodes: usize, k: usize) -> f64
 
 // Where the record of virtual storage k stands, behind those of all nodes and aggregates.
 pub fn virtual_storage_at(nodes: usize, aggregates: usize, k: usize) -> usize
-    requires { (nodes ≤ nodeCeiling) × (aggregates ≤ aggregateCeiling) × (k ≤ virtualStorageCeiling) }
-    ensures { result ≡ virtualStorageStepPlace nodes aggregates k }
+    requires { (nodes ≤ node_ceiling) × (aggregates ≤ aggregate_ceiling) × (k ≤ virtual_storage_ceiling) }
+    ensures { result ≡ virtual_storage_step_place nodes aggregates k }
 {
     DATE_LENGTH
         + NODE_STEP_LENGTH * nodes
@@ -107,22 +107,22 @@ pub fn virtual_storage_at(nodes: usize, aggregates: usize, k: usize) -> usize
 
 // The record of the virtual storage that stands at `at`.
 pub fn virtual_min(file: &[u8], at: usize) -> f64
-    requires { at + virtualStorageStepLength ≤ length file.now }
-    ensures { result ≡ f64At file.now (at + virtualMinOffset) }
+    requires { at + virtual_storage_step_length ≤ length file.now }
+    ensures { result ≡ f64_at file.now (at + virtual_min_offset) }
 {
     f64_at(file, at + VIRTUAL_MIN_OFFSET)
 }
 
 pub fn virtual_max(file: &[u8], at: usize) -> f64
-    requires { at + virtualStorageStepLength ≤ length file.now }
-    ensures { result ≡ f64At file.now (at + virtualMaxOffset) }
+    requires { at + virtual_storage_step_length ≤ length file.now }
+    ensures { result ≡ f64_at file.now (at + virtual_max_offset) }
 {
     f64_at(file, at + VIRTUAL_MAX_OFFSET)
 }
 
 pub fn virtual_volume(file: &[u8], at: usize) -> f64
-    requires { at + virtualStorageStepLength ≤ length file.now }
-    ensures { result ≡ f64At file.now (at + virtualVolumeOffset) }
+    requires { at + virtual_storage_step_length ≤ length file.now }
+    ensures { result ≡ f64_at file.now (at + virtual_volume_offset) }
 {
     f64_at(file, at + VIRTUAL_VOLUME_OFFSET)
 }

@@ -12,54 +12,54 @@ use Rattle.pywr.specs.Answers.{answer_of}
 use Rattle.pywr.specs.Result.{value}
 use Rattle.pywr.specs.Programme.{NodeShape}
 use Rattle.pywr.specs.StepFile.{read_step}
-use Rattle.step_record.specs.Check.{checkDate, checkNode, checkAggregate, checkVirtualStorageStep}
-use Rattle.step_record.proofs.CheckLaws.{test-passed, then-passed, node-within, aggregate-within, virtual-storage-within, date-within}
-use Rattle.step_file.specs.Decoded.{aggregateStepsAt, virtualStorageStepsAt, fileLength, decoded}
-use Rattle.step_file.specs.CheckStep.{checkNodes, checkRecords, checkEnd, checkFile}
-use Rattle.step_file.proofs.ReaderLaws.{asResult, answer_back, step-law}
+use Rattle.step_record.specs.Check.{check_date, check_node, check_aggregate, check_virtual_storage_step}
+use Rattle.step_record.proofs.CheckLaws.{test_passed, then_passed, node_within, aggregate_within, virtual_storage_within, date_within}
+use Rattle.step_file.specs.Decoded.{aggregate_steps_at, virtual_storage_steps_at, file_length, decoded}
+use Rattle.step_file.specs.CheckStep.{check_nodes, check_records, check_end, check_file}
+use Rattle.step_file.proofs.ReaderLaws.{as_result, answer_back, step_law}
 
 -- ---- the records that passed lie within the file
 
-nodes-within : (file : List ℕ) (ns : List NodeShape) (at : ℕ) → at ≤ length file → checkNodes file ns at ≡ Accepted → at + 34 * length ns ≤ length file
-unfolding checkNodes
-nodes-within file [] at h e = omega arith
-nodes-within file (n ∷ ns) at h e =
-    let t = then-passed (checkNode file n at) (checkNodes file ns (at + 34)) e in
-    let q : at + 34 + 34 * length ns ≤ length file = nodes-within file ns (at + 34) (node-within file n at t.0) t.1 in
+nodes_within : (file : List ℕ) (ns : List NodeShape) (at : ℕ) → at ≤ length file → check_nodes file ns at ≡ Accepted → at + 34 * length ns ≤ length file
+unfolding check_nodes
+nodes_within file [] at h e = omega arith
+nodes_within file (n ∷ ns) at h e =
+    let t = then_passed (check_node file n at) (check_nodes file ns (at + 34)) e in
+    let q : at + 34 + 34 * length ns ≤ length file = nodes_within file ns (at + 34) (node_within file n at t.0) t.1 in
     let g : at + 34 * suc (length ns) ≤ length file = omega arith in g
 
-records-within : (file : List ℕ) (check : ℕ → Answer) (size : ℕ) → ((at : ℕ) → check at ≡ Accepted → at + size ≤ length file)
-    → (count at : ℕ) → at ≤ length file → checkRecords check size count at ≡ Accepted → at + size * count ≤ length file
-unfolding checkRecords
-records-within file check size one zero at h e = omega arith
-records-within file check size one (suc count) at h e =
-    let t = then-passed (check at) (checkRecords check size count (at + size)) e in
-    let q : at + size + size * count ≤ length file = records-within file check size one count (at + size) (one at t.0) t.1 in
+records_within : (file : List ℕ) (check : ℕ → Answer) (size : ℕ) → ((at : ℕ) → check at ≡ Accepted → at + size ≤ length file)
+    → (count at : ℕ) → at ≤ length file → check_records check size count at ≡ Accepted → at + size * count ≤ length file
+unfolding check_records
+records_within file check size one zero at h e = omega arith
+records_within file check size one (suc count) at h e =
+    let t = then_passed (check at) (check_records check size count (at + size)) e in
+    let q : at + size + size * count ≤ length file = records_within file check size one count (at + size) (one at t.0) t.1 in
     let g : at + size * suc count ≤ length file = omega arith in g
 
-checked-length : (shapes : List NodeShape) (aggregates virtualStorages : ℕ) (file : List ℕ) → checkFile file shapes (length shapes) aggregates virtualStorages ≡ Accepted
-    → length file ≡ fileLength (length shapes) aggregates virtualStorages
-unfolding checkFile checkEnd
-checked-length shapes aggregates virtualStorages file e =
+checked_length : (shapes : List NodeShape) (aggregates virtual_storages : ℕ) (file : List ℕ) → check_file file shapes (length shapes) aggregates virtual_storages ≡ Accepted
+    → length file ≡ file_length (length shapes) aggregates virtual_storages
+unfolding check_file check_end
+checked_length shapes aggregates virtual_storages file e =
     let n : ℕ = length shapes in
-    let a = then-passed (checkDate file) _ e in
-    let b = then-passed (checkNodes file shapes 12) _ a.1 in
-    let c = then-passed (checkRecords (checkAggregate file) 18 aggregates (aggregateStepsAt n)) _ b.1 in
-    let d = then-passed (checkRecords (checkVirtualStorageStep file) 26 virtualStorages (virtualStorageStepsAt n aggregates)) _ c.1 in
-    let most : length file ≤ fileLength n aggregates virtualStorages = leb-true _ _ (test-passed (leb (length file) (fileLength n aggregates virtualStorages)) Accepted 12 _ d.1).0 in
-    let nodes : aggregateStepsAt n ≤ length file = nodes-within file shapes 12 (date-within file a.0) b.0 in
-    let groups : virtualStorageStepsAt n aggregates ≤ length file = records-within file (checkAggregate file) 18 (aggregate-within file) aggregates (aggregateStepsAt n) nodes c.0 in
-    let stores : fileLength n aggregates virtualStorages ≤ length file = records-within file (checkVirtualStorageStep file) 26 (virtual-storage-within file)
-    virtualStorages (virtualStorageStepsAt n aggregates) groups d.0 in
+    let a = then_passed (check_date file) _ e in
+    let b = then_passed (check_nodes file shapes 12) _ a.1 in
+    let c = then_passed (check_records (check_aggregate file) 18 aggregates (aggregate_steps_at n)) _ b.1 in
+    let d = then_passed (check_records (check_virtual_storage_step file) 26 virtual_storages (virtual_storage_steps_at n aggregates)) _ c.1 in
+    let most : length file ≤ file_length n aggregates virtual_storages = leb-true _ _ (test_passed (leb (length file) (file_length n aggregates virtual_storages)) Accepted 12 _ d.1).0 in
+    let nodes : aggregate_steps_at n ≤ length file = nodes_within file shapes 12 (date_within file a.0) b.0 in
+    let groups : virtual_storage_steps_at n aggregates ≤ length file = records_within file (check_aggregate file) 18 (aggregate_within file) aggregates (aggregate_steps_at n) nodes c.0 in
+    let stores : file_length n aggregates virtual_storages ≤ length file = records_within file (check_virtual_storage_step file) 26 (virtual_storage_within file)
+    virtual_storages (virtual_storage_steps_at n aggregates) groups d.0 in
     omega arith
 
-module _ (shapes : List NodeShape) (aggregates virtualStorages : ℕ) (file : List ℕ) (e : answer_of (read_step shapes aggregates virtualStorages file) ≡ Accepted) where
-  accepted-check : checkFile file shapes (length shapes) aggregates virtualStorages ≡ Accepted
-  accepted-check = sym (ap answer_of (step-law shapes aggregates virtualStorages file) ∙ answer_back _ _) ∙ e
+module _ (shapes : List NodeShape) (aggregates virtual_storages : ℕ) (file : List ℕ) (e : answer_of (read_step shapes aggregates virtual_storages file) ≡ Accepted) where
+  accepted_check : check_file file shapes (length shapes) aggregates virtual_storages ≡ Accepted
+  accepted_check = sym (ap answer_of (step_law shapes aggregates virtual_storages file) ∙ answer_back _ _) ∙ e
 
-  pub accepted-decoded : read_step shapes aggregates virtualStorages file ≡ value (decoded shapes aggregates virtualStorages file)
-  unfolding asResult
-  accepted-decoded = step-law shapes aggregates virtualStorages file ∙ ap (asResult (decoded shapes aggregates virtualStorages file)) accepted-check
+  pub accepted_decoded : read_step shapes aggregates virtual_storages file ≡ value (decoded shapes aggregates virtual_storages file)
+  unfolding as_result
+  accepted_decoded = step_law shapes aggregates virtual_storages file ∙ ap (as_result (decoded shapes aggregates virtual_storages file)) accepted_check
 
-  pub accepted-length : length file ≡ fileLength (length shapes) aggregates virtualStorages
-  accepted-length = checked-length shapes aggregates virtualStorages file accepted-check
+  pub accepted_length : length file ≡ file_length (length shapes) aggregates virtual_storages
+  accepted_length = checked_length shapes aggregates virtual_storages file accepted_check

@@ -3,27 +3,27 @@ use Rattle.std.specs.Prelude.{ℕ, zero, suc, ◌+◌, List, [], ◌∷◌, cond
 use Rattle.pywr.specs.declared.Answer.{Answer}
 use Rattle.pywr.specs.declared.Answer.TheVariants.{Accepted, Refused}
 use Rattle.pywr.specs.Programme.{NodeShape}
-use Rattle.step_record.specs.Check.{answerThen, checkDate, checkNode, checkAggregate, checkVirtualStorageStep, dateLength, nodeStepLength, aggregateStepLength, virtualStorageStepLength}
-use Rattle.step_file.specs.Decoded.{aggregateStepsAt, virtualStorageStepsAt, fileLength}
+use Rattle.step_record.specs.Check.{answer_then, check_date, check_node, check_aggregate, check_virtual_storage_step, date_length, node_step_length, aggregate_step_length, virtual_storage_step_length}
+use Rattle.step_file.specs.Decoded.{aggregate_steps_at, virtual_storage_steps_at, file_length}
 
-unfoldable pub checkNodes : List ℕ → List NodeShape → ℕ → Answer
-checkNodes file [] at = Accepted
-checkNodes file (n ∷ ns) at = answerThen (checkNode file n at) (checkNodes file ns (at + nodeStepLength))
+unfoldable pub check_nodes : List ℕ → List NodeShape → ℕ → Answer
+check_nodes file [] at = Accepted
+check_nodes file (n ∷ ns) at = answer_then (check_node file n at) (check_nodes file ns (at + node_step_length))
 
 -- `count` records of one size from `at`
-unfoldable pub checkRecords : (ℕ → Answer) → ℕ → ℕ → ℕ → Answer
-checkRecords check size zero at = Accepted
-checkRecords check size (suc count) at = answerThen (check at) (checkRecords check size count (at + size))
+unfoldable pub check_records : (ℕ → Answer) → ℕ → ℕ → ℕ → Answer
+check_records check size zero at = Accepted
+check_records check size (suc count) at = answer_then (check at) (check_records check size count (at + size))
 
 -- the first byte left over is the place
-unfoldable pub checkEnd : List ℕ → ℕ → Answer
-checkEnd file end = cond (leb (length file) end) Accepted (Refused 12 end)
+unfoldable pub check_end : List ℕ → ℕ → Answer
+check_end file end = cond (leb (length file) end) Accepted (Refused 12 end)
 
 -- n nodes with these shapes
-unfoldable pub checkFile : List ℕ → List NodeShape → ℕ → ℕ → ℕ → Answer
-checkFile file shapes n aggregates virtualStorages =
-    answerThen (checkDate file)
-    (answerThen (checkNodes file shapes dateLength)
-    (answerThen (checkRecords (checkAggregate file) aggregateStepLength aggregates (aggregateStepsAt n))
-    (answerThen (checkRecords (checkVirtualStorageStep file) virtualStorageStepLength virtualStorages (virtualStorageStepsAt n aggregates))
-    (checkEnd file (fileLength n aggregates virtualStorages)))))
+unfoldable pub check_file : List ℕ → List NodeShape → ℕ → ℕ → ℕ → Answer
+check_file file shapes n aggregates virtual_storages =
+    answer_then (check_date file)
+    (answer_then (check_nodes file shapes date_length)
+    (answer_then (check_records (check_aggregate file) aggregate_step_length aggregates (aggregate_steps_at n))
+    (answer_then (check_records (check_virtual_storage_step file) virtual_storage_step_length virtual_storages (virtual_storage_steps_at n aggregates))
+    (check_end file (file_length n aggregates virtual_storages)))))

@@ -1,11 +1,11 @@
 // The step file: read left to right by the counts, kinds and flags of a store, or refused with 12 or 13.
 ghost use Rattle.std.specs.Prelude.{◌≡◌, ◌≤◌, length};
-ghost use Rattle.layout.specs.Layout.{nodeCeiling, aggregateCeiling, virtualStorageCeiling, shapeLength, nodesIn, aggregatesIn, virtualStoragesIn};
+ghost use Rattle.layout.specs.Layout.{node_ceiling, aggregate_ceiling, virtual_storage_ceiling, shape_length, nodes_in, aggregates_in, virtual_storages_in};
 ghost use Rattle.pywr.specs.Answers.{answer_of};
 ghost use Rattle.pywr.specs.StepFile.{read_step};
 ghost use Rattle.pywr.specs.Store.{Store, shape_of};
-ghost use Rattle.step_record.specs.Check.{checkAggregate, checkVirtualStorageStep, dateLength, aggregateStepLength, virtualStorageStepLength};
-ghost use Rattle.step_file.specs.CheckStep.{checkNodes, checkRecords, checkEnd};
+ghost use Rattle.step_record.specs.Check.{check_aggregate, check_virtual_storage_step, date_length, aggregate_step_length, virtual_storage_step_length};
+ghost use Rattle.step_file.specs.CheckStep.{check_nodes, check_records, check_end};
 
 use layout::{
     AGGREGATE_COUNT_AT, NODE_COUNT_AT, NODE_FLAG, NODE_WIDTH, NODES_AT, VIRTUAL_STORAGE_COUNT_AT,
@@ -19,8 +19,8 @@ use widths::wide16;
 
 // The `NB` record of each node of the store.
 fn check_nodes(file: &[u8], shape: &[u16]) -> Answer
-    requires { (shapeLength ≤ length shape.now) × (nodesIn shape.now ≤ nodeCeiling) }
-    ensures { (s : Store) → s.shape ≡ shape.now → result ≡ checkNodes file.now (shape_of s).nodes dateLength }
+    requires { (shape_length ≤ length shape.now) × (nodes_in shape.now ≤ node_ceiling) }
+    ensures { (s : Store) → s.shape ≡ shape.now → result ≡ check_nodes file.now (shape_of s).nodes date_length }
 {
     let nodes = wide16(shape[NODE_COUNT_AT]);
     let mut word: usize = NODES_AT;
@@ -44,8 +44,8 @@ fn check_nodes(file: &[u8], shape: &[u16]) -> Answer
 
 // `count` `GB` records from `from`.
 fn check_aggregates(file: &[u8], from: usize, count: usize) -> Answer
-    requires { (from ≤ 16384) × (count ≤ aggregateCeiling) }
-    ensures { result ≡ checkRecords (checkAggregate file.now) aggregateStepLength count from }
+    requires { (from ≤ 16384) × (count ≤ aggregate_ceiling) }
+    ensures { result ≡ check_records (check_aggregate file.now) aggregate_step_length count from }
 {
     let mut at = from;
     let mut i: usize = 0;
@@ -66,8 +66,8 @@ fn check_aggregates(file: &[u8], from: usize, count: usize) -> Answer
 
 // `count` `VB` records from `from`.
 fn check_virtual_storages(file: &[u8], from: usize, count: usize) -> Answer
-    requires { (from ≤ 16384) × (count ≤ virtualStorageCeiling) }
-    ensures { result ≡ checkRecords (checkVirtualStorageStep file.now) virtualStorageStepLength count from }
+    requires { (from ≤ 16384) × (count ≤ virtual_storage_ceiling) }
+    ensures { result ≡ check_records (check_virtual_storage_step file.now) virtual_storage_step_length count from }
 {
     let mut at = from;
     let mut i: usize = 0;
@@ -88,7 +88,7 @@ fn check_virtual_storages(file: &[u8], from: usize, count: usize) -> Answer
 
 // No byte is left over from `end` on.
 fn check_end(file: &[u8], end: usize) -> Answer
-    ensures { result ≡ checkEnd file.now end }
+    ensures { result ≡ check_end file.now end }
 {
     if file.len() <= end {
         return Answer::Accepted;
@@ -98,9 +98,9 @@ fn check_end(file: &[u8], end: usize) -> Answer
 
 // Judged by the store with this shape run; what it does not read may hold anything.
 pub fn read_step(file: &[u8], shape: &[u16]) -> Answer
-    requires { (shapeLength ≤ length shape.now) × (nodesIn shape.now ≤ nodeCeiling) × (aggregatesIn shape.now ≤ aggregateCeiling) × (virtualStoragesIn shape.now ≤ virtualStorageCeiling) }
+    requires { (shape_length ≤ length shape.now) × (nodes_in shape.now ≤ node_ceiling) × (aggregates_in shape.now ≤ aggregate_ceiling) × (virtual_storages_in shape.now ≤ virtual_storage_ceiling) }
     ensures { (s : Store) → s.shape ≡ shape.now
-        → result ≡ answer_of (read_step (shape_of s).nodes (length (shape_of s).aggregates) (length (shape_of s).virtualStorages) file.now) }
+        → result ≡ answer_of (read_step (shape_of s).nodes (length (shape_of s).aggregates) (length (shape_of s).virtual_storages) file.now) }
 {
     let count = wide16(shape[NODE_COUNT_AT]);
     let aggregates = wide16(shape[AGGREGATE_COUNT_AT]);

@@ -6,84 +6,84 @@ use mathlib.Core.List.{List}
 use mathlib.Core.Option.{Option, none, some}
 use lib.ListN.{get_or}
 use lib.Ieee.{Float}
-use Rattle.layout.specs.Layout.{nodeRowsIn, virtualStoragesHeldAt}
+use Rattle.layout.specs.Layout.{node_rows_in, virtual_storages_held_at}
 use Rattle.pywr.specs.declared.Answer.{Answer}
 use Rattle.pywr.specs.declared.Answer.TheVariants.{Accepted, Refused}
 use Rattle.pywr.specs.declared.Interval.{Interval}
 use Rattle.pywr.specs.declared.Sentinel.{Sentinel}
 use Rattle.pywr.specs.Answers.{answer_of}
-use Rattle.pywr.specs.Calls.{stepOrdered}
-use Rattle.pywr.specs.Result.{firstRefused, refusedIf}
-use Rattle.pywr.specs.StepIntervals.{Intervals, hasBinaryRow, badInterval, ordered}
-use Rattle.pywr.specs.Store.{Store, word, nodeCount, nodeRowCount, aggregateCount, virtualStorageCount, sentinelOf, entries, nodeRowEntry, shape_of, programmeIn}
-use Rattle.step_file.specs.Decoded.{f64At}
-use Rattle.step_work.specs.WorkRun.{held_at, heldFrom, IntervalsHeld}
-use Rattle.step_work.specs.Written.{Written, foundAnswer, Looked}
-use Rattle.step_node_intervals.specs.NodeIntervals.{nodeNumbered}
-use Rattle.step_node_intervals.specs.BinaryRows.{nodeRowAt, nodeRowsOf}
-use Rattle.step_virtual_storage_intervals.specs.VirtualStorageIntervals.{virtualStorageNumbered}
-use Rattle.step_aggregate_intervals.specs.AggregateIntervals.{aggregateNumbered}
-use Rattle.step_intervals.specs.Found.{decodedBy, intervalsIn, Found}
-use Rattle.store_shape.proofs.EntryLaws.{entries-same}
-use Rattle.step_intervals.proofs.IntervalLaws.{nodes-are, aggregates-are, virtual-storages-are}
+use Rattle.pywr.specs.Calls.{step_ordered}
+use Rattle.pywr.specs.Result.{first_refused, refused_if}
+use Rattle.pywr.specs.StepIntervals.{Intervals, has_binary_row, bad_interval, ordered}
+use Rattle.pywr.specs.Store.{Store, word, node_count, node_row_count, aggregate_count, virtual_storage_count, sentinel_of, entries, node_row_entry, shape_of, programme_in}
+use Rattle.step_file.specs.Decoded.{f64_at}
+use Rattle.step_work.specs.WorkRun.{held_at, held_from, IntervalsHeld}
+use Rattle.step_work.specs.Written.{Written, found_answer, Looked}
+use Rattle.step_node_intervals.specs.NodeIntervals.{node_numbered}
+use Rattle.step_node_intervals.specs.BinaryRows.{node_row_at, node_rows_of}
+use Rattle.step_virtual_storage_intervals.specs.VirtualStorageIntervals.{virtual_storage_numbered}
+use Rattle.step_aggregate_intervals.specs.AggregateIntervals.{aggregate_numbered}
+use Rattle.step_intervals.specs.Found.{decoded_by, intervals_in, Found}
+use Rattle.store_shape.proofs.EntryLaws.{entries_same}
+use Rattle.step_intervals.proofs.IntervalLaws.{nodes_are, aggregates_are, virtual_storages_are}
 
-answers : (o : Option (ℕ × ℕ)) (i : Intervals) → foundAnswer o ≡ answer_of (refusedIf i o)
-unfolding foundAnswer refusedIf answer_of
+answers : (o : Option (ℕ × ℕ)) (i : Intervals) → found_answer o ≡ answer_of (refused_if i o)
+unfolding found_answer refused_if answer_of
 answers none i = refl
 answers (some found) i = refl
 
 -- held from a base as f numbers them
-holds : (work : List Float) (f : ℕ → Interval) (base count : ℕ) → ((k : ℕ) → k < count → held_at work (base + k) ≡ f k) → heldFrom work base count ≡ entries f 1 0 count
-unfolding heldFrom
+holds : (work : List Float) (f : ℕ → Interval) (base count : ℕ) → ((k : ℕ) → k < count → held_at work (base + k) ≡ f k) → held_from work base count ≡ entries f 1 0 count
+unfolding held_from
 holds work f base count h =
-    entries-same (held_at work) f 1 1 base 0 count
+    entries_same (held_at work) f 1 1 base 0 count
     (λ k lt. ap (λ (n : ℕ). held_at work (base + n)) (let e : 1 * k ≡ k = omega arith in e) ∙ h k lt ∙ ap f (let e : k ≡ 0 + 1 * k = omega arith in e))
 
-module _ (s : Store) (shape file : List ℕ) (e : s.shape ≡ shape) (days : Float) (of-days : days ≡ f64At file 4) (sentinel : Sentinel) (kept : sentinel ≡ sentinelOf (get_or shape 0 0))
+module _ (s : Store) (shape file : List ℕ) (e : s.shape ≡ shape) (days : Float) (of-days : days ≡ f64_at file 4) (sentinel : Sentinel) (kept : sentinel ≡ sentinel_of (get_or shape 0 0))
     (w₀ w₁ : List Float) (r₁ : Answer)
-    (one : Looked (badInterval sentinel (hasBinaryRow (nodeRowsOf shape (nodeRowsIn shape)))) (nodeNumbered sentinel days shape file) 0 (get_or shape 1 0) w₀ r₁ w₁) where
+    (one : Looked (bad_interval sentinel (has_binary_row (node_rows_of shape (node_rows_in shape)))) (node_numbered sentinel days shape file) 0 (get_or shape 1 0) w₀ r₁ w₁) where
   -- 14 and 21 of the store's nodes
   abbrev bad : ℕ → Interval → Option ℕ
-  bad = badInterval (sentinelOf (word s 0)) (hasBinaryRow (nodeRowsOf s.shape (nodeRowCount s)))
+  bad = bad_interval (sentinel_of (word s 0)) (has_binary_row (node_rows_of s.shape (node_row_count s)))
 
-  nodes-looked : Looked bad (nodeNumbered (sentinelOf (word s 0)) (f64At file 4) s.shape file) 0 (nodeCount s) w₀ r₁ w₁
-  nodes-looked = rw (of-days, kept, ← e) at one
+  nodes_looked : Looked bad (node_numbered (sentinel_of (word s 0)) (f64_at file 4) s.shape file) 0 (node_count s) w₀ r₁ w₁
+  nodes_looked = rw (of-days, kept, ← e) at one
 
   -- the nodes alone are asked
-  nodes-answer : r₁ ≡ answer_of (stepOrdered s (decodedBy s file))
-  unfolding stepOrdered ordered intervalsIn shape_of programmeIn nodeRowAt nodeRowEntry
-  nodes-answer = rw (nodes-are s file) nodes-looked.answer ∙ answers (firstRefused bad 0 (intervalsIn s file).nodes) (intervalsIn s file)
+  nodes_answer : r₁ ≡ answer_of (step_ordered s (decoded_by s file))
+  unfolding step_ordered ordered intervals_in shape_of programme_in node_row_at node_row_entry
+  nodes_answer = rw (nodes_are s file) nodes_looked.answer ∙ answers (first_refused bad 0 (intervals_in s file).nodes) (intervals_in s file)
 
-  pub nodes-refuse : (number place : ℕ) → r₁ ≡ Refused number place → Found s file (Refused number place) w₁
-  nodes-refuse number place is =
+  pub nodes_refuse : (number place : ℕ) → r₁ ≡ Refused number place → Found s file (Refused number place) w₁
+  nodes_refuse number place is =
       record {
-        answer = sym is ∙ nodes-answer;
+        answer = sym is ∙ nodes_answer;
         held = λ a. absurd (let z : ◌≡◌ {A = ℕ} 0 1 = cc in omega arith);
       }
 
-  module _ (few-nodes : get_or shape 1 0 ≤ 256) (few-aggregates : get_or shape 9 0 ≤ 64) (accepted : r₁ ≡ Accepted)
-      (w₂ w₃ : List Float) (two : Written (aggregateNumbered shape file) 256 (get_or shape 9 0) w₁ w₂)
-      (three : Written (virtualStorageNumbered sentinel days shape file) virtualStoragesHeldAt (get_or shape 10 0) w₂ w₃) where
-    virtual-storages-written : Written (virtualStorageNumbered (sentinelOf (word s 0)) (f64At file 4) s.shape file) virtualStoragesHeldAt (virtualStorageCount s) w₂ w₃
-    virtual-storages-written = rw (of-days, kept, ← e) at three
+  module _ (few_nodes : get_or shape 1 0 ≤ 256) (few_aggregates_lem : get_or shape 9 0 ≤ 64) (accepted : r₁ ≡ Accepted)
+      (w₂ w₃ : List Float) (two : Written (aggregate_numbered shape file) 256 (get_or shape 9 0) w₁ w₂)
+      (three : Written (virtual_storage_numbered sentinel days shape file) virtual_storages_held_at (get_or shape 10 0) w₂ w₃) where
+    virtual_storages_written : Written (virtual_storage_numbered (sentinel_of (word s 0)) (f64_at file 4) s.shape file) virtual_storages_held_at (virtual_storage_count s) w₂ w₃
+    virtual_storages_written = rw (of-days, kept, ← e) at three
 
-    aggregates-written : Written (aggregateNumbered s.shape file) 256 (aggregateCount s) w₁ w₂
-    aggregates-written = rw (← e) at two
+    aggregates_written : Written (aggregate_numbered s.shape file) 256 (aggregate_count s) w₁ w₂
+    aggregates_written = rw (← e) at two
 
-    all_held : IntervalsHeld (nodeCount s) (aggregateCount s) (virtualStorageCount s) w₃ (intervalsIn s file)
+    all_held : IntervalsHeld (node_count s) (aggregate_count s) (virtual_storage_count s) w₃ (intervals_in s file)
     all_held =
-        let v = virtual-storages-written in
-        let n = nodes-looked.written accepted in
+        let v = virtual_storages_written in
+        let n = nodes_looked.written accepted in
         record {
-          nodes-are = holds w₃ (nodeNumbered (sentinelOf (word s 0)) (f64At file 4) s.shape file) 0 (nodeCount s)
-              (λ k lt. v.kept (0 + k) (omega (arith, ap (λ (l : List ℕ). get_or l 1 0) e)) ∙ aggregates-written.kept (0 + k) (omega (arith, ap (λ (l : List ℕ). get_or l 1 0) e)) ∙ n.held k lt)
-              ∙ sym (nodes-are s file);
-          aggregates-are = holds w₃ (aggregateNumbered s.shape file) 256 (aggregateCount s)
-              (λ k lt. v.kept (256 + k) (omega (arith, ap (λ (l : List ℕ). get_or l 9 0) e)) ∙ aggregates-written.held k lt)
-              ∙ sym (aggregates-are s file);
-          virtual-storages-are = holds w₃ (virtualStorageNumbered (sentinelOf (word s 0)) (f64At file 4) s.shape file) virtualStoragesHeldAt
-              (virtualStorageCount s) v.held ∙ sym (virtual-storages-are s file);
+          nodes_are = holds w₃ (node_numbered (sentinel_of (word s 0)) (f64_at file 4) s.shape file) 0 (node_count s)
+              (λ k lt. v.kept (0 + k) (omega (arith, ap (λ (l : List ℕ). get_or l 1 0) e)) ∙ aggregates_written.kept (0 + k) (omega (arith, ap (λ (l : List ℕ). get_or l 1 0) e)) ∙ n.held k lt)
+              ∙ sym (nodes_are s file);
+          aggregates_are = holds w₃ (aggregate_numbered s.shape file) 256 (aggregate_count s)
+              (λ k lt. v.kept (256 + k) (omega (arith, ap (λ (l : List ℕ). get_or l 9 0) e)) ∙ aggregates_written.held k lt)
+              ∙ sym (aggregates_are s file);
+          virtual_storages_are = holds w₃ (virtual_storage_numbered (sentinel_of (word s 0)) (f64_at file 4) s.shape file) virtual_storages_held_at
+              (virtual_storage_count s) v.held ∙ sym (virtual_storages_are s file);
         }
 
     pub all_found : Found s file Accepted w₃
-    all_found = record { answer = sym accepted ∙ nodes-answer; held = λ a. all_held }
+    all_found = record { answer = sym accepted ∙ nodes_answer; held = λ a. all_held }

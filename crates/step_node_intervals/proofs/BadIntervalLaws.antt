@@ -10,39 +10,39 @@ use Rattle.pywr.specs.declared.Answer.TheVariants.{Accepted, Refused}
 use Rattle.pywr.specs.declared.Interval.{Interval}
 use Rattle.pywr.specs.declared.Sentinel.{Sentinel}
 use Rattle.pywr.specs.Programme.{NodeRow}
-use Rattle.pywr.specs.StepIntervals.{hasBinaryRow, badInterval}
+use Rattle.pywr.specs.StepIntervals.{has_binary_row, bad_interval}
 use Rattle.step_work.specs.WorkRun.{held_at}
 use Rattle.step_work.specs.Written.{Written, WrittenTo, Looked}
-use Rattle.step_work.proofs.WrittenLaws.{looked-refused, looked-all}
-use Rattle.step_node_intervals.specs.BinaryRows.{binaryBeyond, LeastOf}
+use Rattle.step_work.proofs.WrittenLaws.{looked_refused, looked_all}
+use Rattle.step_node_intervals.specs.BinaryRows.{binary_beyond, LeastOf}
 
-module _ (s : Sentinel) (nodeRows : List NodeRow) (f : ℕ → Interval) (count : ℕ) (w₀ w : List Float) (n first : ℕ)
-    (written : WrittenTo f 0 count w₀ n w) (least : LeastOf (binaryBeyond s nodeRows w) n first) where
+module _ (s : Sentinel) (node_rows : List NodeRow) (f : ℕ → Interval) (count : ℕ) (w₀ w : List Float) (n first : ℕ)
+    (written : WrittenTo f 0 count w₀ n w) (least : LeastOf (binary_beyond s node_rows w) n first) where
   abbrev test : ℕ → Interval → Option ℕ
-  test = badInterval s (hasBinaryRow nodeRows)
+  test = bad_interval s (has_binary_row node_rows)
 
   is_held : (k : ℕ) → k < n → held_at w k ≡ f k
   is_held k lt = ap (held_at w) (sym (zero-add k)) ∙ written.so_far.held k lt
 
   before : (k : ℕ) → k < first → test k (f k) ≡ none
-  unfolding badInterval
+  unfolding bad_interval
   before k lt =
       let l : k < n = omega (arith, least.few) in
       rw (written.ordered k l, ← (is_held k l), least.before k lt)
 
   -- 21, of a node before every crossed one
-  pub beyond-refused : first < n → Looked test f 0 count w₀ (Refused 21 first) w
-  unfolding badInterval
-  beyond-refused lt =
-      looked-refused test f 0 count w₀ w 21 first (omega (arith, written.few)) before (rw (written.ordered first lt, ← (is_held first lt), least.holds lt))
+  pub beyond_refused : first < n → Looked test f 0 count w₀ (Refused 21 first) w
+  unfolding bad_interval
+  beyond_refused lt =
+      looked_refused test f 0 count w₀ w 21 first (omega (arith, written.few)) before (rw (written.ordered first lt, ← (is_held first lt), least.holds lt))
 
   module _ (all : n ≤ first) where
-    pub crossed-refused : n < count → Looked test f 0 count w₀ (Refused 14 n) w
-    unfolding badInterval
-    crossed-refused lt = looked-refused test f 0 count w₀ w 14 n lt (λ k less. before k (omega arith)) (rw (written.crossed lt))
+    pub crossed_refused : n < count → Looked test f 0 count w₀ (Refused 14 n) w
+    unfolding bad_interval
+    crossed_refused lt = looked_refused test f 0 count w₀ w 14 n lt (λ k less. before k (omega arith)) (rw (written.crossed lt))
 
-    pub none-bad : count ≤ n → Looked test f 0 count w₀ Accepted w
-    none-bad le =
+    pub none_bad : count ≤ n → Looked test f 0 count w₀ Accepted w
+    none_bad le =
         let e : n ≡ count = omega (arith, written.few) in
         let all-written : Written f 0 count w₀ w = rw e at written.so_far in
-        looked-all test f 0 count w₀ w (λ k less. before k (omega arith)) all-written
+        looked_all test f 0 count w₀ w (λ k less. before k (omega arith)) all-written

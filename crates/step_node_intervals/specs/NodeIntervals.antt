@@ -1,12 +1,12 @@
 -- A node's interval by its number, over the words of the shape run. Assumes nothing.
 use Rattle.std.specs.Prelude.{ℕ, ◌+◌, ◌*◌, List, eqb, Float}
-use Rattle.layout.specs.Layout.{nodesAt, nodeWidth, nodeKind, nodeFlag}
+use Rattle.layout.specs.Layout.{nodes_at, node_width, node_kind, node_flag}
 use Rattle.pywr.specs.declared.Interval.{Interval}
 use Rattle.pywr.specs.declared.Sentinel.{Sentinel}
-use Rattle.pywr.specs.StepIntervals.{nodeInterval}
-use Rattle.step_file.specs.Decoded.{nodeStepAt, nodeStepPlace}
+use Rattle.pywr.specs.StepIntervals.{node_interval}
+use Rattle.step_file.specs.Decoded.{node_step_at, node_step_place}
 
-unfoldable pub nodeNumbered : Sentinel → Float → List ℕ → List ℕ → ℕ → Interval
-nodeNumbered s days shape file k =
-    let at : ℕ = nodesAt + nodeWidth * k in
-    nodeInterval s days (nodeStepAt file (record { kind = nodeKind shape at; constant = eqb (nodeFlag shape at) 1 }) (nodeStepPlace k)).bounds
+unfoldable pub node_numbered : Sentinel → Float → List ℕ → List ℕ → ℕ → Interval
+node_numbered s days shape file k =
+    let at : ℕ = nodes_at + node_width * k in
+    node_interval s days (node_step_at file (record { kind = node_kind shape at; constant = eqb (node_flag shape at) 1 }) (node_step_place k)).bounds

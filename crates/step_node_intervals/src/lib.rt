@@ -1,12 +1,12 @@
 // The nodes' intervals of a step, written into the lent work run, and refusals 14 and 21.
 ghost use Rattle.std.specs.Prelude.{◌≡◌, ◌+◌, ◌*◌, ◌≤◌, length};
-ghost use Rattle.layout.specs.Layout.{nodeCeiling, nodeRowCeiling, shapeLength, nodesAt, nodeWidth, nodeRowWidth, nodesIn, nodeRowsIn, stepWorkLength};
-ghost use Rattle.pywr.specs.StepIntervals.{hasBinaryRow, badInterval};
-ghost use Rattle.step_record.specs.Check.{nodeStepLength};
-ghost use Rattle.step_file.specs.Decoded.{nodeStepPlace, aggregateStepsAt};
+ghost use Rattle.layout.specs.Layout.{node_ceiling, node_row_ceiling, shape_length, nodes_at, node_width, node_row_width, nodes_in, node_rows_in, step_work_length};
+ghost use Rattle.pywr.specs.StepIntervals.{has_binary_row, bad_interval};
+ghost use Rattle.step_record.specs.Check.{node_step_length};
+ghost use Rattle.step_file.specs.Decoded.{node_step_place, aggregate_steps_at};
 ghost use Rattle.step_work.specs.Written.{WrittenTo, Looked};
-ghost use Rattle.step_node_intervals.specs.NodeIntervals.{nodeNumbered};
-ghost use Rattle.step_node_intervals.specs.BinaryRows.{nodeRowAt, nodeRowsOf, binaryBeyond, lesserBeyond, LeastOf};
+ghost use Rattle.step_node_intervals.specs.NodeIntervals.{node_numbered};
+ghost use Rattle.step_node_intervals.specs.BinaryRows.{node_row_at, node_rows_of, binary_beyond, lesser_beyond, LeastOf};
 
 use layout::{
     NODE_COUNT_AT, NODE_FLAG, NODE_ROW_COUNT_AT, NODE_ROW_TYPE, NODE_ROW_WIDTH, NODE_ROWS_AT,
@@ -24,8 +24,8 @@ fn node_interval(
     days: f64,
     sentinel: Sentinel,
 ) -> Interval
-    requires { (nodeStepPlace node.0 + nodeStepLength ≤ length file.now) × (nodesAt + nodeWidth * node.0 + nodeWidth ≤ length shape.now) }
-    ensures { result ≡ nodeNumbered sentinel days shape.now file.now node.0 }
+    requires { (node_step_place node.0 + node_step_length ≤ length file.now) × (nodes_at + node_width * node.0 + node_width ≤ length shape.now) }
+    ensures { result ≡ node_numbered sentinel days shape.now file.now node.0 }
 {
     let k = wide16(node.0);
     if shape[NODES_AT + NODE_WIDTH * k + NODE_FLAG] == 1 {
@@ -48,8 +48,8 @@ fn write_node_intervals(
     sentinel: Sentinel,
     work: &mut [f64],
 ) -> usize
-    requires { (shapeLength ≤ length shape.now) × (stepWorkLength ≤ length work.old) × (nodesIn shape.now ≤ nodeCeiling) × (aggregateStepsAt (nodesIn shape.now) ≤ length file.now) }
-    ensures { WrittenTo (nodeNumbered sentinel days shape.now file.now) 0 (nodesIn shape.now) work.old result work.new }
+    requires { (shape_length ≤ length shape.now) × (step_work_length ≤ length work.old) × (nodes_in shape.now ≤ node_ceiling) × (aggregate_steps_at (nodes_in shape.now) ≤ length file.now) }
+    ensures { WrittenTo (node_numbered sentinel days shape.now file.now) 0 (nodes_in shape.now) work.old result work.new }
 {
     let nodes = wide16(shape[NODE_COUNT_AT]);
     let mut i: usize = 0;
@@ -68,8 +68,8 @@ fn write_node_intervals(
 // The node of the node row at `at`, if it is under `first`, the row is binary and the node's interval has a bound at or beyond a
 // sentinel; else `first`.
 fn lesser_beyond(shape: &[u16], work: &[f64], sentinel: Sentinel, at: usize, first: usize) -> usize
-    requires { (at + nodeRowWidth ≤ length shape.now) × (stepWorkLength ≤ length work.now) × (first ≤ nodeCeiling) }
-    ensures { result ≡ lesserBeyond sentinel work.now (nodeRowAt shape.now at) first }
+    requires { (at + node_row_width ≤ length shape.now) × (step_work_length ≤ length work.now) × (first ≤ node_ceiling) }
+    ensures { result ≡ lesser_beyond sentinel work.now (node_row_at shape.now at) first }
 {
     let node = wide16(shape[at]);
     if first <= node {
@@ -88,8 +88,8 @@ fn lesser_beyond(shape: &[u16], work: &[f64], sentinel: Sentinel, at: usize, fir
 
 // The least node under `written` that a binary node row names and whose interval has a bound at or beyond a sentinel, or `written`.
 fn first_beyond(shape: &[u16], work: &[f64], sentinel: Sentinel, written: usize) -> usize
-    requires { (shapeLength ≤ length shape.now) × (stepWorkLength ≤ length work.now) × (nodeRowsIn shape.now ≤ nodeRowCeiling) × (written ≤ nodeCeiling) }
-    ensures { LeastOf (binaryBeyond sentinel (nodeRowsOf shape.now (nodeRowsIn shape.now)) work.now) written result }
+    requires { (shape_length ≤ length shape.now) × (step_work_length ≤ length work.now) × (node_rows_in shape.now ≤ node_row_ceiling) × (written ≤ node_ceiling) }
+    ensures { LeastOf (binary_beyond sentinel (node_rows_of shape.now (node_rows_in shape.now)) work.now) written result }
 {
     let node_rows = wide16(shape[NODE_ROW_COUNT_AT]);
     let mut first = written;
@@ -116,10 +116,10 @@ pub fn find_node_intervals(
     sentinel: Sentinel,
     work: &mut [f64],
 ) -> Answer
-    requires { (shapeLength ≤ length shape.now) × (stepWorkLength ≤ length work.old) × (nodesIn shape.now ≤ nodeCeiling)
-        × (nodeRowsIn shape.now ≤ nodeRowCeiling) × (aggregateStepsAt (nodesIn shape.now) ≤ length file.now) }
-    ensures { Looked (badInterval sentinel (hasBinaryRow (nodeRowsOf shape.now (nodeRowsIn shape.now))))
-        (nodeNumbered sentinel days shape.now file.now) 0 (nodesIn shape.now) work.old result work.new }
+    requires { (shape_length ≤ length shape.now) × (step_work_length ≤ length work.old) × (nodes_in shape.now ≤ node_ceiling)
+        × (node_rows_in shape.now ≤ node_row_ceiling) × (aggregate_steps_at (nodes_in shape.now) ≤ length file.now) }
+    ensures { Looked (bad_interval sentinel (has_binary_row (node_rows_of shape.now (node_rows_in shape.now))))
+        (node_numbered sentinel days shape.now file.now) 0 (nodes_in shape.now) work.old result work.new }
 {
     let nodes = wide16(shape[NODE_COUNT_AT]);
     let written = write_node_intervals(file, shape, days, sentinel, work);

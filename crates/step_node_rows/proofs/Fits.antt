@@ -6,21 +6,21 @@ use mathlib.Core.Bool.{true}
 use mathlib.Core.List.{List}
 use lib.ListN.{length, get_or}
 use lib.Seq.{slice}
-use Rattle.layout.specs.Layout.{columnCeiling, elementCeiling, edgeColumnsIn, nodeRowRow, nodeRowType, nodeRowSet}
+use Rattle.layout.specs.Layout.{column_ceiling, element_ceiling, edge_columns_in, node_row_row, node_row_type, node_row_set}
 use Rattle.pywr.specs.Network.{listed}
 use Rattle.store_rows.proofs.Starts.{start_under}
 use Rattle.step_node_rows.specs.NodeConstraintBounds.{NodeRowFits, VaryingFit}
 
-module _ {columns rowStarts shape : List ℕ} {at : ℕ} (fit : VaryingFit columns rowStarts shape) (fits : NodeRowFits columns rowStarts shape at) (binary : nodeRowType shape at ≡ 0 → ⊥) where
-  pub column-under : edgeColumnsIn shape + nodeRowSet shape at < columnCeiling
-  column-under = omega (arith, fits.set binary, fit.rows.edge-columns, fit.rows.sets)
+module _ {columns row_starts shape : List ℕ} {at : ℕ} (fit : VaryingFit columns row_starts shape) (fits : NodeRowFits columns row_starts shape at) (binary : node_row_type shape at ≡ 0 → ⊥) where
+  pub column_under : edge_columns_in shape + node_row_set shape at < column_ceiling
+  column_under = omega (arith, fits.set binary, fit.rows.edge_columns_lem, fit.rows.sets)
 
-  module _ {r c : ℕ} (q : r ≡ nodeRowRow shape at) (on : c ≡ edgeColumnsIn shape + nodeRowSet shape at) where
-    pub starts-there : r + 1 < length rowStarts
-    starts-there = omega (arith, fits.within.row, fit.rows.rows, fit.rows.starts-long)
+  module _ {r c : ℕ} (q : r ≡ node_row_row shape at) (on : c ≡ edge_columns_in shape + node_row_set shape at) where
+    pub starts_there : r + 1 < length row_starts
+    starts_there = omega (arith, fits.within.row, fit.rows.rows, fit.rows.starts_long)
 
-    pub elements-there : get_or rowStarts (r + 1) 0 ≤ elementCeiling
-    elements-there = omega (arith, start_under fit.rows.starts (r + 1) (omega (arith, fits.within.row)), fit.rows.kept)
+    pub elements_there : get_or row_starts (r + 1) 0 ≤ element_ceiling
+    elements_there = omega (arith, start_under fit.rows.starts (r + 1) (omega (arith, fits.within.row)), fit.rows.kept)
 
-    pub column-there : listed c (slice (get_or rowStarts r 0) (get_or rowStarts (r + 1) 0) columns) ≡ true
-    column-there = rw (q, on) (fits.column binary)
+    pub column_there : listed c (slice (get_or row_starts r 0) (get_or row_starts (r + 1) 0) columns) ≡ true
+    column_there = rw (q, on) (fits.column binary)

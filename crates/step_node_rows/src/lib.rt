@@ -1,10 +1,10 @@
 // The node rows of a step, in three passes: bounds of continuous rows, then the binary rows reset, then their coefficients
 // (update_node_constraint_bounds and apply_updated_coefficients of builder.rs).
 ghost use Rattle.std.specs.Prelude.{◌≡◌, List, ℕ, ◌+◌, ◌*◌, ◌<◌, ◌≤◌, length, Float};
-ghost use Rattle.layout.specs.Layout.{columnCeiling, nodeRowCeiling, rowCeiling, elementCeiling, shapeLength, nodeRowsAt, nodeRowWidth, nodeRowsIn, edgeColumnsIn, nodeRowSet, stepWorkLength};
+ghost use Rattle.layout.specs.Layout.{column_ceiling, node_row_ceiling, row_ceiling, element_ceiling, shape_length, node_rows_at, node_row_width, node_rows_in, edge_columns_in, node_row_set, step_work_length};
 ghost use Rattle.pywr.specs.Store.{Store};
-ghost use Rattle.step_node_rows.specs.NodeConstraintBounds.{over, withShape, ShapeFits, NodeRowWithin, NodeRowFits, VaryingFit};
-ghost use Rattle.step_node_rows.specs.NodeConstraintBounds.{boundsChange, resetChange, coefficientChange, coefficientByWord, NodeRowDone, NodeRowsDone};
+ghost use Rattle.step_node_rows.specs.NodeConstraintBounds.{over, with_shape, ShapeFits, NodeRowWithin, NodeRowFits, VaryingFit};
+ghost use Rattle.step_node_rows.specs.NodeConstraintBounds.{bounds_change, reset_change, coefficient_change, coefficient_by_word, NodeRowDone, NodeRowsDone};
 
 use layout::{
     EDGE_COLUMN_COUNT_AT, NODE_ROW_COUNT_AT, NODE_ROW_ROW, NODE_ROW_SET, NODE_ROW_TYPE,
@@ -24,10 +24,10 @@ fn update_node_row(
     work: &[f64],
     at: usize,
 )
-    requires { (rowCeiling ≤ length row_lower.old) × (rowCeiling ≤ length row_upper.old) × (stepWorkLength ≤ length work.now)
-        × ShapeFits shape.now × NodeRowWithin shape.now at × (at + nodeRowWidth ≤ shapeLength) }
+    requires { (row_ceiling ≤ length row_lower.old) × (row_ceiling ≤ length row_upper.old) × (step_work_length ≤ length work.now)
+        × ShapeFits shape.now × NodeRowWithin shape.now at × (at + node_row_width ≤ shape_length) }
     ensures { (s : Store) (elements : List Float)
-        → NodeRowDone (withShape s shape.now) (boundsChange work.now) at
+        → NodeRowDone (with_shape s shape.now) (bounds_change work.now) at
         row_lower.old row_upper.old elements row_lower.new row_upper.new elements }
 {
     if shape[at + NODE_ROW_TYPE] != 0 {
@@ -45,11 +45,11 @@ pub fn update_node_constraint_bounds(
     shape: &[u16],
     work: &[f64],
 )
-    requires { (rowCeiling ≤ length row_lower.old) × (rowCeiling ≤ length row_upper.old) × (stepWorkLength ≤ length work.now)
-        × ShapeFits shape.now × (nodeRowsIn shape.now ≤ nodeRowCeiling)
-        × ((k : ℕ) → k < nodeRowsIn shape.now → NodeRowWithin shape.now (nodeRowsAt + nodeRowWidth * k)) }
+    requires { (row_ceiling ≤ length row_lower.old) × (row_ceiling ≤ length row_upper.old) × (step_work_length ≤ length work.now)
+        × ShapeFits shape.now × (node_rows_in shape.now ≤ node_row_ceiling)
+        × ((k : ℕ) → k < node_rows_in shape.now → NodeRowWithin shape.now (node_rows_at + node_row_width * k)) }
     ensures { (s : Store) (elements : List Float)
-        → NodeRowsDone (withShape s shape.now) (boundsChange work.now) (nodeRowsIn shape.now)
+        → NodeRowsDone (with_shape s shape.now) (bounds_change work.now) (node_rows_in shape.now)
         row_lower.old row_upper.old elements row_lower.new row_upper.new elements }
 {
     let node_rows = wide16(shape[NODE_ROW_COUNT_AT]);
@@ -63,8 +63,8 @@ pub fn update_node_constraint_bounds(
 
 // The integer column of a node row's exclusive set.
 fn set_column(shape: &[u16], at: usize) -> ColumnIndex
-    requires { (shapeLength ≤ length shape.now) × (at + nodeRowWidth ≤ shapeLength) × (edgeColumnsIn shape.now + nodeRowSet shape.now at < columnCeiling) }
-    ensures { result.0 ≡ edgeColumnsIn shape.now + nodeRowSet shape.now at }
+    requires { (shape_length ≤ length shape.now) × (at + node_row_width ≤ shape_length) × (edge_columns_in shape.now + node_row_set shape.now at < column_ceiling) }
+    ensures { result.0 ≡ edge_columns_in shape.now + node_row_set shape.now at }
 {
     ColumnIndex(shape[EDGE_COLUMN_COUNT_AT] + shape[at + NODE_ROW_SET])
 }
@@ -80,10 +80,10 @@ fn reset_binary_row(
     shape: &[u16],
     at: usize,
 )
-    requires { (rowCeiling ≤ length row_lower.old) × (rowCeiling ≤ length row_upper.old) × (elementCeiling ≤ length elements.old)
-        × VaryingFit columns.now row_starts.now shape.now × NodeRowFits columns.now row_starts.now shape.now at × (at + nodeRowWidth ≤ shapeLength) }
+    requires { (row_ceiling ≤ length row_lower.old) × (row_ceiling ≤ length row_upper.old) × (element_ceiling ≤ length elements.old)
+        × VaryingFit columns.now row_starts.now shape.now × NodeRowFits columns.now row_starts.now shape.now at × (at + node_row_width ≤ shape_length) }
     ensures { (s : Store)
-        → NodeRowDone (over s columns.now row_starts.now shape.now) resetChange at
+        → NodeRowDone (over s columns.now row_starts.now shape.now) reset_change at
         row_lower.old row_upper.old elements.old row_lower.new row_upper.new elements.new }
 {
     if shape[at + NODE_ROW_TYPE] == 0 {
@@ -109,11 +109,11 @@ pub fn reset_binary_rows(
     row_starts: &[u32],
     shape: &[u16],
 )
-    requires { (rowCeiling ≤ length row_lower.old) × (rowCeiling ≤ length row_upper.old) × (elementCeiling ≤ length elements.old)
-        × VaryingFit columns.now row_starts.now shape.now × (nodeRowsIn shape.now ≤ nodeRowCeiling)
-        × ((k : ℕ) → k < nodeRowsIn shape.now → NodeRowFits columns.now row_starts.now shape.now (nodeRowsAt + nodeRowWidth * k)) }
+    requires { (row_ceiling ≤ length row_lower.old) × (row_ceiling ≤ length row_upper.old) × (element_ceiling ≤ length elements.old)
+        × VaryingFit columns.now row_starts.now shape.now × (node_rows_in shape.now ≤ node_row_ceiling)
+        × ((k : ℕ) → k < node_rows_in shape.now → NodeRowFits columns.now row_starts.now shape.now (node_rows_at + node_row_width * k)) }
     ensures { (s : Store)
-        → NodeRowsDone (over s columns.now row_starts.now shape.now) resetChange (nodeRowsIn shape.now)
+        → NodeRowsDone (over s columns.now row_starts.now shape.now) reset_change (node_rows_in shape.now)
         row_lower.old row_upper.old elements.old row_lower.new row_upper.new elements.new }
 {
     let node_rows = wide16(shape[NODE_ROW_COUNT_AT]);
@@ -129,7 +129,7 @@ pub fn reset_binary_rows(
 
 // The coefficient that an interval gives to a binary row: its upper bound, or minus its lower.
 fn coefficient(row_type: u16, by: Interval) -> f64
-    ensures { result ≡ coefficientByWord row_type by }
+    ensures { result ≡ coefficient_by_word row_type by }
 {
     if row_type == 1 { by.upper } else { -by.lower }
 }
@@ -143,10 +143,10 @@ fn update_coefficient(
     work: &[f64],
     at: usize,
 )
-    requires { (elementCeiling ≤ length elements.old) × (stepWorkLength ≤ length work.now)
-        × VaryingFit columns.now row_starts.now shape.now × NodeRowFits columns.now row_starts.now shape.now at × (at + nodeRowWidth ≤ shapeLength) }
+    requires { (element_ceiling ≤ length elements.old) × (step_work_length ≤ length work.now)
+        × VaryingFit columns.now row_starts.now shape.now × NodeRowFits columns.now row_starts.now shape.now at × (at + node_row_width ≤ shape_length) }
     ensures { (s : Store) (lower upper : List Float)
-        → NodeRowDone (over s columns.now row_starts.now shape.now) (coefficientChange work.now) at
+        → NodeRowDone (over s columns.now row_starts.now shape.now) (coefficient_change work.now) at
         lower upper elements.old lower upper elements.new }
 {
     let row_type = shape[at + NODE_ROW_TYPE];
@@ -174,11 +174,11 @@ pub fn update_coefficients(
     shape: &[u16],
     work: &[f64],
 )
-    requires { (elementCeiling ≤ length elements.old) × (stepWorkLength ≤ length work.now)
-        × VaryingFit columns.now row_starts.now shape.now × (nodeRowsIn shape.now ≤ nodeRowCeiling)
-        × ((k : ℕ) → k < nodeRowsIn shape.now → NodeRowFits columns.now row_starts.now shape.now (nodeRowsAt + nodeRowWidth * k)) }
+    requires { (element_ceiling ≤ length elements.old) × (step_work_length ≤ length work.now)
+        × VaryingFit columns.now row_starts.now shape.now × (node_rows_in shape.now ≤ node_row_ceiling)
+        × ((k : ℕ) → k < node_rows_in shape.now → NodeRowFits columns.now row_starts.now shape.now (node_rows_at + node_row_width * k)) }
     ensures { (s : Store) (lower upper : List Float)
-        → NodeRowsDone (over s columns.now row_starts.now shape.now) (coefficientChange work.now) (nodeRowsIn shape.now)
+        → NodeRowsDone (over s columns.now row_starts.now shape.now) (coefficient_change work.now) (node_rows_in shape.now)
         lower upper elements.old lower upper elements.new }
 {
     let node_rows = wide16(shape[NODE_ROW_COUNT_AT]);

@@ -1,14 +1,14 @@
 -- The period of a virtual storage in the words of the shape run. Assumes nothing.
 use Rattle.std.specs.Prelude.{ℕ, List, eqb}
-use Rattle.layout.specs.Layout.{periodFlag, periodStartMonth, periodStartDay, periodEndMonth, periodEndDay}
+use Rattle.layout.specs.Layout.{period_flag, period_start_month, period_start_day, period_end_month, period_end_day}
 use Rattle.pywr.specs.Network.{Period}
 
-unfoldable pub periodAt : List ℕ → ℕ → Period
-periodAt shape place =
+unfoldable pub period_at : List ℕ → ℕ → Period
+period_at shape place =
     record {
-      always = eqb (periodFlag shape place) 0;
-      startMonth = periodStartMonth shape place;
-      startDay = periodStartDay shape place;
-      endMonth = periodEndMonth shape place;
-      endDay = periodEndDay shape place;
+      always = eqb (period_flag shape place) 0;
+      start_month = period_start_month shape place;
+      start_day = period_start_day shape place;
+      end_month = period_end_month shape place;
+      end_day = period_end_day shape place;
     }

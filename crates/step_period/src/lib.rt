@@ -1,8 +1,8 @@
 // The active period of a virtual storage (VirtualStorageActivePeriod of virtual_storage.rs).
 ghost use Rattle.std.specs.Prelude.{◌≡◌, ◌+◌, ◌≤◌, length, eqb};
-ghost use Rattle.layout.specs.Layout.{virtualStorageWidth};
-ghost use Rattle.pywr.specs.Period.{up_to, isActive};
-ghost use Rattle.step_period.specs.PeriodAt.{periodAt};
+ghost use Rattle.layout.specs.Layout.{virtual_storage_width};
+ghost use Rattle.pywr.specs.Period.{up_to, is_active};
+ghost use Rattle.step_period.specs.PeriodAt.{period_at};
 
 use layout::{PERIOD_END_DAY, PERIOD_END_MONTH, PERIOD_FLAG, PERIOD_START_DAY, PERIOD_START_MONTH};
 
@@ -23,7 +23,7 @@ pub fn is_active(
     month: u16,
     day: u16,
 ) -> bool
-    ensures { result ≡ isActive (record { always = eqb period 0; startMonth = start_month; startDay = start_day; endMonth = end_month; endDay = end_day }) month day }
+    ensures { result ≡ is_active (record { always = eqb period 0; start_month = start_month; start_day = start_day; end_month = end_month; end_day = end_day }) month day }
 {
     if period == 0 {
         return true;
@@ -38,8 +38,8 @@ pub fn is_active(
 
 // The same of the virtual storage whose words stand at `place`.
 pub fn is_active_at(shape: &[u16], place: usize, month: u16, day: u16) -> bool
-    requires { place + virtualStorageWidth ≤ length shape.now }
-    ensures { result ≡ isActive (periodAt shape.now place) month day }
+    requires { place + virtual_storage_width ≤ length shape.now }
+    ensures { result ≡ is_active (period_at shape.now place) month day }
 {
     is_active(
         shape[place + PERIOD_FLAG],

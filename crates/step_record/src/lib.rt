@@ -1,8 +1,8 @@
 // The records of a step file, each checked where it stands: refusals 12 and 13 with the record's place.
 ghost use Rattle.std.specs.Prelude.{◌≡◌, ◌≤◌, eqb};
-ghost use Rattle.pywr.specs.Numbers.{isDays};
-ghost use Rattle.pywr.specs.StepFile.{daysIn};
-ghost use Rattle.step_record.specs.Check.{in_range, boundRange, volumeRange, checkMark, checkField, checkByte, answerThen, checkDate, checkNode, checkAggregate, checkVirtualStorageStep};
+ghost use Rattle.pywr.specs.Numbers.{is_days};
+ghost use Rattle.pywr.specs.StepFile.{days_in};
+ghost use Rattle.step_record.specs.Check.{in_range, bound_range, volume_range, check_mark, check_field, check_byte, answer_then, check_date, check_node, check_aggregate, check_virtual_storage_step};
 
 use pywr::Answer;
 
@@ -53,7 +53,7 @@ pub enum Range {
 
 // Days from 1/1024 to 366.
 fn is_days(bits: u64) -> bool
-    ensures { result ≡ isDays bits }
+    ensures { result ≡ is_days bits }
 {
     if 9218868437227405312 < bits % 9223372036854775808 {
         return false;
@@ -78,7 +78,7 @@ fn in_range(range: Range, bits: u64) -> bool
 
 // A node's min and max: kind 3 is a storage.
 fn bound_range(kind: u16, constant: u16) -> Range
-    ensures { result ≡ boundRange (eqb constant 1) (eqb kind 3) }
+    ensures { result ≡ bound_range (eqb constant 1) (eqb kind 3) }
 {
     if constant == 1 {
         return Range::Unread;
@@ -90,7 +90,7 @@ fn bound_range(kind: u16, constant: u16) -> Range
 }
 
 fn volume_range(kind: u16) -> Range
-    ensures { result ≡ volumeRange (eqb kind 3) }
+    ensures { result ≡ volume_range (eqb kind 3) }
 {
     if kind == 3 {
         return Range::Small;
@@ -100,7 +100,7 @@ fn volume_range(kind: u16) -> Range
 
 // The two letters of the record at `at`.
 fn check_mark(file: &[u8], at: usize, a: u8, b: u8) -> Answer
-    ensures { result ≡ checkMark file.now at a b }
+    ensures { result ≡ check_mark file.now at a b }
 {
     if fields::is_within(file, at, 2) {
         if (file[at] == a) & (file[at + 1] == b) {
@@ -113,7 +113,7 @@ fn check_mark(file: &[u8], at: usize, a: u8, b: u8) -> Answer
 
 // A double of the record at `place`.
 fn check_field(file: &[u8], place: usize, at: usize, range: Range) -> Answer
-    ensures { result ≡ checkField file.now place at range }
+    ensures { result ≡ check_field file.now place at range }
 {
     if fields::is_within(file, at, 8) {
         if in_range(range, fields::u64_at(file, at)) {
@@ -126,7 +126,7 @@ fn check_field(file: &[u8], place: usize, at: usize, range: Range) -> Answer
 
 // A double behind what was answered so far.
 fn field_after(before: Answer, file: &[u8], place: usize, at: usize, range: Range) -> Answer
-    ensures { result ≡ answerThen before (checkField file.now place at range) }
+    ensures { result ≡ answer_then before (check_field file.now place at range) }
 {
     match before {
         Answer::Refused(number, record) => Answer::Refused(number, record),
@@ -136,7 +136,7 @@ fn field_after(before: Answer, file: &[u8], place: usize, at: usize, range: Rang
 
 // A byte of the `ST` record, from 1 to `most`.
 fn check_byte(file: &[u8], at: usize, most: u8) -> Answer
-    ensures { result ≡ checkByte file.now at most }
+    ensures { result ≡ check_byte file.now at most }
 {
     if file.len() <= at {
         return Answer::Refused(12, 0);
@@ -149,7 +149,7 @@ fn check_byte(file: &[u8], at: usize, most: u8) -> Answer
 
 // The days of a month: 02-29 always exists.
 fn days_in(month: u8) -> u8
-    ensures { result ≡ daysIn month }
+    ensures { result ≡ days_in month }
 {
     if month == 2 {
         return 29;
@@ -162,7 +162,7 @@ fn days_in(month: u8) -> u8
 
 // `ST` month, day, days.
 pub fn check_date(file: &[u8]) -> Answer
-    ensures { result ≡ checkDate file.now }
+    ensures { result ≡ check_date file.now }
 {
     let mark = check_mark(file, 0, 83, 84);
     match mark {
@@ -183,7 +183,7 @@ pub fn check_date(file: &[u8]) -> Answer
 // `NB` cost, min, max, volume, of a node with this kind and flag.
 pub fn check_node(file: &[u8], at: usize, kind: u16, constant: u16) -> Answer
     requires { at ≤ 65536 }
-    ensures { result ≡ checkNode file.now (record { kind = kind; constant = eqb constant 1 }) at }
+    ensures { result ≡ check_node file.now (record { kind = kind; constant = eqb constant 1 }) at }
 {
     let bounds = bound_range(kind, constant);
     let mark = check_mark(file, at, 78, 66);
@@ -196,7 +196,7 @@ pub fn check_node(file: &[u8], at: usize, kind: u16, constant: u16) -> Answer
 // `GB` lower, upper.
 pub fn check_aggregate(file: &[u8], at: usize) -> Answer
     requires { at ≤ 65536 }
-    ensures { result ≡ checkAggregate file.now at }
+    ensures { result ≡ check_aggregate file.now at }
 {
     let mark = check_mark(file, at, 71, 66);
     let lower = field_after(mark, file, at, at + AGGREGATE_LOWER_OFFSET, Range::Flow);
@@ -206,7 +206,7 @@ pub fn check_aggregate(file: &[u8], at: usize) -> Answer
 // `VB` min, max, volume.
 pub fn check_virtual_storage_step(file: &[u8], at: usize) -> Answer
     requires { at ≤ 65536 }
-    ensures { result ≡ checkVirtualStorageStep file.now at }
+    ensures { result ≡ check_virtual_storage_step file.now at }
 {
     let mark = check_mark(file, at, 86, 66);
     let min = field_after(mark, file, at, at + VIRTUAL_MIN_OFFSET, Range::Small);

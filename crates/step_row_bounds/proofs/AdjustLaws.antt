@@ -12,9 +12,9 @@ use Rattle.pywr.specs.declared.Interval.{Interval}
 use Rattle.pywr.specs.Numbers.{zero64, lesser, greater}
 use Rattle.pywr.specs.Interval.{tighten}
 use Rattle.pywr.specs.Programme.{Row}
-use Rattle.pywr.specs.Step.{adjust, withBounds, applyRowBounds}
-use Rattle.pywr.specs.Written.{lowerOf, upperOf}
-use Rattle.pywr.proofs.StoreLaws.{Holds, sets-holds}
+use Rattle.pywr.specs.Step.{adjust, with_bounds, apply_row_bounds}
+use Rattle.pywr.specs.Written.{lower_of, upper_of}
+use Rattle.pywr.proofs.StoreLaws.{Holds, sets_holds}
 use Rattle.step_row_bounds.specs.RowBounds.{BoundsWritten, RowSet, RowTightened}
 
 -- ---- runs
@@ -25,58 +25,58 @@ module _ {A : Type 0} where
   set_before (x ∷ xs) l to at v h =
       set_before xs (set l to x) (suc to) at v (omega arith) ∙ ap (λ (t : List A). sets t (suc to) xs) (set_comm l to at x v (λ e. omega arith))
 
-  set-from : (xs l : List A) (to p : ℕ) (v : A) → p < length xs → set (sets l to xs) (to + p) v ≡ sets l to (set xs p v)
-  set-from [] l to p v h = absurd (not-suc-le-zero h)
-  set-from (x ∷ xs) l to zero v h =
+  set_from : (xs l : List A) (to p : ℕ) (v : A) → p < length xs → set (sets l to xs) (to + p) v ≡ sets l to (set xs p v)
+  set_from [] l to p v h = absurd (not-suc-le-zero h)
+  set_from (x ∷ xs) l to zero v h =
       ap (λ (k : ℕ). set (sets (set l to x) (suc to) xs) k v) (add-zero to)
       ∙ set_before xs (set l to x) (suc to) to v (omega arith)
       ∙ ap (λ (t : List A). sets t (suc to) xs) (set-set l to x v)
-  set-from (x ∷ xs) l to (suc p) v h =
+  set_from (x ∷ xs) l to (suc p) v h =
       ap (λ (k : ℕ). set (sets (set l to x) (suc to) xs) k v) (add-suc to p ∙ sym (suc-add to p))
-      ∙ set-from xs (set l to x) (suc to) p v (let k : suc p < suc (length xs) = h in omega arith)
+      ∙ set_from xs (set l to x) (suc to) p v (let k : suc p < suc (length xs) = h in omega arith)
 
   -- a store into what was written
-  set-written : (xs l : List A) (p : ℕ) (v : A) → p < length xs → set (sets l 0 xs) p v ≡ sets l 0 (set xs p v)
-  set-written xs l p v h = ap (λ (k : ℕ). set (sets l 0 xs) k v) (sym (zero-add p)) ∙ set-from xs l 0 p v h
+  set_written : (xs l : List A) (p : ℕ) (v : A) → p < length xs → set (sets l 0 xs) p v ≡ sets l 0 (set xs p v)
+  set_written xs l p v h = ap (λ (k : ℕ). set (sets l 0 xs) k v) (sym (zero-add p)) ∙ set_from xs l 0 p v h
 
   -- what was written stands there
-  get-written : (xs l : List A) (p : ℕ) (d : A) → p < length xs → length xs ≤ length l → get_or (sets l 0 xs) p d ≡ get_or xs p d
+  get_written : (xs l : List A) (p : ℕ) (d : A) → p < length xs → length xs ≤ length l → get_or (sets l 0 xs) p d ≡ get_or xs p d
   unfolding Holds
-  get-written xs l p d h room = ap (λ (k : ℕ). get_or (sets l 0 xs) k d) (sym (zero-add p)) ∙ sets-holds d xs l 0 (omega arith) p h
+  get_written xs l p d h room = ap (λ (k : ℕ). get_or (sets l 0 xs) k d) (sym (zero-add p)) ∙ sets_holds d xs l 0 (omega arith) p h
 
   -- a change of what was written
-  pub change-written : (xs l : List A) (p : ℕ) (d : A) (change : A → A) → p < length xs → length xs ≤ length l
+  pub change_written : (xs l : List A) (p : ℕ) (d : A) (change : A → A) → p < length xs → length xs ≤ length l
       → set (sets l 0 xs) p (change (get_or (sets l 0 xs) p d)) ≡ sets l 0 (set xs p (change (get_or xs p d)))
-  change-written xs l p d change h room =
-      ap (λ (y : A). set (sets l 0 xs) p (change y)) (get-written xs l p d h room) ∙ set-written xs l p (change (get_or xs p d)) h
+  change_written xs l p d change h room =
+      ap (λ (y : A). set (sets l 0 xs) p (change y)) (get_written xs l p d h room) ∙ set_written xs l p (change (get_or xs p d)) h
 
 -- ---- one row adjusted
 
 module _ (h : Row → Row) where
-  pub adjust-length : (r : ℕ) (rows : List Row) → length (adjust h r rows) ≡ length rows
+  pub adjust_length : (r : ℕ) (rows : List Row) → length (adjust h r rows) ≡ length rows
   unfolding adjust
-  adjust-length r [] = refl
-  adjust-length zero (x ∷ xs) = refl
-  adjust-length (suc r) (x ∷ xs) = ap suc (adjust-length r xs)
+  adjust_length r [] = refl
+  adjust_length zero (x ∷ xs) = refl
+  adjust_length (suc r) (x ∷ xs) = ap suc (adjust_length r xs)
 
-  map-adjusted : {A : Type 0} (f : Row → A) (r : ℕ) (rows : List Row) (d : Row) → map f (adjust h r rows) ≡ set (map f rows) r (f (h (get_or rows r d)))
+  map_adjusted : {A : Type 0} (f : Row → A) (r : ℕ) (rows : List Row) (d : Row) → map f (adjust h r rows) ≡ set (map f rows) r (f (h (get_or rows r d)))
   unfolding adjust
-  map-adjusted f r [] d = refl
-  map-adjusted f zero (x ∷ xs) d = refl
-  map-adjusted {A} f (suc r) (x ∷ xs) d = ap (λ (l : List A). f x ∷ l) (map-adjusted f r xs d)
+  map_adjusted f r [] d = refl
+  map_adjusted f zero (x ∷ xs) d = refl
+  map_adjusted {A} f (suc r) (x ∷ xs) d = ap (λ (l : List A). f x ∷ l) (map_adjusted f r xs d)
 
   -- what no row's adjustment changes
-  pub map-kept : {A : Type 0} (f : Row → A) → ((x : Row) → f (h x) ≡ f x) → (r : ℕ) (rows : List Row) → map f (adjust h r rows) ≡ map f rows
+  pub map_kept : {A : Type 0} (f : Row → A) → ((x : Row) → f (h x) ≡ f x) → (r : ℕ) (rows : List Row) → map f (adjust h r rows) ≡ map f rows
   unfolding adjust
-  map-kept f e r [] = refl
-  map-kept {A} f e zero (x ∷ xs) = ap (λ (a : A). a ∷ map f xs) (e x)
-  map-kept {A} f e (suc r) (x ∷ xs) = ap (λ (l : List A). f x ∷ l) (map-kept f e r xs)
+  map_kept f e r [] = refl
+  map_kept {A} f e zero (x ∷ xs) = ap (λ (a : A). a ∷ map f xs) (e x)
+  map_kept {A} f e (suc r) (x ∷ xs) = ap (λ (l : List A). f x ∷ l) (map_kept f e r xs)
 
-  pub flat-kept : {A : Type 0} (f : Row → List A) → ((x : Row) → f (h x) ≡ f x) → (r : ℕ) (rows : List Row) → flat_map f (adjust h r rows) ≡ flat_map f rows
+  pub flat_kept : {A : Type 0} (f : Row → List A) → ((x : Row) → f (h x) ≡ f x) → (r : ℕ) (rows : List Row) → flat_map f (adjust h r rows) ≡ flat_map f rows
   unfolding adjust flat_map
-  flat-kept f e r [] = refl
-  flat-kept {A} f e zero (x ∷ xs) = ap (λ (l : List A). l ++ flat_map f xs) (e x)
-  flat-kept {A} f e (suc r) (x ∷ xs) = ap (λ (l : List A). f x ++ l) (flat-kept f e r xs)
+  flat_kept f e r [] = refl
+  flat_kept {A} f e zero (x ∷ xs) = ap (λ (l : List A). l ++ flat_map f xs) (e x)
+  flat_kept {A} f e (suc r) (x ∷ xs) = ap (λ (l : List A). f x ++ l) (flat_kept f e r xs)
 
 -- ---- bounds
 
@@ -86,80 +86,80 @@ no_row = record { lower = zero64; upper = zero64; elements = [] }
 
 -- a bound changed in its run is the bound of the row changed
 module _ (f : Row → Float) (h : Row → Row) (change : Float → Float) (e : (row : Row) → f (h row) ≡ change (f row)) where
-  bound-changed : (rows : List Row) (l : List Float) (r : ℕ) → r < length rows → length rows ≤ length l
+  bound_changed : (rows : List Row) (l : List Float) (r : ℕ) → r < length rows → length rows ≤ length l
       → set (sets l 0 (map f rows)) r (change (get_or (sets l 0 (map f rows)) r zero64)) ≡ sets l 0 (map f (adjust h r rows))
-  bound-changed rows l r lt room =
+  bound_changed rows l r lt room =
       let n = length-map rows f in
       let m : r < length (map f rows) = omega arith in
       let here : get_or (map f rows) r zero64 ≡ f (get_or rows r no_row) = get_d_any (map f rows) r zero64 (f no_row) m ∙ get_or-map f rows r no_row in
-      change-written (map f rows) l r zero64 change m (omega arith)
+      change_written (map f rows) l r zero64 change m (omega arith)
       ∙ ap (λ (y : Float). sets l 0 (set (map f rows) r y)) (ap change here ∙ sym (e (get_or rows r no_row)))
-      ∙ ap (sets l 0) (sym (map-adjusted h f r rows no_row))
+      ∙ ap (sets l 0) (sym (map_adjusted h f r rows no_row))
 
-lower-set : (i : Interval) (row : Row) → lowerOf (withBounds i row) ≡ i.lower
-unfolding lowerOf withBounds
-lower-set i row = refl
+lower_set : (i : Interval) (row : Row) → lower_of (with_bounds i row) ≡ i.lower
+unfolding lower_of with_bounds
+lower_set i row = refl
 
-upper-set : (i : Interval) (row : Row) → upperOf (withBounds i row) ≡ i.upper
-unfolding upperOf withBounds
-upper-set i row = refl
+upper_set : (i : Interval) (row : Row) → upper_of (with_bounds i row) ≡ i.upper
+unfolding upper_of with_bounds
+upper_set i row = refl
 
-lower-tightened : (by : Interval) (row : Row) → lowerOf (applyRowBounds by row) ≡ greater (lowerOf row) by.lower
-unfolding lowerOf applyRowBounds withBounds tighten
-lower-tightened by row = refl
+lower_tightened : (by : Interval) (row : Row) → lower_of (apply_row_bounds by row) ≡ greater (lower_of row) by.lower
+unfolding lower_of apply_row_bounds with_bounds tighten
+lower_tightened by row = refl
 
-upper-tightened : (by : Interval) (row : Row) → upperOf (applyRowBounds by row) ≡ lesser (upperOf row) by.upper
-unfolding upperOf applyRowBounds withBounds tighten
-upper-tightened by row = refl
+upper_tightened : (by : Interval) (row : Row) → upper_of (apply_row_bounds by row) ≡ lesser (upper_of row) by.upper
+unfolding upper_of apply_row_bounds with_bounds tighten
+upper_tightened by row = refl
 
-written-length : (l l' xs : List Float) → l' ≡ sets l 0 xs → length l' ≡ length l
-written-length l l' xs e = ap length e ∙ length-sets l 0 xs
+written_length : (l l' xs : List Float) → l' ≡ sets l 0 xs → length l' ≡ length l
+written_length l l' xs e = ap length e ∙ length-sets l 0 xs
 
 module _ (rows : List Row) (lower upper lower' upper' lower'' upper'' : List Float) where
   -- a row tightened in its runs is the row tightened
   pub tightened : (r : ℕ) (by : Interval) → r < length rows → length rows ≤ length lower' → length rows ≤ length upper'
       → BoundsWritten rows lower upper lower' upper' → RowTightened r by lower' upper' lower'' upper''
-      → BoundsWritten (adjust (applyRowBounds by) r rows) lower upper lower'' upper''
+      → BoundsWritten (adjust (apply_row_bounds by) r rows) lower upper lower'' upper''
   tightened r by lt rl ru w t =
-      let nl = written-length lower lower' (map lowerOf rows) w.lowers in
-      let nu = written-length upper upper' (map upperOf rows) w.uppers in
+      let nl = written_length lower lower' (map lower_of rows) w.lowers in
+      let nu = written_length upper upper' (map upper_of rows) w.uppers in
       record {
         lowers = t.lowers ∙ ap (λ (l : List Float). set l r (greater (get_or l r zero64) by.lower)) w.lowers
-            ∙ bound-changed lowerOf (applyRowBounds by) (λ held. greater held by.lower) (lower-tightened by) rows lower r lt (omega arith);
+            ∙ bound_changed lower_of (apply_row_bounds by) (λ held. greater held by.lower) (lower_tightened by) rows lower r lt (omega arith);
         uppers = t.uppers ∙ ap (λ (l : List Float). set l r (lesser (get_or l r zero64) by.upper)) w.uppers
-            ∙ bound-changed upperOf (applyRowBounds by) (λ held. lesser held by.upper) (upper-tightened by) rows upper r lt (omega arith);
+            ∙ bound_changed upper_of (apply_row_bounds by) (λ held. lesser held by.upper) (upper_tightened by) rows upper r lt (omega arith);
       }
 
   -- a row's bounds set in their runs are those of the row with the interval
-  pub bounds-set : (r : ℕ) (i : Interval) → r < length rows → length rows ≤ length lower' → length rows ≤ length upper'
+  pub bounds_set : (r : ℕ) (i : Interval) → r < length rows → length rows ≤ length lower' → length rows ≤ length upper'
       → BoundsWritten rows lower upper lower' upper' → RowSet r i lower' upper' lower'' upper''
-      → BoundsWritten (adjust (withBounds i) r rows) lower upper lower'' upper''
-  bounds-set r i lt rl ru w t =
-      let nl = written-length lower lower' (map lowerOf rows) w.lowers in
-      let nu = written-length upper upper' (map upperOf rows) w.uppers in
+      → BoundsWritten (adjust (with_bounds i) r rows) lower upper lower'' upper''
+  bounds_set r i lt rl ru w t =
+      let nl = written_length lower lower' (map lower_of rows) w.lowers in
+      let nu = written_length upper upper' (map upper_of rows) w.uppers in
       record {
-        lowers = t.lowers ∙ ap (λ (l : List Float). set l r i.lower) w.lowers ∙ bound-changed lowerOf (withBounds i) (λ held. i.lower) (lower-set i) rows lower r lt (omega arith);
-        uppers = t.uppers ∙ ap (λ (l : List Float). set l r i.upper) w.uppers ∙ bound-changed upperOf (withBounds i) (λ held. i.upper) (upper-set i) rows upper r lt (omega arith);
+        lowers = t.lowers ∙ ap (λ (l : List Float). set l r i.lower) w.lowers ∙ bound_changed lower_of (with_bounds i) (λ held. i.lower) (lower_set i) rows lower r lt (omega arith);
+        uppers = t.uppers ∙ ap (λ (l : List Float). set l r i.upper) w.uppers ∙ bound_changed upper_of (with_bounds i) (λ held. i.upper) (upper_set i) rows upper r lt (omega arith);
       }
 
 -- ---- rows reset to one interval
 
 module _ (i : Interval) where
-  lowers-reset : (rows : List Row) → map lowerOf (map (withBounds i) rows) ≡ replicate (length rows) i.lower
-  unfolding lowerOf withBounds
-  lowers-reset [] = refl
-  lowers-reset (x ∷ xs) = ap (λ (l : List Float). i.lower ∷ l) (lowers-reset xs)
+  lowers_reset : (rows : List Row) → map lower_of (map (with_bounds i) rows) ≡ replicate (length rows) i.lower
+  unfolding lower_of with_bounds
+  lowers_reset [] = refl
+  lowers_reset (x ∷ xs) = ap (λ (l : List Float). i.lower ∷ l) (lowers_reset xs)
 
-  uppers-reset : (rows : List Row) → map upperOf (map (withBounds i) rows) ≡ replicate (length rows) i.upper
-  unfolding upperOf withBounds
-  uppers-reset [] = refl
-  uppers-reset (x ∷ xs) = ap (λ (l : List Float). i.upper ∷ l) (uppers-reset xs)
+  uppers_reset : (rows : List Row) → map upper_of (map (with_bounds i) rows) ≡ replicate (length rows) i.upper
+  unfolding upper_of with_bounds
+  uppers_reset [] = refl
+  uppers_reset (x ∷ xs) = ap (λ (l : List Float). i.upper ∷ l) (uppers_reset xs)
 
   pub reset : (rows : List Row) (n : ℕ) (lower upper lower' upper' : List Float) → length rows ≡ n
       → lower' ≡ sets lower 0 (replicate n i.lower) → upper' ≡ sets upper 0 (replicate n i.upper)
-      → BoundsWritten (map (withBounds i) rows) lower upper lower' upper'
+      → BoundsWritten (map (with_bounds i) rows) lower upper lower' upper'
   reset rows n lower upper lower' upper' e el eu =
       record {
-        lowers = el ∙ ap (λ (k : ℕ). sets lower 0 (replicate k i.lower)) (sym e) ∙ ap (sets lower 0) (sym (lowers-reset rows));
-        uppers = eu ∙ ap (λ (k : ℕ). sets upper 0 (replicate k i.upper)) (sym e) ∙ ap (sets upper 0) (sym (uppers-reset rows));
+        lowers = el ∙ ap (λ (k : ℕ). sets lower 0 (replicate k i.lower)) (sym e) ∙ ap (sets lower 0) (sym (lowers_reset rows));
+        uppers = eu ∙ ap (λ (k : ℕ). sets upper 0 (replicate k i.upper)) (sym e) ∙ ap (sets upper 0) (sym (uppers_reset rows));
       }

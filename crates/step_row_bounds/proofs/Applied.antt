@@ -6,19 +6,19 @@ use native.Mathlib.Omega.{arith}
 use mathlib.Core.List.{List}
 use lib.ListN.{length, get_or}
 use lib.Ieee.{Float}
-use Rattle.layout.specs.Layout.{shapeLength}
+use Rattle.layout.specs.Layout.{shape_length}
 use Rattle.pywr.specs.declared.Interval.{Interval}
 use Rattle.pywr.specs.Programme.{Row}
 use Rattle.pywr.specs.Store.{entries}
-use Rattle.pywr.specs.Step.{adjust, applyRowBounds, applyIntervals}
-use Rattle.step_work.specs.WorkRun.{held_at, heldFrom}
+use Rattle.pywr.specs.Step.{adjust, apply_row_bounds, apply_intervals}
+use Rattle.step_work.specs.WorkRun.{held_at, held_from}
 use Rattle.step_row_bounds.specs.RowBounds.{BoundsWritten, RowTightened, RowTable}
-use Rattle.step_row_bounds.proofs.AdjustLaws.{adjust-length, tightened}
+use Rattle.step_row_bounds.proofs.AdjustLaws.{adjust_length, tightened}
 
 module _ {shape : List ℕ} {table words count : ℕ} (t : RowTable shape table words count) where
   -- the entry at i, and the row that it names
-  pub entry-within : (at i : ℕ) → i < count → at ≡ table + words * i → at + words ≤ shapeLength
-  entry-within at i lt e =
+  pub entry_within : (at i : ℕ) → i < count → at ≡ table + words * i → at + words ≤ shape_length
+  entry_within at i lt e =
       let m : words * (i + 1) ≤ words * count = mul-le-mul_left words (omega arith) in
       let q : words * (i + 1) ≡ words * i + words = rw (mul-add, mul-one) in
       omega (arith, t.within)
@@ -29,7 +29,7 @@ module _ {shape : List ℕ} {table words count : ℕ} (t : RowTable shape table 
 module _ (shape : List ℕ) (work : List Float) (words : ℕ) where
   -- the rest of the table, and of the intervals
   abbrev pub applied : ℕ → ℕ → ℕ → List Row → List Row
-  applied at first count rows = applyIntervals (entries (λ a. get_or shape a 0) words at count) (heldFrom work first count) rows
+  applied at first count rows = apply_intervals (entries (λ a. get_or shape a 0) words at count) (held_from work first count) rows
 
   -- what is left to apply to the rows that the runs hold now
   pub record Left (rows : List Row) (table first count : ℕ) (lower upper lower' upper' : List Float) (at i : ℕ) : Type 0 where
@@ -47,8 +47,8 @@ module _ (shape : List ℕ) (work : List Float) (words table first count : ℕ) 
     pub rest : (rows : List Row) (lower upper : List Float) → length rows ≡ get_or shape 5 0 → BoundsWritten rows lower upper lower₀ upper₀
         → Left shape work words rows table first count lower upper lower' upper' at i
 
-  pub applied-none : Applied lower₀ upper₀ table 0
-  applied-none =
+  pub applied_none : Applied lower₀ upper₀ table 0
+  applied_none =
       record {
         few = zero-le;
         place = rw (mul-zero, add-zero);
@@ -58,12 +58,12 @@ module _ (shape : List ℕ) (work : List Float) (words table first count : ℕ) 
       }
 
   module _ {lower' upper' : List Float} {at i : ℕ} (h : Applied lower' upper' at i) where
-    pub applied-more : (lower'' upper'' : List Float) (row : ℕ) (by : Interval) → i < count → row ≡ get_or shape at 0 → by ≡ held_at work (first + i)
+    pub applied_more : (lower'' upper'' : List Float) (row : ℕ) (by : Interval) → i < count → row ≡ get_or shape at 0 → by ≡ held_at work (first + i)
         → row < get_or shape 5 0 → get_or shape 5 0 ≤ length lower₀ → get_or shape 5 0 ≤ length upper₀
         → length lower'' ≡ length lower' → length upper'' ≡ length upper'
         → RowTightened row by lower' upper' lower'' upper'' → Applied lower'' upper'' (at + words) (i + 1)
-    unfolding entries heldFrom applyIntervals
-    applied-more lower'' upper'' row by lt er eb under roomL roomU kl ku t =
+    unfolding entries held_from apply_intervals
+    applied_more lower'' upper'' row by lt er eb under room_l room_u kl ku t =
         record {
           few = omega arith;
           place = rw (h.place, mul-add, mul-one, add_assoc);
@@ -75,18 +75,18 @@ module _ (shape : List ℕ) (work : List Float) (words table first count : ℕ) 
               let q : count - i ≡ suc (count - (i + 1)) = omega arith in
               let p : first + i + 1 ≡ first + (i + 1) = omega arith in
               record {
-                now = adjust (applyRowBounds by) row n;
-                many = adjust-length (applyRowBounds by) row n ∙ l.many;
+                now = adjust (apply_row_bounds by) row n;
+                many = adjust_length (apply_row_bounds by) row n ∙ l.many;
                 written = tightened n lower upper lower' upper' lower'' upper'' row by (omega (arith, l.many, e)) (omega (arith, l.many, e, h.lower_long))
                     (omega (arith, l.many, e, h.upper_long)) l.written t;
                 so_far = l.so_far ∙ rw (q, p, er, eb);
               };
         }
 
-    pub applied-all : count ≤ i → (rows : List Row) (lower upper : List Float) → length rows ≡ get_or shape 5 0 → BoundsWritten rows lower upper lower₀ upper₀
+    pub applied_all : count ≤ i → (rows : List Row) (lower upper : List Float) → length rows ≡ get_or shape 5 0 → BoundsWritten rows lower upper lower₀ upper₀
         → BoundsWritten (applied shape work words table first count rows) lower upper lower' upper'
-    unfolding entries heldFrom applyIntervals
-    applied-all le rows lower upper e w =
+    unfolding entries held_from apply_intervals
+    applied_all le rows lower upper e w =
         let l = h.rest rows lower upper e w in
         let z = sub-eq-zero_of_le le in
         let e : applied shape work words table first count rows ≡ l.now = l.so_far ∙ (let q : applied shape work words at (first + i) (count - i) l.now ≡ l.now = rw z in q) in

@@ -1,12 +1,12 @@
 // Row bounds of a step: varying rows reset to the sentinels, a row's bounds set or tightened by an interval (reset_row_bounds and apply_row_bounds of
 // builder.rs).
 ghost use Rattle.std.specs.Prelude.{◌≡◌, ◌+◌, ◌<◌, ◌≤◌, List, map, length, Float};
-ghost use Rattle.layout.specs.Layout.{rowCeiling, shapeLength, sentinelIn, varyingIn, entryRow, uppersAt, stepWorkLength};
+ghost use Rattle.layout.specs.Layout.{row_ceiling, shape_length, sentinel_in, varying_in, entry_row, uppers_at, step_work_length};
 ghost use Rattle.pywr.specs.Interval.{tighten, sentinels};
 ghost use Rattle.pywr.specs.Programme.{Row};
-ghost use Rattle.pywr.specs.Store.{sentinelOf, entries};
-ghost use Rattle.pywr.specs.Step.{withBounds, applyIntervals};
-ghost use Rattle.step_work.specs.WorkRun.{held_at, heldFrom};
+ghost use Rattle.pywr.specs.Store.{sentinel_of, entries};
+ghost use Rattle.pywr.specs.Step.{with_bounds, apply_intervals};
+ghost use Rattle.step_work.specs.WorkRun.{held_at, held_from};
 ghost use Rattle.step_row_bounds.specs.RowBounds.{BoundsWritten, RowSet, RowTightened, RowTable};
 
 use extremes::{greater, lesser};
@@ -17,7 +17,7 @@ use widths::wide16;
 
 // Interval k of a step's work run.
 pub fn held_interval(work: &[f64], k: usize) -> Interval
-    requires { (stepWorkLength ≤ length work.now) × (k < uppersAt) }
+    requires { (step_work_length ≤ length work.now) × (k < uppers_at) }
     ensures { result ≡ held_at work.now k }
 {
     Interval {
@@ -28,9 +28,9 @@ pub fn held_interval(work: &[f64], k: usize) -> Interval
 
 // Every varying row's bounds become the store's sentinels.
 pub fn reset_row_bounds(row_lower: &mut [f64], row_upper: &mut [f64], shape: &[u16])
-    requires { (shapeLength ≤ length shape.now) × (varyingIn shape.now ≤ rowCeiling) × (rowCeiling ≤ length row_lower.old) × (rowCeiling ≤ length row_upper.old) }
-    ensures { (rows : List Row) → length rows ≡ varyingIn shape.now
-        → BoundsWritten (map (withBounds (sentinels (sentinelOf (sentinelIn shape.now)))) rows)
+    requires { (shape_length ≤ length shape.now) × (varying_in shape.now ≤ row_ceiling) × (row_ceiling ≤ length row_lower.old) × (row_ceiling ≤ length row_upper.old) }
+    ensures { (rows : List Row) → length rows ≡ varying_in shape.now
+        → BoundsWritten (map (with_bounds (sentinels (sentinel_of (sentinel_in shape.now)))) rows)
         row_lower.old row_upper.old row_lower.new row_upper.new }
 {
     let sentinel = kept_sentinel(shape);
@@ -80,11 +80,11 @@ pub fn apply_intervals(
     work: &[f64],
     first: usize,
 )
-    requires { RowTable shape.now table words count × (rowCeiling ≤ length row_lower.old) × (rowCeiling ≤ length row_upper.old)
-        × (stepWorkLength ≤ length work.now) × (first + count ≤ uppersAt) }
-    ensures { (rows : List Row) (lower upper : List Float) → length rows ≡ varyingIn shape.now
+    requires { RowTable shape.now table words count × (row_ceiling ≤ length row_lower.old) × (row_ceiling ≤ length row_upper.old)
+        × (step_work_length ≤ length work.now) × (first + count ≤ uppers_at) }
+    ensures { (rows : List Row) (lower upper : List Float) → length rows ≡ varying_in shape.now
         → BoundsWritten rows lower upper row_lower.old row_upper.old
-        → BoundsWritten (applyIntervals (entries (λ at. entryRow shape.now at) words table count) (heldFrom work.now first count) rows)
+        → BoundsWritten (apply_intervals (entries (λ at. entry_row shape.now at) words table count) (held_from work.now first count) rows)
         lower upper row_lower.new row_upper.new }
 {
     let mut at = table;

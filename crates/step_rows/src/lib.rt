@@ -1,12 +1,12 @@
 // The varying rows of a step: reset to the sentinels, then tightened by the intervals of the nodes, the aggregates and the virtual
 // storages; last the binary rows, whose bounds no interval moves (BuiltSolver::update and apply_updated_coefficients of builder.rs).
 ghost use Rattle.std.specs.Prelude.{ℕ, ◌+◌, ◌*◌, ◌<◌, ◌≤◌, List, length};
-ghost use Rattle.layout.specs.Layout.{nodeRowCeiling, rowCeiling, elementCeiling, nodeRowsAt, nodeRowWidth, nodeRowsIn, stepWorkLength};
+ghost use Rattle.layout.specs.Layout.{node_row_ceiling, row_ceiling, element_ceiling, node_rows_at, node_row_width, node_rows_in, step_work_length};
 ghost use Rattle.pywr.specs.Programme.{Row};
 ghost use Rattle.pywr.specs.StepIntervals.{Intervals};
 ghost use Rattle.pywr.specs.Store.{Store};
 ghost use Rattle.step_node_rows.specs.NodeConstraintBounds.{over, VaryingWritten, NodeRowFits, VaryingFit};
-ghost use Rattle.step_rows.specs.ConstraintBounds.{store_of, StepRuns, StepWritten, HasRuns, HeldIn, binaryRowsUpdated};
+ghost use Rattle.step_rows.specs.ConstraintBounds.{store_of, StepRuns, StepWritten, HasRuns, HeldIn, binary_rows_updated};
 
 use layout::{
     AGGREGATE_COUNT_AT, AGGREGATE_WIDTH, AGGREGATES_AT, AGGREGATES_HELD_AT,
@@ -26,14 +26,14 @@ fn update_binary_rows(
     shape: &[u16],
     work: &[f64],
 )
-    requires { (rowCeiling ≤ length row_lower.old) × (rowCeiling ≤ length row_upper.old) × (elementCeiling ≤ length elements.old) × (stepWorkLength ≤ length work.now)
-        × VaryingFit columns.now row_starts.now shape.now × (nodeRowsIn shape.now ≤ nodeRowCeiling)
-        × ((k : ℕ) → k < nodeRowsIn shape.now → NodeRowFits columns.now row_starts.now shape.now (nodeRowsAt + nodeRowWidth * k)) }
+    requires { (row_ceiling ≤ length row_lower.old) × (row_ceiling ≤ length row_upper.old) × (element_ceiling ≤ length elements.old) × (step_work_length ≤ length work.now)
+        × VaryingFit columns.now row_starts.now shape.now × (node_rows_in shape.now ≤ node_row_ceiling)
+        × ((k : ℕ) → k < node_rows_in shape.now → NodeRowFits columns.now row_starts.now shape.now (node_rows_at + node_row_width * k)) }
     ensures { (s : Store) (rows : List Row)
         → VaryingWritten (over s columns.now row_starts.now shape.now) rows
         row_lower.old row_upper.old elements.old
         → VaryingWritten (over s columns.now row_starts.now shape.now)
-        (binaryRowsUpdated (over s columns.now row_starts.now shape.now) work.now rows)
+        (binary_rows_updated (over s columns.now row_starts.now shape.now) work.now rows)
         row_lower.new row_upper.new elements.new }
 {
     reset_binary_rows(row_lower, row_upper, elements, columns, row_starts, shape);

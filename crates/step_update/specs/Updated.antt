@@ -1,32 +1,32 @@
 -- What the writing of a step needs and promises: of the costs, and of the varying rows. Assumes nothing.
 use Rattle.std.specs.Prelude.{◌≡◌, true, List, ℕ, ◌≤◌, length, Float}
 use Rattle.std.proofs.lemmas.List.Edits.{sets}
-use Rattle.layout.specs.Layout.{nodeCeiling, edgeCeiling, setCeiling, columnCeiling, shapeLength, edges_at, edgeWidth, nodesIn, edgesIn, edgeColumnsIn, setsIn}
-use Rattle.layout.specs.Layout.{flowOrderAt, flowOrderWidth}
-use Rattle.pywr.specs.Store.{Store, edge_count, columnCount, shape_of}
-use Rattle.pywr.specs.Misshapen.{edgeFits, flowOrderFits, allEntries}
-use Rattle.pywr.specs.Costs.{stepCosts}
+use Rattle.layout.specs.Layout.{node_ceiling, edge_ceiling, set_ceiling, column_ceiling, shape_length, edges_at, edge_width, nodes_in, edges_in, edge_columns_in, sets_in}
+use Rattle.layout.specs.Layout.{flow_order_at, flow_order_width}
+use Rattle.pywr.specs.Store.{Store, edge_count, column_count, shape_of}
+use Rattle.pywr.specs.Misshapen.{edge_fits, flow_order_fits, all_entries}
+use Rattle.pywr.specs.Costs.{step_costs}
 use Rattle.pywr.specs.StepIntervals.{Intervals}
-use Rattle.step_file.specs.Decoded.{decoded, aggregateStepsAt}
+use Rattle.step_file.specs.Decoded.{decoded, aggregate_steps_at}
 use Rattle.step_costs.specs.NodeCosts.{CostsAreNumbers}
 use Rattle.step_rows.specs.ConstraintBounds.{store_of, StepRuns, StepWritten, HasRuns, HeldIn}
 
 -- as `update_edge_objectives` asks; the room of the work run is in `RowsReady`
 abbrev pub CostsReady : List ℕ → List Float → List ℕ → Type 0
 CostsReady file costs shape =
-    (shapeLength ≤ length shape) × (columnCeiling ≤ length costs) × (nodesIn shape ≤ nodeCeiling) × (edgesIn shape ≤ edgeCeiling) × (edgeColumnsIn shape ≤ edgeCeiling) × (setsIn shape ≤ setCeiling)
-    × ((s : Store) → s.shape ≡ shape → allEntries (edgeFits s) edgeWidth edges_at (edge_count s) ≡ true)
-    × ((s : Store) → s.shape ≡ shape → allEntries (flowOrderFits s) flowOrderWidth flowOrderAt (edge_count s) ≡ true)
-    × (aggregateStepsAt (nodesIn shape) ≤ length file) × CostsAreNumbers file shape
+    (shape_length ≤ length shape) × (column_ceiling ≤ length costs) × (nodes_in shape ≤ node_ceiling) × (edges_in shape ≤ edge_ceiling) × (edge_columns_in shape ≤ edge_ceiling) × (sets_in shape ≤ set_ceiling)
+    × ((s : Store) → s.shape ≡ shape → all_entries (edge_fits s) edge_width edges_at (edge_count s) ≡ true)
+    × ((s : Store) → s.shape ≡ shape → all_entries (flow_order_fits s) flow_order_width flow_order_at (edge_count s) ≡ true)
+    × (aggregate_steps_at (nodes_in shape) ≤ length file) × CostsAreNumbers file shape
 
 abbrev pub CostsUpdated : List ℕ → List ℕ → List Float → List Float → Type 0
 CostsUpdated file shape costs costs' =
-    (s : Store) (a v : ℕ) → s.shape ≡ shape → costs' ≡ sets costs 0 (stepCosts (shape_of s) (columnCount s) (decoded (shape_of s).nodes a v file).nodes)
+    (s : Store) (a v : ℕ) → s.shape ≡ shape → costs' ≡ sets costs 0 (step_costs (shape_of s) (column_count s) (decoded (shape_of s).nodes a v file).nodes)
 
 -- as `update_constraint_bounds` asks
 abbrev pub RowsReady : List Float → List Float → List Float → List ℕ → List ℕ → List ℕ → List Float → Type 0
-RowsReady rowLower rowUpper elements columns rowStarts shape work = StepRuns (store_of rowLower rowUpper elements columns rowStarts shape) work
+RowsReady row_lower row_upper elements columns row_starts shape work = StepRuns (store_of row_lower row_upper elements columns row_starts shape) work
 
 abbrev pub RowsUpdated : List Float → List Float → List Float → List ℕ → List ℕ → List ℕ → List Float → List Float → List Float → List Float → Type 0
-RowsUpdated rowLower rowUpper elements columns rowStarts shape work rowLower' rowUpper' elements' =
-    (s : Store) (i : Intervals) → HasRuns s rowLower rowUpper elements columns rowStarts shape → HeldIn s work i → StepWritten s i rowLower' rowUpper' elements'
+RowsUpdated row_lower row_upper elements columns row_starts shape work row_lower' row_upper' elements' =
+    (s : Store) (i : Intervals) → HasRuns s row_lower row_upper elements columns row_starts shape → HeldIn s work i → StepWritten s i row_lower' row_upper' elements'

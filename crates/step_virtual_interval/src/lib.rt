@@ -1,16 +1,16 @@
 // The interval of a virtual storage on the date of a step (virtual_storage.rs).
 ghost use Rattle.std.specs.Prelude.{◌≡◌, ◌+◌, ◌≤◌, length};
-ghost use Rattle.layout.specs.Layout.{virtualStorageWidth};
-ghost use Rattle.step_record.specs.Check.{daysOffset, virtualStorageStepLength};
-ghost use Rattle.step_file.specs.Decoded.{virtualStorageStepAt};
-ghost use Rattle.step_virtual_interval.specs.VirtualInterval.{virtualIntervalAt};
+ghost use Rattle.layout.specs.Layout.{virtual_storage_width};
+ghost use Rattle.step_record.specs.Check.{days_offset, virtual_storage_step_length};
+ghost use Rattle.step_file.specs.Decoded.{virtual_storage_step_at};
+ghost use Rattle.step_virtual_interval.specs.VirtualInterval.{virtual_interval_at};
 
 use pywr::{Interval, NodeBounds, Sentinel};
 
 // The available and missing volume of the virtual storage whose record stands at `at`.
 fn bounds_at(file: &[u8], at: usize) -> NodeBounds
-    requires { at + virtualStorageStepLength ≤ length file.now }
-    ensures { result ≡ virtualStorageStepAt file.now at }
+    requires { at + virtual_storage_step_length ≤ length file.now }
+    ensures { result ≡ virtual_storage_step_at file.now at }
 {
     let min = step_fields::virtual_min(file, at);
     let max = step_fields::virtual_max(file, at);
@@ -27,8 +27,8 @@ pub fn virtual_storage_interval(
     days: f64,
     sentinel: Sentinel,
 ) -> Interval
-    requires { (daysOffset ≤ length file.now) × (at + virtualStorageStepLength ≤ length file.now) × (place + virtualStorageWidth ≤ length shape.now) }
-    ensures { result ≡ virtualIntervalAt sentinel days shape.now file.now place at }
+    requires { (days_offset ≤ length file.now) × (at + virtual_storage_step_length ≤ length file.now) × (place + virtual_storage_width ≤ length shape.now) }
+    ensures { result ≡ virtual_interval_at sentinel days shape.now file.now place at }
 {
     let month = step_fields::month(file);
     let day = step_fields::day(file);

@@ -1,9 +1,9 @@
 // The virtual storages' intervals of a step, written into the lent work run. They are not compared: none is crossed (pywr's UncrossedLaws).
 ghost use Rattle.std.specs.Prelude.{◌≤◌, length};
-ghost use Rattle.layout.specs.Layout.{nodeCeiling, aggregateCeiling, virtualStorageCeiling, shapeLength, nodesIn, aggregatesIn, virtualStoragesIn, virtualStoragesHeldAt, stepWorkLength};
-ghost use Rattle.step_file.specs.Decoded.{fileLength};
+ghost use Rattle.layout.specs.Layout.{node_ceiling, aggregate_ceiling, virtual_storage_ceiling, shape_length, nodes_in, aggregates_in, virtual_storages_in, virtual_storages_held_at, step_work_length};
+ghost use Rattle.step_file.specs.Decoded.{file_length};
 ghost use Rattle.step_work.specs.Written.{Written};
-ghost use Rattle.step_virtual_storage_intervals.specs.VirtualStorageIntervals.{virtualStorageNumbered};
+ghost use Rattle.step_virtual_storage_intervals.specs.VirtualStorageIntervals.{virtual_storage_numbered};
 
 use layout::{
     AGGREGATE_COUNT_AT, NODE_COUNT_AT, UPPERS_AT, VIRTUAL_STORAGE_COUNT_AT, VIRTUAL_STORAGE_WIDTH,
@@ -19,11 +19,11 @@ pub fn find_virtual_storage_intervals(
     sentinel: Sentinel,
     work: &mut [f64],
 )
-    requires { (shapeLength ≤ length shape.now) × (stepWorkLength ≤ length work.old) × (nodesIn shape.now ≤ nodeCeiling)
-        × (aggregatesIn shape.now ≤ aggregateCeiling) × (virtualStoragesIn shape.now ≤ virtualStorageCeiling)
-        × (fileLength (nodesIn shape.now) (aggregatesIn shape.now) (virtualStoragesIn shape.now) ≤ length file.now) }
-    ensures { Written (virtualStorageNumbered sentinel days shape.now file.now) virtualStoragesHeldAt
-        (virtualStoragesIn shape.now) work.old work.new }
+    requires { (shape_length ≤ length shape.now) × (step_work_length ≤ length work.old) × (nodes_in shape.now ≤ node_ceiling)
+        × (aggregates_in shape.now ≤ aggregate_ceiling) × (virtual_storages_in shape.now ≤ virtual_storage_ceiling)
+        × (file_length (nodes_in shape.now) (aggregates_in shape.now) (virtual_storages_in shape.now) ≤ length file.now) }
+    ensures { Written (virtual_storage_numbered sentinel days shape.now file.now) virtual_storages_held_at
+        (virtual_storages_in shape.now) work.old work.new }
 {
     let nodes = wide16(shape[NODE_COUNT_AT]);
     let aggregates = wide16(shape[AGGREGATE_COUNT_AT]);

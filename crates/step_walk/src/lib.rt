@@ -1,13 +1,13 @@
 // A good step file walked once: each record is checked and its interval written into the lent work run in one look. At the first record that is not good the
 // walk stops; which refusal that is, the reading of the file (step_file) and of its intervals (step_intervals) says.
 ghost use Rattle.std.specs.Prelude.{◌≡◌, ◌≤◌, true, length};
-ghost use Rattle.layout.specs.Layout.{nodeCeiling, aggregateCeiling, virtualStorageCeiling, nodeRowCeiling, shapeLength, nodesIn, nodeRowsIn, aggregatesIn, virtualStoragesIn};
-ghost use Rattle.layout.specs.Layout.{aggregatesHeldAt, virtualStoragesHeldAt, stepWorkLength};
+ghost use Rattle.layout.specs.Layout.{node_ceiling, aggregate_ceiling, virtual_storage_ceiling, node_row_ceiling, shape_length, nodes_in, node_rows_in, aggregates_in, virtual_storages_in};
+ghost use Rattle.layout.specs.Layout.{aggregates_held_at, virtual_storages_held_at, step_work_length};
 ghost use Rattle.pywr.specs.Store.{Store};
-ghost use Rattle.step_record.specs.Check.{checkAggregate, checkVirtualStorageStep, aggregateStepLength, virtualStorageStepLength};
-ghost use Rattle.step_file.specs.Decoded.{aggregateStepsAt, virtualStorageStepsAt, fileLength};
-ghost use Rattle.step_aggregate_intervals.specs.AggregateIntervals.{aggregateNumbered};
-ghost use Rattle.step_virtual_storage_intervals.specs.VirtualStorageIntervals.{virtualStorageNumbered};
+ghost use Rattle.step_record.specs.Check.{check_aggregate, check_virtual_storage_step, aggregate_step_length, virtual_storage_step_length};
+ghost use Rattle.step_file.specs.Decoded.{aggregate_steps_at, virtual_storage_steps_at, file_length};
+ghost use Rattle.step_aggregate_intervals.specs.AggregateIntervals.{aggregate_numbered};
+ghost use Rattle.step_virtual_storage_intervals.specs.VirtualStorageIntervals.{virtual_storage_numbered};
 ghost use Rattle.step_walk.specs.WalkedFile.{NodesNamed, NodesWalked, NoneBeyond, RecordsWalked, FileWalked};
 
 use layout::{
@@ -25,7 +25,7 @@ use widths::wide16;
 
 // The nodes' records, and their intervals.
 fn walk_nodes(file: &[u8], shape: &[u16], days: f64, sentinel: Sentinel, work: &mut [f64]) -> bool
-    requires { (shapeLength ≤ length shape.now) × (stepWorkLength ≤ length work.old) × (nodesIn shape.now ≤ nodeCeiling) × (aggregateStepsAt (nodesIn shape.now) ≤ length file.now) }
+    requires { (shape_length ≤ length shape.now) × (step_work_length ≤ length work.old) × (nodes_in shape.now ≤ node_ceiling) × (aggregate_steps_at (nodes_in shape.now) ≤ length file.now) }
     ensures { result ≡ true → NodesWalked sentinel days shape.now file.now work.old work.new }
 {
     let nodes = wide16(shape[NODE_COUNT_AT]);
@@ -52,7 +52,7 @@ fn walk_nodes(file: &[u8], shape: &[u16], days: f64, sentinel: Sentinel, work: &
 
 // Whether no binary node row names a node whose written interval has a bound at or beyond a sentinel.
 fn none_beyond(shape: &[u16], work: &[f64], sentinel: Sentinel) -> bool
-    requires { (shapeLength ≤ length shape.now) × (stepWorkLength ≤ length work.now) × (nodesIn shape.now ≤ nodeCeiling) × (nodeRowsIn shape.now ≤ nodeRowCeiling) × NodesNamed shape.now }
+    requires { (shape_length ≤ length shape.now) × (step_work_length ≤ length work.now) × (nodes_in shape.now ≤ node_ceiling) × (node_rows_in shape.now ≤ node_row_ceiling) × NodesNamed shape.now }
     ensures { result ≡ true → NoneBeyond sentinel shape.now work.now }
 {
     let node_rows = wide16(shape[NODE_ROW_COUNT_AT]);
@@ -72,10 +72,10 @@ fn none_beyond(shape: &[u16], work: &[f64], sentinel: Sentinel) -> bool
 
 // The aggregates' records, and their intervals.
 fn walk_aggregates(file: &[u8], shape: &[u16], work: &mut [f64]) -> bool
-    requires { (shapeLength ≤ length shape.now) × (stepWorkLength ≤ length work.old) × (nodesIn shape.now ≤ nodeCeiling)
-        × (aggregatesIn shape.now ≤ aggregateCeiling) × (virtualStorageStepsAt (nodesIn shape.now) (aggregatesIn shape.now) ≤ length file.now) }
-    ensures { result ≡ true → RecordsWalked (checkAggregate file.now) aggregateStepLength (aggregateStepsAt (nodesIn shape.now))
-        (aggregateNumbered shape.now file.now) aggregatesHeldAt (aggregatesIn shape.now) work.old work.new }
+    requires { (shape_length ≤ length shape.now) × (step_work_length ≤ length work.old) × (nodes_in shape.now ≤ node_ceiling)
+        × (aggregates_in shape.now ≤ aggregate_ceiling) × (virtual_storage_steps_at (nodes_in shape.now) (aggregates_in shape.now) ≤ length file.now) }
+    ensures { result ≡ true → RecordsWalked (check_aggregate file.now) aggregate_step_length (aggregate_steps_at (nodes_in shape.now))
+        (aggregate_numbered shape.now file.now) aggregates_held_at (aggregates_in shape.now) work.old work.new }
 {
     let nodes = wide16(shape[NODE_COUNT_AT]);
     let aggregates = wide16(shape[AGGREGATE_COUNT_AT]);
@@ -107,12 +107,12 @@ fn walk_virtual_storages(
     sentinel: Sentinel,
     work: &mut [f64],
 ) -> bool
-    requires { (shapeLength ≤ length shape.now) × (stepWorkLength ≤ length work.old) × (nodesIn shape.now ≤ nodeCeiling)
-        × (aggregatesIn shape.now ≤ aggregateCeiling) × (virtualStoragesIn shape.now ≤ virtualStorageCeiling)
-        × (fileLength (nodesIn shape.now) (aggregatesIn shape.now) (virtualStoragesIn shape.now) ≤ length file.now) }
-    ensures { result ≡ true → RecordsWalked (checkVirtualStorageStep file.now) virtualStorageStepLength
-        (virtualStorageStepsAt (nodesIn shape.now) (aggregatesIn shape.now))
-        (virtualStorageNumbered sentinel days shape.now file.now) virtualStoragesHeldAt (virtualStoragesIn shape.now)
+    requires { (shape_length ≤ length shape.now) × (step_work_length ≤ length work.old) × (nodes_in shape.now ≤ node_ceiling)
+        × (aggregates_in shape.now ≤ aggregate_ceiling) × (virtual_storages_in shape.now ≤ virtual_storage_ceiling)
+        × (file_length (nodes_in shape.now) (aggregates_in shape.now) (virtual_storages_in shape.now) ≤ length file.now) }
+    ensures { result ≡ true → RecordsWalked (check_virtual_storage_step file.now) virtual_storage_step_length
+        (virtual_storage_steps_at (nodes_in shape.now) (aggregates_in shape.now))
+        (virtual_storage_numbered sentinel days shape.now file.now) virtual_storages_held_at (virtual_storages_in shape.now)
         work.old work.new }
 {
     let nodes = wide16(shape[NODE_COUNT_AT]);
@@ -145,8 +145,8 @@ fn walk_virtual_storages(
 
 // Whether the file is good, for the counts, kinds and node rows of the shape run; then the work run holds its intervals.
 pub fn walk_file(file: &[u8], shape: &[u16], work: &mut [f64]) -> bool
-    requires { (shapeLength ≤ length shape.now) × (stepWorkLength ≤ length work.old) × (nodesIn shape.now ≤ nodeCeiling) × (nodeRowsIn shape.now ≤ nodeRowCeiling)
-        × (aggregatesIn shape.now ≤ aggregateCeiling) × (virtualStoragesIn shape.now ≤ virtualStorageCeiling) × NodesNamed shape.now }
+    requires { (shape_length ≤ length shape.now) × (step_work_length ≤ length work.old) × (nodes_in shape.now ≤ node_ceiling) × (node_rows_in shape.now ≤ node_row_ceiling)
+        × (aggregates_in shape.now ≤ aggregate_ceiling) × (virtual_storages_in shape.now ≤ virtual_storage_ceiling) × NodesNamed shape.now }
     ensures { result ≡ true → ((s : Store) → s.shape ≡ shape.now → FileWalked s file.now work.new) }
 {
     let nodes = wide16(shape[NODE_COUNT_AT]);

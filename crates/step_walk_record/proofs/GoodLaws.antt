@@ -8,40 +8,40 @@ use lib.Ieee.{binary64, lt, neg, of_bits, nan_bits}
 use Rattle.pywr.specs.declared.Interval.{Interval}
 use Rattle.pywr.specs.declared.Sentinel.{Sentinel}
 use Rattle.pywr.specs.declared.Sentinel.TheVariants.{Infinity, Largest}
-use Rattle.pywr.specs.Numbers.{high, low, isFlow, isSmall}
+use Rattle.pywr.specs.Numbers.{high, low, is_flow, is_small}
 use Rattle.pywr.specs.Interval.{sentinels}
-use Rattle.pywr.specs.StepIntervals.{isCrossed}
-use Rattle.fields.proofs.Nan.{small-flow}
+use Rattle.pywr.specs.StepIntervals.{is_crossed}
+use Rattle.fields.proofs.Nan.{small_flow}
 use Rattle.step_walk_record.specs.declared.Walked.{Walked}
 use Rattle.step_walk_record.specs.declared.Walked.TheVariants.{Good, Stopped}
-use Rattle.step_walk_record.specs.Fields.{areFlows, areVolumes, uncrossed}
+use Rattle.step_walk_record.specs.Fields.{are_flows, are_volumes, uncrossed}
 
-pub never-good : {A : Type 0} (x : Interval) → Stopped ≡ Good x → A
-never-good x e = absurd (let z : ◌≡◌ {A = ℕ} 0 1 = cc in omega arith)
+pub never_good : {A : Type 0} (x : Interval) → Stopped ≡ Good x → A
+never_good x e = absurd (let z : ◌≡◌ {A = ℕ} 0 1 = cc in omega arith)
 
-pub good-tested : (b : Bool) (w : Walked) (x : Interval) → cond b w Stopped ≡ Good x → (b ≡ true) × (w ≡ Good x)
-good-tested true w x e = (refl, e)
-good-tested false w x e = never-good x e
+pub good_tested : (b : Bool) (w : Walked) (x : Interval) → cond b w Stopped ≡ Good x → (b ≡ true) × (w ≡ Good x)
+good_tested true w x e = (refl, e)
+good_tested false w x e = never_good x e
 
-pub good-same : (x y : Interval) → Good x ≡ Good y → x ≡ y
-good-same x y e = cc
+pub good_same : (x y : Interval) → Good x ≡ Good y → x ≡ y
+good_same x y e = cc
 
 pub both : (a b : Bool) → (a && b) ≡ true → (a ≡ true) × (b ≡ true)
 both true b e = (refl, e)
 both false b e = absurd (let z : ◌≡◌ {A = ℕ} 0 1 = cc in omega arith)
 
-good-uncrossed : (b : Bool) (x y : Interval) → cond b Stopped (Good x) ≡ Good y → (b ≡ false) × (x ≡ y)
-good-uncrossed true x y e = never-good y e
-good-uncrossed false x y e = (refl, good-same x y e)
+good_uncrossed : (b : Bool) (x y : Interval) → cond b Stopped (Good x) ≡ Good y → (b ≡ false) × (x ≡ y)
+good_uncrossed true x y e = never_good y e
+good_uncrossed false x y e = (refl, good_same x y e)
 
-pub uncrossed-good : (x y : Interval) → uncrossed x ≡ Good y → (isCrossed x ≡ false) × (x ≡ y)
+pub uncrossed_good : (x y : Interval) → uncrossed x ≡ Good y → (is_crossed x ≡ false) × (x ≡ y)
 unfolding uncrossed
-uncrossed-good x y e = good-uncrossed (isCrossed x) x y e
+uncrossed_good x y e = good_uncrossed (is_crossed x) x y e
 
-pub sentinels-uncrossed : (s : Sentinel) → isCrossed (sentinels s) ≡ false
-unfolding isCrossed sentinels low high neg lt of_bits
-sentinels-uncrossed Infinity = refl
-sentinels-uncrossed Largest = refl
+pub sentinels_uncrossed : (s : Sentinel) → is_crossed (sentinels s) ≡ false
+unfolding is_crossed sentinels low high neg lt of_bits
+sentinels_uncrossed Infinity = refl
+sentinels_uncrossed Largest = refl
 
 pub not-true : (b : Bool) → not b ≡ true → b ≡ false
 not-true true e = absurd (let z : ◌≡◌ {A = ℕ} 0 1 = cc in omega arith)
@@ -52,29 +52,29 @@ not-false true e = refl
 not-false false e = absurd (let z : ◌≡◌ {A = ℕ} 0 1 = cc in omega arith)
 
 -- a pattern that is tested is an argument of `from_bits`
-pub flow-bits : (bits : ℕ) → isFlow bits ≡ true → T (not (nan_bits binary64 bits))
-unfolding isFlow
-flow-bits bits e = subst T (sym e) tt
+pub flow_bits : (bits : ℕ) → is_flow bits ≡ true → T (not (nan_bits binary64 bits))
+unfolding is_flow
+flow_bits bits e = subst T (sym e) tt
 
-pub small-bits : (bits : ℕ) → isSmall bits ≡ true → T (not (nan_bits binary64 bits))
-small-bits bits e = flow-bits bits (small-flow bits e)
+pub small_bits : (bits : ℕ) → is_small bits ≡ true → T (not (nan_bits binary64 bits))
+small_bits bits e = flow_bits bits (small_flow bits e)
 
 pub record FlowsFit (x y : ℕ) : Type 0 where
-  pub lower : isFlow x ≡ true
-  pub upper : isFlow y ≡ true
+  pub lower : is_flow x ≡ true
+  pub upper : is_flow y ≡ true
 
-pub flows-fit : (lower upper : ℕ) → areFlows lower upper ≡ true → FlowsFit lower upper
-unfolding areFlows
-flows-fit lower upper e = let t = both (isFlow lower) (isFlow upper) e in record { lower = t.0; upper = t.1 }
+pub flows_fit : (lower upper : ℕ) → are_flows lower upper ≡ true → FlowsFit lower upper
+unfolding are_flows
+flows_fit lower upper e = let t = both (is_flow lower) (is_flow upper) e in record { lower = t.0; upper = t.1 }
 
 pub record VolumesFit (x y z : ℕ) : Type 0 where
-  pub min : isSmall x ≡ true
-  pub max : isSmall y ≡ true
-  pub volume : isSmall z ≡ true
+  pub min : is_small x ≡ true
+  pub max : is_small y ≡ true
+  pub volume : is_small z ≡ true
 
-pub volumes-fit : (min max volume : ℕ) → areVolumes min max volume ≡ true → VolumesFit min max volume
-unfolding areVolumes
-volumes-fit min max volume e =
-    let t = both (isSmall min) (isSmall max && isSmall volume) e in
-    let u = both (isSmall max) (isSmall volume) t.1 in
+pub volumes_fit : (min max volume : ℕ) → are_volumes min max volume ≡ true → VolumesFit min max volume
+unfolding are_volumes
+volumes_fit min max volume e =
+    let t = both (is_small min) (is_small max && is_small volume) e in
+    let u = both (is_small max) (is_small volume) t.1 in
     record { min = t.0; max = u.0; volume = u.1 }

@@ -3,35 +3,35 @@ use Rattle.std.specs.Prelude.{ℕ, ◌+◌, Bool, cond, ◌&&◌, List, Float}
 use Rattle.pywr.specs.declared.Interval.{Interval}
 use Rattle.pywr.specs.declared.Sentinel.{Sentinel}
 use Rattle.pywr.specs.Bytes.{le64}
-use Rattle.pywr.specs.Numbers.{isFlow, isSmall, ofPattern}
-use Rattle.pywr.specs.Interval.{sentinels, intervalOf, storageBounds}
-use Rattle.pywr.specs.StepIntervals.{isCrossed}
-use Rattle.step_record.specs.Check.{in_range, volumeRange, nodeMinOffset, nodeMaxOffset, nodeVolumeOffset}
+use Rattle.pywr.specs.Numbers.{is_flow, is_small, of_pattern}
+use Rattle.pywr.specs.Interval.{sentinels, interval_of, storage_bounds}
+use Rattle.pywr.specs.StepIntervals.{is_crossed}
+use Rattle.step_record.specs.Check.{in_range, volume_range, node_min_offset, node_max_offset, node_volume_offset}
 use Rattle.step_walk_record.specs.declared.Walked.{Walked}
 use Rattle.step_walk_record.specs.declared.Walked.TheVariants.{Good, Stopped}
 
-unfoldable pub areFlows : ℕ → ℕ → Bool
-areFlows lower upper = isFlow lower && isFlow upper
+unfoldable pub are_flows : ℕ → ℕ → Bool
+are_flows lower upper = is_flow lower && is_flow upper
 
-unfoldable pub areVolumes : ℕ → ℕ → ℕ → Bool
-areVolumes min max volume = isSmall min && (isSmall max && isSmall volume)
+unfoldable pub are_volumes : ℕ → ℕ → ℕ → Bool
+are_volumes min max volume = is_small min && (is_small max && is_small volume)
 
 unfoldable pub uncrossed : Interval → Walked
-uncrossed x = cond (isCrossed x) Stopped (Good x)
+uncrossed x = cond (is_crossed x) Stopped (Good x)
 
 -- the bounds of a node whose record stands at `at`: a constant one, by whether it is a storage; a storage; and any other
-unfoldable pub constantWalked : List ℕ → ℕ → Bool → Sentinel → Walked
-constantWalked file at stores s = cond (in_range (volumeRange stores) (le64 file (at + nodeVolumeOffset))) (Good (sentinels s)) Stopped
+unfoldable pub constant_walked : List ℕ → ℕ → Bool → Sentinel → Walked
+constant_walked file at stores s = cond (in_range (volume_range stores) (le64 file (at + node_volume_offset))) (Good (sentinels s)) Stopped
 
-unfoldable pub storageWalked : List ℕ → ℕ → Float → Walked
-storageWalked file at days =
-    let min = le64 file (at + nodeMinOffset) in
-    let max = le64 file (at + nodeMaxOffset) in
-    let volume = le64 file (at + nodeVolumeOffset) in
-    cond (areVolumes min max volume) (uncrossed (intervalOf days (storageBounds (ofPattern min) (ofPattern max) (ofPattern volume)))) Stopped
+unfoldable pub storage_walked : List ℕ → ℕ → Float → Walked
+storage_walked file at days =
+    let min = le64 file (at + node_min_offset) in
+    let max = le64 file (at + node_max_offset) in
+    let volume = le64 file (at + node_volume_offset) in
+    cond (are_volumes min max volume) (uncrossed (interval_of days (storage_bounds (of_pattern min) (of_pattern max) (of_pattern volume)))) Stopped
 
-unfoldable pub flowWalked : List ℕ → ℕ → Walked
-flowWalked file at =
-    let min = le64 file (at + nodeMinOffset) in
-    let max = le64 file (at + nodeMaxOffset) in
-    cond (areFlows min max) (uncrossed (record { lower = ofPattern min; upper = ofPattern max })) Stopped
+unfoldable pub flow_walked : List ℕ → ℕ → Walked
+flow_walked file at =
+    let min = le64 file (at + node_min_offset) in
+    let max = le64 file (at + node_max_offset) in
+    cond (are_flows min max) (uncrossed (record { lower = of_pattern min; upper = of_pattern max })) Stopped

@@ -1,9 +1,9 @@
 // One record of a step file checked and turned into its interval in one look, in a file of the right length.
 ghost use Rattle.std.specs.Prelude.{◌≡◌, ◌+◌, ◌/◌, ◌%◌, ◌≤◌, eqb, length};
-ghost use Rattle.layout.specs.Layout.{virtualStorageWidth};
-ghost use Rattle.pywr.specs.Bytes.{markIs};
-ghost use Rattle.step_record.specs.Check.{nodeStepLength, aggregateStepLength, virtualStorageStepLength};
-ghost use Rattle.step_walk_record.specs.Fields.{areFlows, areVolumes, uncrossed, constantWalked, storageWalked, flowWalked};
+ghost use Rattle.layout.specs.Layout.{virtual_storage_width};
+ghost use Rattle.pywr.specs.Bytes.{mark_is};
+ghost use Rattle.step_record.specs.Check.{node_step_length, aggregate_step_length, virtual_storage_step_length};
+ghost use Rattle.step_walk_record.specs.Fields.{are_flows, are_volumes, uncrossed, constant_walked, storage_walked, flow_walked};
 ghost use Rattle.step_walk_record.specs.WalkedRecord.{NodeWalked, AggregateWalked, VirtualStorageWalked};
 
 use fields::{is_flow, is_small, u16_at, u64_at};
@@ -30,13 +30,13 @@ const VIRTUAL_STORAGE_MARK: u16 = 86 + 256 * 66;
 
 fn is_marked(file: &[u8], at: usize, mark: u16) -> bool
     requires { at + 2 ≤ length file.now }
-    ensures { result ≡ markIs file.now at (mark % 256) (mark / 256) }
+    ensures { result ≡ mark_is file.now at (mark % 256) (mark / 256) }
 {
     u16_at(file, at) == mark
 }
 
 fn are_flows(lower: u64, upper: u64) -> bool
-    ensures { result ≡ areFlows lower upper }
+    ensures { result ≡ are_flows lower upper }
 {
     if is_flow(lower) {
         return is_flow(upper);
@@ -45,7 +45,7 @@ fn are_flows(lower: u64, upper: u64) -> bool
 }
 
 fn are_volumes(min: u64, max: u64, volume: u64) -> bool
-    ensures { result ≡ areVolumes min max volume }
+    ensures { result ≡ are_volumes min max volume }
 {
     if is_small(min) {
         if is_small(max) {
@@ -68,8 +68,8 @@ fn uncrossed(x: Interval) -> Walked
 
 // The bounds of a constant node aren't read, but a storage's volume is tested.
 fn constant_interval(file: &[u8], at: usize, kind: u16, sentinel: Sentinel) -> Walked
-    requires { at + nodeStepLength ≤ length file.now }
-    ensures { result ≡ constantWalked file.now at (eqb kind 3) sentinel }
+    requires { at + node_step_length ≤ length file.now }
+    ensures { result ≡ constant_walked file.now at (eqb kind 3) sentinel }
 {
     if kind == 3 {
         if !is_small(u64_at(file, at + NODE_VOLUME_OFFSET)) {
@@ -80,8 +80,8 @@ fn constant_interval(file: &[u8], at: usize, kind: u16, sentinel: Sentinel) -> W
 }
 
 fn storage_interval(file: &[u8], at: usize, days: f64) -> Walked
-    requires { at + nodeStepLength ≤ length file.now }
-    ensures { result ≡ storageWalked file.now at days }
+    requires { at + node_step_length ≤ length file.now }
+    ensures { result ≡ storage_walked file.now at days }
 {
     let min = u64_at(file, at + NODE_MIN_OFFSET);
     let max = u64_at(file, at + NODE_MAX_OFFSET);
@@ -98,8 +98,8 @@ fn storage_interval(file: &[u8], at: usize, days: f64) -> Walked
 }
 
 fn flow_interval(file: &[u8], at: usize) -> Walked
-    requires { at + nodeStepLength ≤ length file.now }
-    ensures { result ≡ flowWalked file.now at }
+    requires { at + node_step_length ≤ length file.now }
+    ensures { result ≡ flow_walked file.now at }
 {
     let min = u64_at(file, at + NODE_MIN_OFFSET);
     let max = u64_at(file, at + NODE_MAX_OFFSET);
@@ -121,7 +121,7 @@ pub fn walk_node(
     days: f64,
     sentinel: Sentinel,
 ) -> Walked
-    requires { at + nodeStepLength ≤ length file.now }
+    requires { at + node_step_length ≤ length file.now }
     ensures { NodeWalked file.now at kind constant days sentinel result }
 {
     if !is_marked(file, at, NODE_MARK) {
@@ -141,7 +141,7 @@ pub fn walk_node(
 
 // `GB`.
 pub fn walk_aggregate(file: &[u8], at: usize) -> Walked
-    requires { at + aggregateStepLength ≤ length file.now }
+    requires { at + aggregate_step_length ≤ length file.now }
     ensures { AggregateWalked file.now at result }
 {
     if !is_marked(file, at, AGGREGATE_MARK) {
@@ -169,7 +169,7 @@ pub fn walk_virtual_storage(
     days: f64,
     sentinel: Sentinel,
 ) -> Walked
-    requires { (at + virtualStorageStepLength ≤ length file.now) × (place + virtualStorageWidth ≤ length shape.now) }
+    requires { (at + virtual_storage_step_length ≤ length file.now) × (place + virtual_storage_width ≤ length shape.now) }
     ensures { VirtualStorageWalked shape.now file.now place at month day days sentinel result }
 {
     if !is_marked(file, at, VIRTUAL_STORAGE_MARK) {

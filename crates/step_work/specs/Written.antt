@@ -4,8 +4,8 @@ use Rattle.std.proofs.Math.Option.{Option, none, some}
 use Rattle.pywr.specs.declared.Answer.{Answer}
 use Rattle.pywr.specs.declared.Answer.TheVariants.{Accepted, Refused}
 use Rattle.pywr.specs.declared.Interval.{Interval}
-use Rattle.pywr.specs.Result.{firstRefused}
-use Rattle.pywr.specs.StepIntervals.{isCrossed}
+use Rattle.pywr.specs.Result.{first_refused}
+use Rattle.pywr.specs.StepIntervals.{is_crossed}
 use Rattle.pywr.specs.Store.{entries}
 use Rattle.step_work.specs.WorkRun.{held_at}
 
@@ -18,15 +18,15 @@ pub record Written (f : ℕ → Interval) (base count : ℕ) (old new : List Flo
 pub record WrittenTo (f : ℕ → Interval) (base count : ℕ) (old : List Float) (n : ℕ) (new : List Float) : Type 0 where
   pub few : n ≤ count
   pub so_far : Written f base n old new
-  pub ordered : (k : ℕ) → k < n → isCrossed (f k) ≡ false
-  pub crossed : n < count → isCrossed (f n) ≡ true
+  pub ordered : (k : ℕ) → k < n → is_crossed (f k) ≡ false
+  pub crossed : n < count → is_crossed (f n) ≡ true
 
 -- accepted, or the refusal that was found
-unfoldable pub foundAnswer : Option (ℕ × ℕ) → Answer
-foundAnswer none = Accepted
-foundAnswer (some found) = Refused found.0 found.1
+unfoldable pub found_answer : Option (ℕ × ℕ) → Answer
+found_answer none = Accepted
+found_answer (some found) = Refused found.0 found.1
 
 -- the answer is the first refusal that the test gives, and where there is none all are written
 pub record Looked (test : ℕ → Interval → Option ℕ) (f : ℕ → Interval) (base count : ℕ) (old : List Float) (r : Answer) (new : List Float) : Type 0 where
-  pub answer : r ≡ foundAnswer (firstRefused test 0 (entries f 1 0 count))
+  pub answer : r ≡ found_answer (first_refused test 0 (entries f 1 0 count))
   pub written : r ≡ Accepted → Written f base count old new

@@ -10,11 +10,11 @@ use lib.Seq.{slice, take-nil}
 use borrow.Author.Tests.{lt-ltb, le-ltb}
 use Rattle.pywr.specs.declared.RowAnswer.{RowAnswer}
 use Rattle.pywr.specs.Result.{Result, value, refused, ◌>>=◌, need}
-use Rattle.pywr.specs.Answers.{rowNumberOf, rowPlaceOf}
-use Rattle.pywr.specs.Store.{Store, storeHasRoom, rowCount, start_of, columnsOfRow}
-use Rattle.pywr.specs.Misshapen.{wellShaped}
-use Rattle.pywr.specs.Calls.{rowAnswer, part_of, rowPart, span_of}
-use Rattle.pywr.proofs.RunLaws.{bind-value, need-value}
+use Rattle.pywr.specs.Answers.{row_number_of, row_place_of}
+use Rattle.pywr.specs.Store.{Store, store_has_room, row_count, start_of, columns_of_row}
+use Rattle.pywr.specs.Misshapen.{well_shaped}
+use Rattle.pywr.specs.Calls.{row_answer, part_of, row_part, span_of}
+use Rattle.pywr.proofs.RunLaws.{bind_value, need_value}
 use Rattle.store_rows.proofs.Starts.{start_under}
 use Rattle.store.specs.Reading.{RowAnswered, RowRead}
 use Rattle.store.proofs.Passed.{roomy, shaped}
@@ -22,47 +22,47 @@ use Rattle.store.proofs.Passed.{roomy, shaped}
 -- ---- the answer
 
 module _ {s : Store} {row : ℕ} where
-  pub short : storeHasRoom s ≡ false → RowAnswered s row (RowAnswer.Refused 16 0)
-  unfolding rowAnswer span_of need ◌>>=◌
+  pub short : store_has_room s ≡ false → RowAnswered s row (RowAnswer.Refused 16 0)
+  unfolding row_answer span_of need ◌>>=◌
   short a = record { answer = rw a; inside = tt }
 
-  pub misshapen : storeHasRoom s ≡ true → wellShaped s ≡ false → RowAnswered s row (RowAnswer.Refused 17 0)
-  unfolding rowAnswer span_of need ◌>>=◌
+  pub misshapen : store_has_room s ≡ true → well_shaped s ≡ false → RowAnswered s row (RowAnswer.Refused 17 0)
+  unfolding row_answer span_of need ◌>>=◌
   misshapen a b = record { answer = rw (a, b); inside = tt }
 
-  pub no_row : storeHasRoom s ≡ true → wellShaped s ≡ true → rowCount s ≤ row → RowAnswered s row (RowAnswer.Refused 18 row)
-  unfolding rowAnswer span_of need ◌>>=◌
-  no_row a b le = record { answer = rw (a, b, le-ltb row (rowCount s) le); inside = tt }
+  pub no_row : store_has_room s ≡ true → well_shaped s ≡ true → row_count s ≤ row → RowAnswered s row (RowAnswer.Refused 18 row)
+  unfolding row_answer span_of need ◌>>=◌
+  no_row a b le = record { answer = rw (a, b, le-ltb row (row_count s) le); inside = tt }
 
-  pub row-part : storeHasRoom s ≡ true → wellShaped s ≡ true → row < rowCount s → RowAnswered s row (RowAnswer.Part (start_of s row) (start_of s (row + 1)))
-  unfolding rowAnswer span_of need ◌>>=◌
-  row-part a b lt =
+  pub row_part_lem : store_has_room s ≡ true → well_shaped s ≡ true → row < row_count s → RowAnswered s row (RowAnswer.Part (start_of s row) (start_of s (row + 1)))
+  unfolding row_answer span_of need ◌>>=◌
+  row_part_lem a b lt =
       let h = shaped s b in
       record {
-        answer = rw (a, b, lt-ltb row (rowCount s) lt);
+        answer = rw (a, b, lt-ltb row (row_count s) lt);
         inside = (h.starts.rise row lt, omega (arith, start_under h.starts (row + 1) (omega arith), h.counts.kept, (roomy s a).columns));
       }
 
 -- ---- the part
 
 module _ (s : Store) (row : ℕ) where
-  value-is : (part : List ℕ) → rowAnswer s row ≡ value part → columnsOfRow s row ≡ part
-  unfolding rowAnswer
+  value-is : (part : List ℕ) → row_answer s row ≡ value part → columns_of_row s row ≡ part
+  unfolding row_answer
   value-is part e =
-      let a = bind-value _ _ part e in
-      let b = bind-value _ _ part a.2 in
-      let p : s ≡ a.0 = need-value _ 16 0 s a.0 a.1 in
-      let q : a.0 ≡ b.0 = need-value _ 17 0 a.0 b.0 b.1 in
-      ap (λ (t : Store). columnsOfRow t row) (p ∙ q) ∙ need-value _ 18 row (columnsOfRow b.0 row) part b.2
+      let a = bind_value _ _ part e in
+      let b = bind_value _ _ part a.2 in
+      let p : s ≡ a.0 = need_value _ 16 0 s a.0 a.1 in
+      let q : a.0 ≡ b.0 = need_value _ 17 0 a.0 b.0 b.1 in
+      ap (λ (t : Store). columns_of_row t row) (p ∙ q) ∙ need_value _ 18 row (columns_of_row b.0 row) part b.2
 
-  part-of : (x : Result (List ℕ)) → ((part : List ℕ) → x ≡ value part → columnsOfRow s row ≡ part) → (start end : ℕ) → RowAnswer.Part start end ≡ span_of s row x
+  part_of_lem : (x : Result (List ℕ)) → ((part : List ℕ) → x ≡ value part → columns_of_row s row ≡ part) → (start end : ℕ) → RowAnswer.Part start end ≡ span_of s row x
       → slice start end s.columns ≡ part_of x
-  unfolding span_of part_of columnsOfRow
-  part-of (value part) is start end e =
+  unfolding span_of part_of columns_of_row
+  part_of_lem (value part) is start end e =
       let a : start ≡ start_of s row = cc in
       let b : end ≡ start_of s (row + 1) = cc in
       rw (a, b) (is part refl)
-  part-of (refused number place) is start end e = let z : ◌≡◌ {A = ℕ} 0 1 = cc in absurd (omega arith)
+  part_of_lem (refused number place) is start end e = let z : ◌≡◌ {A = ℕ} 0 1 = cc in absurd (omega arith)
 
   none_of : (x : Result (List ℕ)) (number place : ℕ) → RowAnswer.Refused number place ≡ span_of s row x → [] ≡ part_of x
   unfolding span_of part_of
@@ -79,18 +79,18 @@ part_slice start end l le = let e : start + (end - start) ≡ end = omega arith 
 
 module _ {s : Store} {row : ℕ} {r : RowAnswer} (h : RowAnswered s row r) where
   pub read-part : (start end : ℕ) → r ≡ RowAnswer.Part start end → RowRead s row (take (end - start) (drop start s.columns)) 0 0
-  unfolding rowPart rowNumberOf rowPlaceOf
+  unfolding row_part row_number_of row_place_of
   read-part start end e =
-      let q : RowAnswer.Part start end ≡ span_of s row (rowAnswer s row) = sym e ∙ h.answer in
+      let q : RowAnswer.Part start end ≡ span_of s row (row_answer s row) = sym e ∙ h.answer in
       let inside : (start ≤ end) × (end ≤ length s.columns) = rw e at h.inside in
       record {
-        columns = part_slice start end s.columns inside.0 ∙ part-of s row (rowAnswer s row) (value-is s row) start end q;
-        number = ap rowNumberOf q;
-        place = ap rowPlaceOf q;
+        columns = part_slice start end s.columns inside.0 ∙ part_of_lem s row (row_answer s row) (value-is s row) start end q;
+        number = ap row_number_of q;
+        place = ap row_place_of q;
       }
 
   pub read_none : (number place : ℕ) → r ≡ RowAnswer.Refused number place → RowRead s row [] number place
-  unfolding rowPart rowNumberOf rowPlaceOf
+  unfolding row_part row_number_of row_place_of
   read_none number place e =
-      let q : RowAnswer.Refused number place ≡ span_of s row (rowAnswer s row) = sym e ∙ h.answer in
-      record { columns = none_of s row (rowAnswer s row) number place q; number = ap rowNumberOf q; place = ap rowPlaceOf q }
+      let q : RowAnswer.Refused number place ≡ span_of s row (row_answer s row) = sym e ∙ h.answer in
+      record { columns = none_of s row (row_answer s row) number place q; number = ap row_number_of q; place = ap row_place_of q }

@@ -7,50 +7,50 @@ use lib.ListN.{length, get_or}
 use lib.Dec.{leb, ltb, eqb, leb→le, ltb→lt}
 use lib.Ieee.Fits.{and_l, and_r}
 use borrow.Author.Tests.{not-false}
-use Rattle.layout.specs.Layout.{flowOrderAt, makersAt, nodeRowCeiling, nodeRowNode, nodeRowRow, nodeRowType, rowStartsLength, shapeLength}
-use Rattle.laws.proofs.Tests.{of-true, to-true}
-use Rattle.pywr.specs.Store.{Store, storeHasRoom, sentinelCode, nodeCount, edge_count, edgeColumnCount, setCount, varyingCount, rowCount, elementsKept}
-use Rattle.pywr.specs.Store.{nodeRowCount, aggregateCount, virtualStorageCount, nodesAt, edges_at, nodeRowsAt, aggregatesAt, virtualStoragesAt, start_of}
-use Rattle.pywr.specs.Misshapen.{countsFit, startsRise, rowColumnsRise, allEntries, wellShaped}
-use Rattle.pywr.specs.Misshapen.{nodeFits, edgeFits, nodeRowFits, aggregateFits, virtualStorageFits, makerFits, flowOrderFits}
+use Rattle.layout.specs.Layout.{flow_order_at, makers_at, node_row_ceiling, node_row_node, node_row_row, node_row_type, row_starts_length, shape_length}
+use Rattle.laws.proofs.Tests.{of_true, to_true}
+use Rattle.pywr.specs.Store.{Store, store_has_room, sentinel_code, node_count, edge_count, edge_column_count, set_count, varying_count, row_count, elements_kept}
+use Rattle.pywr.specs.Store.{node_row_count, aggregate_count, virtual_storage_count, nodes_at, edges_at, node_rows_at, aggregates_at, virtual_storages_at, start_of}
+use Rattle.pywr.specs.Misshapen.{counts_fit, starts_rise, row_columns_rise, all_entries, well_shaped}
+use Rattle.pywr.specs.Misshapen.{node_fits, edge_fits, node_row_fits, aggregate_fits, virtual_storage_fits, maker_fits, flow_order_fits}
 use Rattle.pywr.proofs.Represents.{Roomy}
-use Rattle.pywr.proofs.DemandThree.{roomy-parts}
-use Rattle.store_shape.proofs.Entries.{ofShape, entry-passes}
+use Rattle.pywr.proofs.DemandThree.{roomy_parts}
+use Rattle.store_shape.proofs.Entries.{of_shape, entry_passes}
 use Rattle.store_rows.specs.Starts.{StartsRise, RowsWithin}
-use Rattle.store_rows.proofs.Starts.{ofRuns, starts-told}
+use Rattle.store_rows.proofs.Starts.{of_runs, starts_told}
 use Rattle.store.specs.Reading.{Lengths}
 
-pub lengths : (s : Store) → Lengths s (length s.colLower) (length s.colUpper) (length s.colObjCoef) (length s.rowLower) (length s.rowUpper)
-    (length s.elements) (length s.columns) (length s.rowStarts) (length s.shape)
-lengths s = record { colLower = refl; colUpper = refl; colObjCoef = refl; rowLower = refl; rowUpper = refl; elements = refl; columns = refl; rowStarts = refl; shape = refl }
+pub lengths : (s : Store) → Lengths s (length s.col_lower) (length s.col_upper) (length s.col_obj_coef) (length s.row_lower) (length s.row_upper)
+    (length s.elements) (length s.columns) (length s.row_starts) (length s.shape)
+lengths s = record { col_lower = refl; col_upper = refl; col_obj_coef = refl; row_lower = refl; row_upper = refl; elements = refl; columns = refl; row_starts = refl; shape = refl }
 
-pub roomy : (s : Store) → storeHasRoom s ≡ true → Roomy s
-roomy s e = roomy-parts s (of-true (storeHasRoom s) e)
+pub roomy : (s : Store) → store_has_room s ≡ true → Roomy s
+roomy s e = roomy_parts s (of_true (store_has_room s) e)
 
 pub record Counted (s : Store) : Type 0 where
-  pub nodes : nodeCount s ≤ 256
+  pub nodes : node_count s ≤ 256
   pub edges : edge_count s ≤ 512
-  pub edge-columns : edgeColumnCount s ≤ 512
-  pub sets : setCount s ≤ 128
-  pub rows : rowCount s ≤ 1024
-  pub kept : elementsKept s ≤ 4096
-  pub node-rows : nodeRowCount s ≤ nodeRowCeiling
-  pub aggregates : aggregateCount s ≤ 64
-  pub virtualStorages : virtualStorageCount s ≤ 32
+  pub edge_columns_lem : edge_column_count s ≤ 512
+  pub sets : set_count s ≤ 128
+  pub rows : row_count s ≤ 1024
+  pub kept : elements_kept s ≤ 4096
+  pub node_rows_lem : node_row_count s ≤ node_row_ceiling
+  pub aggregates : aggregate_count s ≤ 64
+  pub virtual_storages : virtual_storage_count s ≤ 32
 
-pub counted : (s : Store) → countsFit s ≡ true → Counted s
-unfolding countsFit
+pub counted : (s : Store) → counts_fit s ≡ true → Counted s
+unfolding counts_fit
 counted s q =
-    let a : Bool = leb (nodeCount s) 256 in
+    let a : Bool = leb (node_count s) 256 in
     let b : Bool = leb (edge_count s) 512 in
-    let c : Bool = leb (edgeColumnCount s) 512 in
-    let d : Bool = leb (setCount s) 128 in
-    let e : Bool = leb (rowCount s) 1024 in
-    let f : Bool = leb (elementsKept s) 4096 in
-    let g : Bool = leb (nodeRowCount s) nodeRowCeiling in
-    let h : Bool = leb (aggregateCount s) 64 in
-    let i : Bool = leb (virtualStorageCount s) 32 in
-    let h9 = of-true (a && b && c && d && e && f && g && h && i) q in
+    let c : Bool = leb (edge_column_count s) 512 in
+    let d : Bool = leb (set_count s) 128 in
+    let e : Bool = leb (row_count s) 1024 in
+    let f : Bool = leb (elements_kept s) 4096 in
+    let g : Bool = leb (node_row_count s) node_row_ceiling in
+    let h : Bool = leb (aggregate_count s) 64 in
+    let i : Bool = leb (virtual_storage_count s) 32 in
+    let h9 = of_true (a && b && c && d && e && f && g && h && i) q in
     let h8 = and_l (a && b && c && d && e && f && g && h) i h9 in
     let h7 = and_l (a && b && c && d && e && f && g) h h8 in
     let h6 = and_l (a && b && c && d && e && f) g h7 in
@@ -59,34 +59,34 @@ counted s q =
     let h3 = and_l (a && b && c) d h4 in
     let h2 = and_l (a && b) c h3 in
     record {
-      nodes = leb→le (nodeCount s) 256 (and_l a b h2);
+      nodes = leb→le (node_count s) 256 (and_l a b h2);
       edges = leb→le (edge_count s) 512 (and_r a b h2);
-      edge-columns = leb→le (edgeColumnCount s) 512 (and_r (a && b) c h3);
-      sets = leb→le (setCount s) 128 (and_r (a && b && c) d h4);
-      rows = leb→le (rowCount s) 1024 (and_r (a && b && c && d) e h5);
-      kept = leb→le (elementsKept s) 4096 (and_r (a && b && c && d && e) f h6);
-      node-rows = leb→le (nodeRowCount s) nodeRowCeiling (and_r (a && b && c && d && e && f) g h7);
-      aggregates = leb→le (aggregateCount s) 64 (and_r (a && b && c && d && e && f && g) h h8);
-      virtualStorages = leb→le (virtualStorageCount s) 32 (and_r (a && b && c && d && e && f && g && h) i h9);
+      edge_columns_lem = leb→le (edge_column_count s) 512 (and_r (a && b) c h3);
+      sets = leb→le (set_count s) 128 (and_r (a && b && c) d h4);
+      rows = leb→le (row_count s) 1024 (and_r (a && b && c && d) e h5);
+      kept = leb→le (elements_kept s) 4096 (and_r (a && b && c && d && e) f h6);
+      node_rows_lem = leb→le (node_row_count s) node_row_ceiling (and_r (a && b && c && d && e && f) g h7);
+      aggregates = leb→le (aggregate_count s) 64 (and_r (a && b && c && d && e && f && g) h h8);
+      virtual_storages = leb→le (virtual_storage_count s) 32 (and_r (a && b && c && d && e && f && g && h) i h9);
     }
 
 -- ---- the tests of `well_shaped` that the later ones build on
 
-pub counts-passed : {shape : List ℕ} (r b : Bool) → ((s : Store) → s.shape ≡ shape → r ≡ countsFit s) → not (r && b) ≡ false → Counted (ofShape shape)
-counts-passed {shape} r b e q = counted (ofShape shape) (sym (e (ofShape shape) refl) ∙ to-true r (and_l r b (of-true (r && b) (not-false (r && b) q))))
+pub counts_passed : {shape : List ℕ} (r b : Bool) → ((s : Store) → s.shape ≡ shape → r ≡ counts_fit s) → not (r && b) ≡ false → Counted (of_shape shape)
+counts_passed {shape} r b e q = counted (of_shape shape) (sym (e (of_shape shape) refl) ∙ to_true r (and_l r b (of_true (r && b) (not-false (r && b) q))))
 
-pub starts-passed : {rowStarts shape : List ℕ} (r : Bool) → ((s : Store) → s.rowStarts ≡ rowStarts → s.shape ≡ shape → r ≡ (eqb (start_of s 0) 0 && startsRise s 0 (rowCount s))) → not r ≡ false
-    → StartsRise rowStarts (get_or shape 5 0 + get_or shape 6 0) (get_or shape 7 0)
-starts-passed {rowStarts} {shape} r e q = let s = ofRuns [] rowStarts shape in starts-told s (rowCount s) (sym (e s refl refl) ∙ not-false r q)
+pub starts_passed : {row_starts shape : List ℕ} (r : Bool) → ((s : Store) → s.row_starts ≡ row_starts → s.shape ≡ shape → r ≡ (eqb (start_of s 0) 0 && starts_rise s 0 (row_count s))) → not r ≡ false
+    → StartsRise row_starts (get_or shape 5 0 + get_or shape 6 0) (get_or shape 7 0)
+starts_passed {row_starts} {shape} r e q = let s = of_runs [] row_starts shape in starts_told s (row_count s) (sym (e s refl refl) ∙ not-false r q)
 
-pub rows-within : {columns rowStarts shape : List ℕ} → (4096 ≤ length columns) × (rowStartsLength ≤ length rowStarts) × (shapeLength ≤ length shape) → Counted (ofShape shape)
-    → StartsRise rowStarts (get_or shape 5 0 + get_or shape 6 0) (get_or shape 7 0) → RowsWithin columns rowStarts shape
-rows-within room n starts =
+pub rows_within : {columns row_starts shape : List ℕ} → (4096 ≤ length columns) × (row_starts_length ≤ length row_starts) × (shape_length ≤ length shape) → Counted (of_shape shape)
+    → StartsRise row_starts (get_or shape 5 0 + get_or shape 6 0) (get_or shape 7 0) → RowsWithin columns row_starts shape
+rows_within room n starts =
     record {
-      columns-long = room.0;
-      starts-long = room.1;
-      shape-long = room.2;
-      edge-columns = n.edge-columns;
+      columns_long = room.0;
+      starts_long = room.1;
+      shape_long = room.2;
+      edge_columns_lem = n.edge_columns_lem;
       sets = n.sets;
       rows = n.rows;
       kept = n.kept;
@@ -97,32 +97,32 @@ rows-within room n starts =
 
 pub record Shaped (s : Store) : Type 0 where
   pub counts : Counted s
-  pub sentinel : sentinelCode s ≤ 1
-  pub starts : StartsRise s.rowStarts (rowCount s) (elementsKept s)
-  pub columns : allEntries (rowColumnsRise s) 1 0 (rowCount s) ≡ true
-  pub nodes : allEntries (nodeFits s) 2 nodesAt (nodeCount s) ≡ true
-  pub edges : allEntries (edgeFits s) 3 edges_at (edge_count s) ≡ true
-  pub node-rows : allEntries (nodeRowFits s) 4 nodeRowsAt (nodeRowCount s) ≡ true
-  pub aggregates : allEntries (aggregateFits s) 1 aggregatesAt (aggregateCount s) ≡ true
-  pub virtualStorages : allEntries (virtualStorageFits s) 6 virtualStoragesAt (virtualStorageCount s) ≡ true
-  pub makers : allEntries (makerFits s) 3 makersAt (rowCount s) ≡ true
-  pub flow-order : allEntries (flowOrderFits s) 1 flowOrderAt (edge_count s) ≡ true
+  pub sentinel : sentinel_code s ≤ 1
+  pub starts : StartsRise s.row_starts (row_count s) (elements_kept s)
+  pub columns : all_entries (row_columns_rise s) 1 0 (row_count s) ≡ true
+  pub nodes : all_entries (node_fits s) 2 nodes_at (node_count s) ≡ true
+  pub edges : all_entries (edge_fits s) 3 edges_at (edge_count s) ≡ true
+  pub node_rows_lem : all_entries (node_row_fits s) 4 node_rows_at (node_row_count s) ≡ true
+  pub aggregates : all_entries (aggregate_fits s) 1 aggregates_at (aggregate_count s) ≡ true
+  pub virtual_storages : all_entries (virtual_storage_fits s) 6 virtual_storages_at (virtual_storage_count s) ≡ true
+  pub makers : all_entries (maker_fits s) 3 makers_at (row_count s) ≡ true
+  pub flow_order_lem : all_entries (flow_order_fits s) 1 flow_order_at (edge_count s) ≡ true
 
-pub shaped : (s : Store) → wellShaped s ≡ true → Shaped s
-unfolding wellShaped
+pub shaped : (s : Store) → well_shaped s ≡ true → Shaped s
+unfolding well_shaped
 shaped s q =
-    let a : Bool = countsFit s in
-    let b : Bool = leb (sentinelCode s) 1 in
-    let c : Bool = eqb (start_of s 0) 0 && startsRise s 0 (rowCount s) in
-    let d : Bool = allEntries (rowColumnsRise s) 1 0 (rowCount s) in
-    let e : Bool = allEntries (nodeFits s) 2 nodesAt (nodeCount s) in
-    let f : Bool = allEntries (edgeFits s) 3 edges_at (edge_count s) in
-    let g : Bool = allEntries (nodeRowFits s) 4 nodeRowsAt (nodeRowCount s) in
-    let h : Bool = allEntries (aggregateFits s) 1 aggregatesAt (aggregateCount s) in
-    let i : Bool = allEntries (virtualStorageFits s) 6 virtualStoragesAt (virtualStorageCount s) in
-    let j : Bool = allEntries (makerFits s) 3 makersAt (rowCount s) in
-    let k : Bool = allEntries (flowOrderFits s) 1 flowOrderAt (edge_count s) in
-    let h11 = of-true (a && b && c && d && e && f && g && h && i && j && k) q in
+    let a : Bool = counts_fit s in
+    let b : Bool = leb (sentinel_code s) 1 in
+    let c : Bool = eqb (start_of s 0) 0 && starts_rise s 0 (row_count s) in
+    let d : Bool = all_entries (row_columns_rise s) 1 0 (row_count s) in
+    let e : Bool = all_entries (node_fits s) 2 nodes_at (node_count s) in
+    let f : Bool = all_entries (edge_fits s) 3 edges_at (edge_count s) in
+    let g : Bool = all_entries (node_row_fits s) 4 node_rows_at (node_row_count s) in
+    let h : Bool = all_entries (aggregate_fits s) 1 aggregates_at (aggregate_count s) in
+    let i : Bool = all_entries (virtual_storage_fits s) 6 virtual_storages_at (virtual_storage_count s) in
+    let j : Bool = all_entries (maker_fits s) 3 makers_at (row_count s) in
+    let k : Bool = all_entries (flow_order_fits s) 1 flow_order_at (edge_count s) in
+    let h11 = of_true (a && b && c && d && e && f && g && h && i && j && k) q in
     let h10 = and_l (a && b && c && d && e && f && g && h && i && j) k h11 in
     let h9 = and_l (a && b && c && d && e && f && g && h && i) j h10 in
     let h8 = and_l (a && b && c && d && e && f && g && h) i h9 in
@@ -133,27 +133,27 @@ shaped s q =
     let h3 = and_l (a && b && c) d h4 in
     let h2 = and_l (a && b) c h3 in
     record {
-      counts = counted s (to-true a (and_l a b h2));
-      sentinel = leb→le (sentinelCode s) 1 (and_r a b h2);
-      starts = starts-told s (rowCount s) (to-true c (and_r (a && b) c h3));
-      columns = to-true d (and_r (a && b && c) d h4);
-      nodes = to-true e (and_r (a && b && c && d) e h5);
-      edges = to-true f (and_r (a && b && c && d && e) f h6);
-      node-rows = to-true g (and_r (a && b && c && d && e && f) g h7);
-      aggregates = to-true h (and_r (a && b && c && d && e && f && g) h h8);
-      virtualStorages = to-true i (and_r (a && b && c && d && e && f && g && h) i h9);
-      makers = to-true j (and_r (a && b && c && d && e && f && g && h && i) j h10);
-      flow-order = to-true k (and_r (a && b && c && d && e && f && g && h && i && j) k h11);
+      counts = counted s (to_true a (and_l a b h2));
+      sentinel = leb→le (sentinel_code s) 1 (and_r a b h2);
+      starts = starts_told s (row_count s) (to_true c (and_r (a && b) c h3));
+      columns = to_true d (and_r (a && b && c) d h4);
+      nodes = to_true e (and_r (a && b && c && d) e h5);
+      edges = to_true f (and_r (a && b && c && d && e) f h6);
+      node_rows_lem = to_true g (and_r (a && b && c && d && e && f) g h7);
+      aggregates = to_true h (and_r (a && b && c && d && e && f && g) h h8);
+      virtual_storages = to_true i (and_r (a && b && c && d && e && f && g && h) i h9);
+      makers = to_true j (and_r (a && b && c && d && e && f && g && h && i) j h10);
+      flow_order_lem = to_true k (and_r (a && b && c && d && e && f && g && h && i && j) k h11);
     }
 
 -- each node row names a node
-pub node-row-named : (s : Store) (at : ℕ) → nodeRowFits s at ≡ true → nodeRowNode s.shape at < nodeCount s
-unfolding nodeRowFits
-node-row-named s at e =
-    let a : Bool = ltb (nodeRowNode s.shape at) (nodeCount s) in
-    let b : Bool = ltb (nodeRowRow s.shape at) (varyingCount s) in
-    let c : Bool = leb (nodeRowType s.shape at) 2 in
-    ltb→lt (nodeRowNode s.shape at) (nodeCount s) (and_l a b (and_l (a && b) c (and_l (a && b && c) _ (of-true _ e))))
+pub node_row_named : (s : Store) (at : ℕ) → node_row_fits s at ≡ true → node_row_node s.shape at < node_count s
+unfolding node_row_fits
+node_row_named s at e =
+    let a : Bool = ltb (node_row_node s.shape at) (node_count s) in
+    let b : Bool = ltb (node_row_row s.shape at) (varying_count s) in
+    let c : Bool = leb (node_row_type s.shape at) 2 in
+    ltb→lt (node_row_node s.shape at) (node_count s) (and_l a b (and_l (a && b) c (and_l (a && b && c) _ (of_true _ e))))
 
-pub node-rows-named : (s : Store) → Shaped s → (k : ℕ) → k < nodeRowCount s → nodeRowNode s.shape (nodeRowsAt + 4 * k) < nodeCount s
-node-rows-named s h k lt = node-row-named s (nodeRowsAt + 4 * k) (entry-passes (nodeRowFits s) 4 (nodeRowCount s) nodeRowsAt h.node-rows k lt)
+pub node_rows_named : (s : Store) → Shaped s → (k : ℕ) → k < node_row_count s → node_row_node s.shape (node_rows_at + 4 * k) < node_count s
+node_rows_named s h k lt = node_row_named s (node_rows_at + 4 * k) (entry_passes (node_row_fits s) 4 (node_row_count s) node_rows_at h.node_rows_lem k lt)

@@ -1,8 +1,8 @@
 // A lent store: whether it has room (16), whether it is well shaped (17), and the columns of one of its rows (18).
 ghost use Rattle.std.specs.Prelude.{◌≡◌, ◌≤◌, length};
-ghost use Rattle.layout.specs.Layout.{elementCeiling, rowStartsLength, shapeLength};
-ghost use Rattle.pywr.specs.Store.{Store, storeHasRoom};
-ghost use Rattle.pywr.specs.Misshapen.{wellShaped};
+ghost use Rattle.layout.specs.Layout.{element_ceiling, row_starts_length, shape_length};
+ghost use Rattle.pywr.specs.Store.{Store, store_has_room};
+ghost use Rattle.pywr.specs.Misshapen.{well_shaped};
 ghost use Rattle.store.specs.Reading.{Lengths, RowAnswered, RowRead};
 
 use layout::{
@@ -29,7 +29,7 @@ pub fn has_room(
     row_starts: usize,
     shape: usize,
 ) -> bool
-    ensures { (s : Store) → Lengths s col_lower col_upper col_obj_coef row_lower row_upper elements columns row_starts shape → result ≡ storeHasRoom s }
+    ensures { (s : Store) → Lengths s col_lower col_upper col_obj_coef row_lower row_upper elements columns row_starts shape → result ≡ store_has_room s }
 {
     (COLUMN_CEILING <= col_lower)
         & (COLUMN_CEILING <= col_upper)
@@ -44,8 +44,8 @@ pub fn has_room(
 
 // Whether a store with these runs is well shaped; the runs of doubles are not read.
 pub fn well_shaped(columns: &[u16], row_starts: &[u32], shape: &[u16]) -> bool
-    requires { (elementCeiling ≤ length columns.now) × (rowStartsLength ≤ length row_starts.now) × (shapeLength ≤ length shape.now) }
-    ensures { (s : Store) → s.columns ≡ columns.now → s.rowStarts ≡ row_starts.now → s.shape ≡ shape.now → result ≡ wellShaped s }
+    requires { (element_ceiling ≤ length columns.now) × (row_starts_length ≤ length row_starts.now) × (shape_length ≤ length shape.now) }
+    ensures { (s : Store) → s.columns ≡ columns.now → s.row_starts ≡ row_starts.now → s.shape ≡ shape.now → result ≡ well_shaped s }
 {
     if !(counts_fit(shape) & (shape[SENTINEL_AT] <= 1)) {
         return false;
@@ -77,14 +77,14 @@ pub fn row_answer(
     row: usize,
 ) -> RowAnswer
     ensures { RowAnswered (record {
-      colLower = col_lower.now;
-      colUpper = col_upper.now;
-      colObjCoef = col_obj_coef.now;
-      rowLower = row_lower.now;
-      rowUpper = row_upper.now;
+      col_lower = col_lower.now;
+      col_upper = col_upper.now;
+      col_obj_coef = col_obj_coef.now;
+      row_lower = row_lower.now;
+      row_upper = row_upper.now;
       elements = elements.now;
       columns = columns.now;
-      rowStarts = row_starts.now;
+      row_starts = row_starts.now;
       shape = shape.now;
     }) row result }
 {
@@ -126,14 +126,14 @@ pub fn row_columns<'a>(
     place: &mut usize,
 ) -> &'a [u16]
     ensures { RowRead (record {
-      colLower = col_lower.now;
-      colUpper = col_upper.now;
-      colObjCoef = col_obj_coef.now;
-      rowLower = row_lower.now;
-      rowUpper = row_upper.now;
+      col_lower = col_lower.now;
+      col_upper = col_upper.now;
+      col_obj_coef = col_obj_coef.now;
+      row_lower = row_lower.now;
+      row_upper = row_upper.now;
       elements = elements.now;
       columns = columns.now;
-      rowStarts = row_starts.now;
+      row_starts = row_starts.now;
       shape = shape.now;
     }) row result.now number.new place.new }
 {

@@ -10,10 +10,10 @@ use lib.Dec.{eqb}
 use borrow.Author.Tests.{eq-eqb, ne_eqb}
 use Rattle.pywr.specs.Network.{listed}
 
-listed-last : (c : ℕ) (xs : List ℕ) (x : ℕ) → listed c (xs ++ (x ∷ [])) ≡ (listed c xs || eqb c x)
+listed_last : (c : ℕ) (xs : List ℕ) (x : ℕ) → listed c (xs ++ (x ∷ [])) ≡ (listed c xs || eqb c x)
 unfolding listed
-listed-last c [] x = or-false (eqb c x)
-listed-last c (y ∷ xs) x = rw (listed-last c xs x) (sym (or_assoc (eqb c y) (listed c xs) (eqb c x)))
+listed_last c [] x = or-false (eqb c x)
+listed_last c (y ∷ xs) x = rw (listed_last c xs x) (sym (or_assoc (eqb c y) (listed c xs) (eqb c x)))
 
 module _ (c : ℕ) (columns : List ℕ) (start k : ℕ) where
   last_of : start < k → k ≤ length columns → listed c (slice start k columns) ≡ (listed c (slice start (k - 1) columns) || eqb c (get_or columns (k - 1) 0))
@@ -22,7 +22,7 @@ module _ (c : ℕ) (columns : List ℕ) (start k : ℕ) where
       let room : start ≤ length (take (k - 1) columns) = omega (arith, length-take-le (k - 1) columns (omega arith)) in
       ap (λ (j : ℕ). listed c (slice start j columns)) q
       ∙ rw (take-suc columns (k - 1) 0 (omega arith), drop-append-le start (take (k - 1) columns) (get_or columns (k - 1) 0 ∷ []) room)
-      (listed-last c (slice start (k - 1) columns) (get_or columns (k - 1) 0))
+      (listed_last c (slice start (k - 1) columns) (get_or columns (k - 1) 0))
 
   pub found : start < k → k ≤ length columns → c ≡ get_or columns (k - 1) 0 → listed c (slice start k columns) ≡ true
   found lt le e = last_of lt le ∙ rw (eq-eqb c (get_or columns (k - 1) 0) e) (or-true (listed c (slice start (k - 1) columns)))

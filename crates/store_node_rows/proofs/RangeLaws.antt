@@ -8,71 +8,71 @@ use lib.ListN.{get_or}
 use lib.Dec.{T, not_T, leb, ltb, leb→le, ltb→lt, lit<}
 use lib.Ieee.Fits.{and_l, and_r, and_i}
 use borrow.Author.Tests.{le-leb}
-use Rattle.layout.specs.Layout.{nodeRowsAt, nodesIn, varyingIn, nodeRowNode, nodeRowRow, nodeRowType}
-use Rattle.laws.proofs.Tests.{of-true, to-false}
+use Rattle.layout.specs.Layout.{node_rows_at, nodes_in, varying_in, node_row_node, node_row_row, node_row_type}
+use Rattle.laws.proofs.Tests.{of_true, to_false}
 use Rattle.pywr.specs.Store.{Store}
-use Rattle.pywr.specs.Misshapen.{nodeRowFits, allEntries}
-use Rattle.store_shape.specs.Limits.{repeated, partWithin, wordWithin}
-use Rattle.store_shape.proofs.LimitLaws.{under_none, under-limit, repeats, table-within}
-use Rattle.store_node_rows.specs.InRange.{InRange, nodeRowInRange}
+use Rattle.pywr.specs.Misshapen.{node_row_fits, all_entries}
+use Rattle.store_shape.specs.Limits.{repeated, part_within, word_within}
+use Rattle.store_shape.proofs.LimitLaws.{under_none, under_limit, repeats, table_within}
+use Rattle.store_node_rows.specs.InRange.{InRange, node_row_in_range}
 
 module _ (shape : List ℕ) where
-  pub no-nodes : nodesIn shape ≡ 0 → (at : ℕ) → nodeRowInRange shape at ≡ false
-  unfolding nodeRowInRange
-  no-nodes z at = rw (under_none (nodeRowNode shape at) (nodesIn shape) z)
+  pub no_nodes : nodes_in shape ≡ 0 → (at : ℕ) → node_row_in_range shape at ≡ false
+  unfolding node_row_in_range
+  no_nodes z at = rw (under_none (node_row_node shape at) (nodes_in shape) z)
 
-  pub no-varying : varyingIn shape ≡ 0 → (at : ℕ) → nodeRowInRange shape at ≡ false
-  unfolding nodeRowInRange
-  no-varying z at = rw (under_none (nodeRowRow shape at) (varyingIn shape) z, and-false)
+  pub no_varying : varying_in shape ≡ 0 → (at : ℕ) → node_row_in_range shape at ≡ false
+  unfolding node_row_in_range
+  no_varying z at = rw (under_none (node_row_row shape at) (varying_in shape) z, and-false)
 
-  pub told-in-range : (at : ℕ) → nodeRowInRange shape at ≡ true → InRange shape at
-  unfolding nodeRowInRange
-  told-in-range at e =
-      let node : Bool = ltb (nodeRowNode shape at) (nodesIn shape) in
-      let row : Bool = ltb (nodeRowRow shape at) (varyingIn shape) in
-      let row_type : Bool = leb (nodeRowType shape at) 2 in
-      let all = of-true (node && row && row_type) e in
+  pub told_in_range : (at : ℕ) → node_row_in_range shape at ≡ true → InRange shape at
+  unfolding node_row_in_range
+  told_in_range at e =
+      let node : Bool = ltb (node_row_node shape at) (nodes_in shape) in
+      let row : Bool = ltb (node_row_row shape at) (varying_in shape) in
+      let row_type : Bool = leb (node_row_type shape at) 2 in
+      let all = of_true (node && row && row_type) e in
       let two = and_l (node && row) row_type all in
       record {
-        node = ltb→lt (nodeRowNode shape at) (nodesIn shape) (and_l node row two);
-        row = ltb→lt (nodeRowRow shape at) (varyingIn shape) (and_r node row two);
-        row_type = leb→le (nodeRowType shape at) 2 (and_r (node && row) row_type all);
+        node = ltb→lt (node_row_node shape at) (nodes_in shape) (and_l node row two);
+        row = ltb→lt (node_row_row shape at) (varying_in shape) (and_r node row two);
+        row_type = leb→le (node_row_type shape at) 2 (and_r (node && row) row_type all);
       }
 
-  abbrev pub nodeRowLimits : List ℕ
-  nodeRowLimits = (nodesIn shape - 1) ∷ (varyingIn shape - 1) ∷ 2 ∷ 65535 ∷ []
+  abbrev pub node_row_limits : List ℕ
+  node_row_limits = (nodes_in shape - 1) ∷ (varying_in shape - 1) ∷ 2 ∷ 65535 ∷ []
 
-  module _ (n : nodesIn shape ≡ 0 → ⊥) (v : varyingIn shape ≡ 0 → ⊥) (words : (k : ℕ) → get_or shape k 0 ≤ 65535) where
-    node-row-within : (at : ℕ) → partWithin shape nodeRowLimits 4 at ≡ nodeRowInRange shape at
-    unfolding partWithin allEntries nodeRowInRange
-    node-row-within at =
+  module _ (n : nodes_in shape ≡ 0 → ⊥) (v : varying_in shape ≡ 0 → ⊥) (words : (k : ℕ) → get_or shape k 0 ≤ 65535) where
+    node_row_within : (at : ℕ) → part_within shape node_row_limits 4 at ≡ node_row_in_range shape at
+    unfolding part_within all_entries node_row_in_range
+    node_row_within at =
         rw (
           add-zero,
           le-leb (get_or shape (at + 3) 0) 65535 (words (at + 3)),
           and-true,
-          under-limit (get_or shape at 0) (nodesIn shape) n,
-          under-limit (get_or shape (at + 1) 0) (varyingIn shape) v,
+          under_limit (get_or shape at 0) (nodes_in shape) n,
+          under_limit (get_or shape (at + 1) 0) (varying_in shape) v,
           and_assoc,
         )
 
-    pub node-rows-within : (count : ℕ) → allEntries (wordWithin shape nodeRowsAt (repeated 12 nodeRowLimits)) 1 0 (4 * count) ≡ allEntries (nodeRowInRange shape) 4 nodeRowsAt count
-    node-rows-within = table-within shape nodeRowsAt 4 nodeRowLimits (repeated 12 nodeRowLimits) (repeats nodeRowLimits 12 (lit< tt) refl) (nodeRowInRange shape) node-row-within
+    pub node_rows_within : (count : ℕ) → all_entries (word_within shape node_rows_at (repeated 12 node_row_limits)) 1 0 (4 * count) ≡ all_entries (node_row_in_range shape) 4 node_rows_at count
+    node_rows_within = table_within shape node_rows_at 4 node_row_limits (repeated 12 node_row_limits) (repeats node_row_limits 12 (lit< tt) refl) (node_row_in_range shape) node_row_within
 
 -- ---- a table with an entry out of range
 
-all_weaker : (f g : ℕ → Bool) → ((at : ℕ) → T (f at) → T (g at)) → (words at count : ℕ) → T (allEntries f words at count) → T (allEntries g words at count)
-unfolding allEntries
+all_weaker : (f g : ℕ → Bool) → ((at : ℕ) → T (f at) → T (g at)) → (words at count : ℕ) → T (all_entries f words at count) → T (all_entries g words at count)
+unfolding all_entries
 all_weaker f g h words at zero t = tt
 all_weaker f g h words at (suc count) t =
-    let rest : Bool = allEntries f words (at + words) count in
-    and_i (g at) (allEntries g words (at + words) count) (h at (and_l (f at) rest t)) (all_weaker f g h words (at + words) count (and_r (f at) rest t))
+    let rest : Bool = all_entries f words (at + words) count in
+    and_i (g at) (all_entries g words (at + words) count) (h at (and_l (f at) rest t)) (all_weaker f g h words (at + words) count (and_r (f at) rest t))
 
 module _ (s : Store) where
-  in-range : (at : ℕ) → T (nodeRowFits s at) → T (nodeRowInRange s.shape at)
-  unfolding nodeRowFits nodeRowInRange
-  in-range at t = and_l (nodeRowInRange s.shape at) _ t
+  in_range_lem : (at : ℕ) → T (node_row_fits s at) → T (node_row_in_range s.shape at)
+  unfolding node_row_fits node_row_in_range
+  in_range_lem at t = and_l (node_row_in_range s.shape at) _ t
 
-  pub out_of_range : (words at count : ℕ) → allEntries (nodeRowInRange s.shape) words at count ≡ false → false ≡ allEntries (nodeRowFits s) words at count
+  pub out_of_range : (words at count : ℕ) → all_entries (node_row_in_range s.shape) words at count ≡ false → false ≡ all_entries (node_row_fits s) words at count
   out_of_range words at count e =
-      sym (to-false (allEntries (nodeRowFits s) words at count)
-      (not_T (allEntries (nodeRowFits s) words at count) (λ t. subst T e (all_weaker (nodeRowFits s) (nodeRowInRange s.shape) in-range words at count t))))
+      sym (to_false (all_entries (node_row_fits s) words at count)
+      (not_T (all_entries (node_row_fits s) words at count) (λ t. subst T e (all_weaker (node_row_fits s) (node_row_in_range s.shape) in_range_lem words at count t))))

@@ -1,12 +1,12 @@
 // The node rows of a store: the part of refusal 17 on the node-row table, with "an integer column absent from its row".
 ghost use Rattle.std.specs.Prelude.{◌≡◌, ◌+◌, ◌≤◌, length};
 ghost use Rattle.std.proofs.Math.Seq.{slice};
-ghost use Rattle.layout.specs.Layout.{nodeRowCeiling, shapeLength, nodeRowsAt, nodeRowWidth, nodeRowsIn};
+ghost use Rattle.layout.specs.Layout.{node_row_ceiling, shape_length, node_rows_at, node_row_width, node_rows_in};
 ghost use Rattle.pywr.specs.Network.{listed};
-ghost use Rattle.pywr.specs.Store.{Store, nodeRowCount};
-ghost use Rattle.pywr.specs.Misshapen.{nodeRowFits, allEntries};
+ghost use Rattle.pywr.specs.Store.{Store, node_row_count};
+ghost use Rattle.pywr.specs.Misshapen.{node_row_fits, all_entries};
 ghost use Rattle.store_rows.specs.Starts.{RowsWithin};
-ghost use Rattle.store_node_rows.specs.InRange.{InRange, nodeRowInRange};
+ghost use Rattle.store_node_rows.specs.InRange.{InRange, node_row_in_range};
 
 use layout::{
     EDGE_COLUMN_COUNT_AT, NODE_COUNT_AT, NODE_ROW_COUNT_AT, NODE_ROW_ROW, NODE_ROW_SET,
@@ -36,8 +36,8 @@ const ANY_WORD: u16 = 65535;
 
 // The node, the row and the row type of each node row. Without nodes or varying rows none is in range.
 fn node_rows_in_range(shape: &[u16]) -> bool
-    requires { (shapeLength ≤ length shape.now) × (nodeRowsIn shape.now ≤ nodeRowCeiling) }
-    ensures { result ≡ allEntries (nodeRowInRange shape.now) nodeRowWidth nodeRowsAt (nodeRowsIn shape.now) }
+    requires { (shape_length ≤ length shape.now) × (node_rows_in shape.now ≤ node_row_ceiling) }
+    ensures { result ≡ all_entries (node_row_in_range shape.now) node_row_width node_rows_at (node_rows_in shape.now) }
 {
     let node_rows = wide16(shape[NODE_ROW_COUNT_AT]);
     let nodes = shape[NODE_COUNT_AT];
@@ -54,9 +54,9 @@ fn node_rows_in_range(shape: &[u16]) -> bool
 
 // A node row whose words are in range: unless continuous, a set whose integer column is in the row.
 fn node_row_fits(columns: &[u16], row_starts: &[u32], shape: &[u16], at: usize) -> bool
-    requires { RowsWithin columns.now row_starts.now shape.now × (at + nodeRowWidth ≤ shapeLength) × InRange shape.now at }
-    ensures { (s : Store) → s.columns ≡ columns.now → s.rowStarts ≡ row_starts.now → s.shape ≡ shape.now
-        → result ≡ nodeRowFits s at }
+    requires { RowsWithin columns.now row_starts.now shape.now × (at + node_row_width ≤ shape_length) × InRange shape.now at }
+    ensures { (s : Store) → s.columns ≡ columns.now → s.row_starts ≡ row_starts.now → s.shape ≡ shape.now
+        → result ≡ node_row_fits s at }
 {
     if shape[at + NODE_ROW_TYPE] == 0 {
         return true;
@@ -76,9 +76,9 @@ fn node_row_fits(columns: &[u16], row_starts: &[u32], shape: &[u16], at: usize) 
 
 // The node rows: first their words, all at once, then the sets of those that are not continuous.
 pub fn node_rows_fit(columns: &[u16], row_starts: &[u32], shape: &[u16]) -> bool
-    requires { RowsWithin columns.now row_starts.now shape.now × (nodeRowsIn shape.now ≤ nodeRowCeiling) }
-    ensures { (s : Store) → s.columns ≡ columns.now → s.rowStarts ≡ row_starts.now → s.shape ≡ shape.now
-        → result ≡ allEntries (nodeRowFits s) nodeRowWidth nodeRowsAt (nodeRowCount s) }
+    requires { RowsWithin columns.now row_starts.now shape.now × (node_rows_in shape.now ≤ node_row_ceiling) }
+    ensures { (s : Store) → s.columns ≡ columns.now → s.row_starts ≡ row_starts.now → s.shape ≡ shape.now
+        → result ≡ all_entries (node_row_fits s) node_row_width node_rows_at (node_row_count s) }
 {
     if !node_rows_in_range(shape) {
         return false;

@@ -1,24 +1,24 @@
 -- What the tests of the counts and of the row starts have shown of the runs, before the rows themselves are read. Assumes nothing.
 use Rattle.std.specs.Prelude.{◌≡◌, ℕ, ◌+◌, ◌<◌, ◌≤◌, List, length, get_or}
-use Rattle.layout.specs.Layout.{edgeCeiling, setCeiling, rowCeiling, elementCeiling, rowStartsLength, shapeLength, edgeColumnsIn, setsIn, varyingIn, fixedIn, elementsIn}
+use Rattle.layout.specs.Layout.{edge_ceiling, set_ceiling, row_ceiling, element_ceiling, row_starts_length, shape_length, edge_columns_in, sets_in, varying_in, fixed_in, elements_in}
 
-pub record StartsRise (rowStarts : List ℕ) (rows kept : ℕ) : Type 0 where
-  pub first : get_or rowStarts 0 0 ≡ 0
-  pub rise : (r : ℕ) → r < rows → get_or rowStarts r 0 ≤ get_or rowStarts (r + 1) 0
-  pub last : get_or rowStarts rows 0 ≡ kept
+pub record StartsRise (row_starts : List ℕ) (rows kept : ℕ) : Type 0 where
+  pub first : get_or row_starts 0 0 ≡ 0
+  pub rise : (r : ℕ) → r < rows → get_or row_starts r 0 ≤ get_or row_starts (r + 1) 0
+  pub last : get_or row_starts rows 0 ≡ kept
 
-pub record RowsWithin (columns rowStarts shape : List ℕ) : Type 0 where
-  pub columns-long : elementCeiling ≤ length columns
-  pub starts-long : rowStartsLength ≤ length rowStarts
-  pub shape-long : shapeLength ≤ length shape
-  pub edge-columns : edgeColumnsIn shape ≤ edgeCeiling
-  pub sets : setsIn shape ≤ setCeiling
-  pub rows : varyingIn shape + fixedIn shape ≤ rowCeiling
-  pub kept : elementsIn shape ≤ elementCeiling
-  pub starts : StartsRise rowStarts (varyingIn shape + fixedIn shape) (elementsIn shape)
+pub record RowsWithin (columns row_starts shape : List ℕ) : Type 0 where
+  pub columns_long : element_ceiling ≤ length columns
+  pub starts_long : row_starts_length ≤ length row_starts
+  pub shape_long : shape_length ≤ length shape
+  pub edge_columns_lem : edge_columns_in shape ≤ edge_ceiling
+  pub sets : sets_in shape ≤ set_ceiling
+  pub rows : varying_in shape + fixed_in shape ≤ row_ceiling
+  pub kept : elements_in shape ≤ element_ceiling
+  pub starts : StartsRise row_starts (varying_in shape + fixed_in shape) (elements_in shape)
 
 -- the first n rows start at 0, and the next, if there is one, does not
-pub record RowsFromZero (rowStarts : List ℕ) (rows n : ℕ) : Type 0 where
+pub record RowsFromZero (row_starts : List ℕ) (rows n : ℕ) : Type 0 where
   pub few : n ≤ rows
-  pub from_zero : (r : ℕ) → r < n → get_or rowStarts r 0 ≡ 0
-  pub next : n < rows → 0 < get_or rowStarts n 0
+  pub from_zero : (r : ℕ) → r < n → get_or row_starts r 0 ≡ 0
+  pub next : n < rows → 0 < get_or row_starts n 0

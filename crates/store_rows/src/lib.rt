@@ -1,9 +1,9 @@
 // The rows of a store: the parts of refusal 17 on row starts and columns.
 ghost use Rattle.std.specs.Prelude.{◌≡◌, ◌&&◌, ℕ, ◌+◌, ◌≤◌, ◌<◌, length, get_or, eqb};
-ghost use Rattle.layout.specs.Layout.{rowCeiling, elementCeiling, rowStartsLength, shapeLength, varyingIn, fixedIn};
-ghost use Rattle.pywr.specs.Store.{Store, rowCount, start_of};
-ghost use Rattle.pywr.specs.Misshapen.{startsRise, rowColumnsRise, allEntries};
-ghost use Rattle.store_rows.specs.Falls.{fall, fallAt, sumFrom, rowFall};
+ghost use Rattle.layout.specs.Layout.{row_ceiling, element_ceiling, row_starts_length, shape_length, varying_in, fixed_in};
+ghost use Rattle.pywr.specs.Store.{Store, row_count, start_of};
+ghost use Rattle.pywr.specs.Misshapen.{starts_rise, row_columns_rise, all_entries};
+ghost use Rattle.store_rows.specs.Falls.{fall, fall_at, sum_from, row_fall};
 ghost use Rattle.store_rows.specs.Starts.{RowsWithin, RowsFromZero};
 
 use layout::{EDGE_COLUMN_COUNT_AT, ELEMENT_COUNT_AT, SET_COUNT_AT};
@@ -13,9 +13,9 @@ use widths::{wide16, wide32};
 
 // "row starts not from 0, falling, or not ending at the element count"
 pub fn starts_rise(row_starts: &[u32], shape: &[u16]) -> bool
-    requires { (rowStartsLength ≤ length row_starts.now) × (shapeLength ≤ length shape.now) × (varyingIn shape.now + fixedIn shape.now ≤ rowCeiling) }
-    ensures { (s : Store) → s.rowStarts ≡ row_starts.now → s.shape ≡ shape.now
-        → result ≡ (eqb (start_of s 0) 0 && startsRise s 0 (rowCount s)) }
+    requires { (row_starts_length ≤ length row_starts.now) × (shape_length ≤ length shape.now) × (varying_in shape.now + fixed_in shape.now ≤ row_ceiling) }
+    ensures { (s : Store) → s.row_starts ≡ row_starts.now → s.shape ≡ shape.now
+        → result ≡ (eqb (start_of s 0) 0 && starts_rise s 0 (row_count s)) }
 {
     let rows = row_count(shape);
     let mut good = row_starts[0] == 0;
@@ -36,8 +36,8 @@ fn fall_of(before: ColumnIndex, column: ColumnIndex) -> u16
 
 // How often the first n columns fall.
 fn falls(columns: &[u16], n: usize) -> u16
-    requires { (n ≤ length columns.now) × (n ≤ elementCeiling) }
-    ensures { result ≡ sumFrom (fallAt columns.now) 0 n }
+    requires { (n ≤ length columns.now) × (n ≤ element_ceiling) }
+    ensures { result ≡ sum_from (fall_at columns.now) 0 n }
 {
     let mut sum: u16 = 0;
     let mut i: usize = 1;
@@ -65,10 +65,10 @@ fn rows_from_zero(row_starts: &[u32], rows: usize) -> usize
 
 // How many rows start with a fall. A row that starts at 0 does not, nor does an empty one.
 fn start_falls(columns: &[u16], row_starts: &[u32], rows: usize) -> u16
-    requires { (rows ≤ rowCeiling) × (rows < length row_starts.now)
+    requires { (rows ≤ row_ceiling) × (rows < length row_starts.now)
         × ((r : ℕ) → r < rows → get_or row_starts.now r 0 ≤ get_or row_starts.now (r + 1) 0)
         × ((r : ℕ) → r < rows → get_or row_starts.now (r + 1) 0 ≤ length columns.now) }
-    ensures { result ≡ sumFrom (rowFall columns.now row_starts.now) 0 rows }
+    ensures { result ≡ sum_from (row_fall columns.now row_starts.now) 0 rows }
 {
     let mut sum: u16 = 0;
     let mut r: usize = rows_from_zero(row_starts, rows);
@@ -85,8 +85,8 @@ fn start_falls(columns: &[u16], row_starts: &[u32], rows: usize) -> u16
 // "columns out of range or not rising in a row": every column is under the count, and the run falls only where a row starts.
 pub fn columns_rise(columns: &[u16], row_starts: &[u32], shape: &[u16]) -> bool
     requires { RowsWithin columns.now row_starts.now shape.now }
-    ensures { (s : Store) → s.columns ≡ columns.now → s.rowStarts ≡ row_starts.now → s.shape ≡ shape.now
-        → result ≡ allEntries (rowColumnsRise s) 1 0 (rowCount s) }
+    ensures { (s : Store) → s.columns ≡ columns.now → s.row_starts ≡ row_starts.now → s.shape ≡ shape.now
+        → result ≡ all_entries (row_columns_rise s) 1 0 (row_count s) }
 {
     let kept = wide16(shape[ELEMENT_COUNT_AT]);
     let under = words_under(

@@ -6,46 +6,46 @@ use native.Mathlib.Omega.{arith}
 use mathlib.Core.Bool.{Bool, true, false, ◌&&◌, and-true}
 use mathlib.Core.List.{List, []}
 use Rattle.pywr.specs.Store.{Store}
-use Rattle.pywr.specs.Misshapen.{allEntries}
+use Rattle.pywr.specs.Misshapen.{all_entries}
 use Rattle.store_shape.proofs.EntryLaws.{next_place}
-pub use Rattle.pywr.proofs.EntryLaws.{entry-passes}
+pub use Rattle.pywr.proofs.EntryLaws.{entry_passes}
 
 -- a store of which only the shape run is read
-abbrev pub ofShape : List ℕ → Store
-ofShape shape = record { colLower = []; colUpper = []; colObjCoef = []; rowLower = []; rowUpper = []; elements = []; columns = []; rowStarts = []; shape = shape }
+abbrev pub of_shape : List ℕ → Store
+of_shape shape = record { col_lower = []; col_upper = []; col_obj_coef = []; row_lower = []; row_upper = []; elements = []; columns = []; row_starts = []; shape = shape }
 
 module _ (test : ℕ → Bool) (words first count : ℕ) where
   -- i entries were tested, the next one stands at `at`, and `good` says whether all of them passed
   pub record Tested (good : Bool) (at i : ℕ) : Type 0 where
     pub few : i ≤ count
     pub place : at ≡ first + words * i
-    pub so_far : allEntries test words first count ≡ (good && allEntries test words at (count - i))
+    pub so_far : all_entries test words first count ≡ (good && all_entries test words at (count - i))
 
-  pub tested-none : Tested true first 0
-  tested-none = record { few = zero-le; place = rw (mul-zero, add-zero); so_far = rw sub-zero }
+  pub tested_none : Tested true first 0
+  tested_none = record { few = zero-le; place = rw (mul-zero, add-zero); so_far = rw sub-zero }
 
 module _ {test : ℕ → Bool} {words first count : ℕ} {good : Bool} {at i : ℕ} (h : Tested test words first count good at i) where
-  pub tested-more : i < count → Tested test words first count (good && test at) (at + words) (i + 1)
-  unfolding allEntries
-  tested-more lt =
+  pub tested_more : i < count → Tested test words first count (good && test at) (at + words) (i + 1)
+  unfolding all_entries
+  tested_more lt =
       record {
         few = omega arith;
         place = rw h.place (next_place first words i);
         so_far = h.so_far ∙ next good;
       }
     where
-      next : (b : Bool) → (b && allEntries test words at (count - i)) ≡ (b && test at && allEntries test words (at + words) (count - (i + 1)))
+      next : (b : Bool) → (b && all_entries test words at (count - i)) ≡ (b && test at && all_entries test words (at + words) (count - (i + 1)))
       next true = let e : count - i ≡ suc (count - (i + 1)) = omega arith in rw e
       next false = refl
 
-  pub tested-all : count ≤ i → good ≡ allEntries test words first count
-  unfolding allEntries
-  tested-all le = sym (h.so_far ∙ rw (sub-eq-zero_of_le le) (and-true good))
+  pub tested_all : count ≤ i → good ≡ all_entries test words first count
+  unfolding all_entries
+  tested_all le = sym (h.so_far ∙ rw (sub-eq-zero_of_le le) (and-true good))
 
 -- the same where a turn ends the loop at the first entry that fails
 module _ {test : ℕ → Bool} {words first count at i : ℕ} (h : Tested test words first count true at i) (lt : i < count) where
-  pub tested-pass : test at ≡ true → Tested test words first count true (at + words) (i + 1)
-  tested-pass e = rw e at (tested-more h lt)
+  pub tested_pass : test at ≡ true → Tested test words first count true (at + words) (i + 1)
+  tested_pass e = rw e at (tested_more h lt)
 
-  pub tested-fail : test at ≡ false → false ≡ allEntries test words first count
-  tested-fail e = sym ((tested-more h lt).so_far ∙ rw e)
+  pub tested_fail : test at ≡ false → false ≡ all_entries test words first count
+  tested_fail e = sym ((tested_more h lt).so_far ∙ rw e)

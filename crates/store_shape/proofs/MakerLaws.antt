@@ -7,22 +7,22 @@ use mathlib.Core.List.{List, [], ◌∷◌}
 use lib.ListN.{get_or}
 use lib.Dec.{leb}
 use borrow.Author.Tests.{lt-ltb, le-ltb, le-leb, lt-leb}
-use Rattle.pywr.specs.Programme.{byExclusivity}
-use Rattle.pywr.specs.Store.{Store, nodeCount, aggregateCount, virtualStorageCount}
-use Rattle.pywr.specs.Misshapen.{makersOfKind, makerFits}
+use Rattle.pywr.specs.Programme.{by_exclusivity}
+use Rattle.pywr.specs.Store.{Store, node_count, aggregate_count, virtual_storage_count}
+use Rattle.pywr.specs.Misshapen.{makers_of_kind, maker_fits}
 
 -- how many can make a row of each kind
-abbrev pub ofKinds : Store → List ℕ
-ofKinds s = nodeCount s ∷ nodeCount s ∷ aggregateCount s ∷ virtualStorageCount s ∷ aggregateCount s ∷ []
+abbrev pub of_kinds : Store → List ℕ
+of_kinds s = node_count s ∷ node_count s ∷ aggregate_count s ∷ virtual_storage_count s ∷ aggregate_count s ∷ []
 
-of-kind : (s : Store) (kind : ℕ) → kind ≤ byExclusivity → get_or (ofKinds s) kind 0 ≡ makersOfKind s kind
-unfolding makersOfKind
-of-kind s zero h = refl
-of-kind s (suc zero) h = refl
-of-kind s (suc (suc zero)) h = refl
-of-kind s (suc (suc (suc zero))) h = refl
-of-kind s (suc (suc (suc (suc zero)))) h = refl
-of-kind s (suc (suc (suc (suc (suc k))))) h = absurd (omega arith)
+of_kind : (s : Store) (kind : ℕ) → kind ≤ by_exclusivity → get_or (of_kinds s) kind 0 ≡ makers_of_kind s kind
+unfolding makers_of_kind
+of_kind s zero h = refl
+of_kind s (suc zero) h = refl
+of_kind s (suc (suc zero)) h = refl
+of_kind s (suc (suc (suc zero))) h = refl
+of_kind s (suc (suc (suc (suc zero)))) h = refl
+of_kind s (suc (suc (suc (suc (suc k))))) h = absurd (omega arith)
 
 module _ (s : Store) (at : ℕ) where
   abbrev kind : ℕ
@@ -31,14 +31,14 @@ module _ (s : Store) (at : ℕ) where
   abbrev index : ℕ
   index = get_or s.shape (at + 1) 0
 
-  pub kind-out : byExclusivity < kind → false ≡ makerFits s at
-  unfolding makerFits
-  kind-out h = rw (lt-leb kind byExclusivity h)
+  pub kind_out : by_exclusivity < kind → false ≡ maker_fits s at
+  unfolding maker_fits
+  kind_out h = rw (lt-leb kind by_exclusivity h)
 
-  pub index-out : kind ≤ byExclusivity → get_or (ofKinds s) kind 0 ≤ index → false ≡ makerFits s at
-  unfolding makerFits
-  index-out k h = rw (le-leb kind byExclusivity k, le-ltb index (makersOfKind s kind) (subst (λ (n : ℕ). n ≤ index) (of-kind s kind k) h))
+  pub index_out : kind ≤ by_exclusivity → get_or (of_kinds s) kind 0 ≤ index → false ≡ maker_fits s at
+  unfolding maker_fits
+  index_out k h = rw (le-leb kind by_exclusivity k, le-ltb index (makers_of_kind s kind) (subst (λ (n : ℕ). n ≤ index) (of_kind s kind k) h))
 
-  pub by-sharers : kind ≤ byExclusivity → index < get_or (ofKinds s) kind 0 → leb 1 (get_or s.shape (at + 2) 0) ≡ makerFits s at
-  unfolding makerFits
-  by-sharers k h = rw (le-leb kind byExclusivity k, lt-ltb index (makersOfKind s kind) (subst (λ (n : ℕ). index < n) (of-kind s kind k) h))
+  pub by_sharers : kind ≤ by_exclusivity → index < get_or (of_kinds s) kind 0 → leb 1 (get_or s.shape (at + 2) 0) ≡ maker_fits s at
+  unfolding maker_fits
+  by_sharers k h = rw (le-leb kind by_exclusivity k, lt-ltb index (makers_of_kind s kind) (subst (λ (n : ℕ). index < n) (of_kind s kind k) h))

@@ -1,12 +1,12 @@
 // The shape run of a store: its words, and the parts of refusal 17 that read no other run.
 ghost use Rattle.std.specs.Prelude.{◌≡◌, ℕ, ◌+◌, ◌≤◌, ◌<◌, [], ◌∷◌, length, get_or, leb, ltb, eqb};
-ghost use Rattle.layout.specs.Layout.{nodeCeiling, edgeCeiling, aggregateCeiling, virtualStorageCeiling, rowCeiling, shapeLength};
-ghost use Rattle.layout.specs.Layout.{nodesAt, edges_at, aggregatesAt, virtualStoragesAt, makersAt, nodeWidth, edgeWidth, aggregateWidth, virtualStorageWidth, makerWidth};
-ghost use Rattle.layout.specs.Layout.{flowOrderAt, flowOrderWidth};
-ghost use Rattle.layout.specs.Layout.{sentinelIn, nodesIn, edgesIn, varyingIn, fixedIn, aggregatesIn, virtualStoragesIn};
-ghost use Rattle.pywr.specs.Store.{Store, sentinelOf, nodeCount, edge_count, aggregateCount, virtualStorageCount, rowCount};
-ghost use Rattle.pywr.specs.Misshapen.{countsFit, nodeFits, edgeFits, aggregateFits, virtualStorageFits, makerFits, flowOrderFits, allEntries};
-ghost use Rattle.store_shape.specs.Limits.{repeated, partLength, partWithin, wordWithin};
+ghost use Rattle.layout.specs.Layout.{node_ceiling, edge_ceiling, aggregate_ceiling, virtual_storage_ceiling, row_ceiling, shape_length};
+ghost use Rattle.layout.specs.Layout.{nodes_at, edges_at, aggregates_at, virtual_storages_at, makers_at, node_width, edge_width, aggregate_width, virtual_storage_width, maker_width};
+ghost use Rattle.layout.specs.Layout.{flow_order_at, flow_order_width};
+ghost use Rattle.layout.specs.Layout.{sentinel_in, nodes_in, edges_in, varying_in, fixed_in, aggregates_in, virtual_storages_in};
+ghost use Rattle.pywr.specs.Store.{Store, sentinel_of, node_count, edge_count, aggregate_count, virtual_storage_count, row_count};
+ghost use Rattle.pywr.specs.Misshapen.{counts_fit, node_fits, edge_fits, aggregate_fits, virtual_storage_fits, maker_fits, flow_order_fits, all_entries};
+ghost use Rattle.store_shape.specs.Limits.{repeated, part_length, part_within, word_within};
 
 use layout::{
     AGGREGATE_CEILING, AGGREGATE_COUNT_AT, AGGREGATES_AT, BY_EXCLUSIVITY, EDGE_CEILING,
@@ -36,8 +36,8 @@ const VIRTUAL_STORAGE_CEILING_WORD: u16 = VIRTUAL_STORAGE_CEILING as u16;
 
 // The sentinel that the store keeps.
 pub fn kept_sentinel(shape: &[u16]) -> Sentinel
-    requires { shapeLength ≤ length shape.now }
-    ensures { result ≡ sentinelOf (sentinelIn shape.now) }
+    requires { shape_length ≤ length shape.now }
+    ensures { result ≡ sentinel_of (sentinel_in shape.now) }
 {
     if shape[SENTINEL_AT] == 0 {
         Sentinel::Infinity
@@ -48,16 +48,16 @@ pub fn kept_sentinel(shape: &[u16]) -> Sentinel
 
 // The varying rows and the fixed ones.
 pub fn row_count(shape: &[u16]) -> usize
-    requires { shapeLength ≤ length shape.now }
-    ensures { result ≡ varyingIn shape.now + fixedIn shape.now }
+    requires { shape_length ≤ length shape.now }
+    ensures { result ≡ varying_in shape.now + fixed_in shape.now }
 {
     wide16(shape[VARYING_COUNT_AT]) + wide16(shape[FIXED_COUNT_AT])
 }
 
 // "a count over its ceiling"
 pub fn counts_fit(shape: &[u16]) -> bool
-    requires { shapeLength ≤ length shape.now }
-    ensures { (s : Store) → s.shape ≡ shape.now → result ≡ countsFit s }
+    requires { shape_length ≤ length shape.now }
+    ensures { (s : Store) → s.shape ≡ shape.now → result ≡ counts_fit s }
 {
     (shape[NODE_COUNT_AT] <= NODE_CEILING_WORD)
         & (shape[EDGE_COUNT_AT] <= EDGE_CEILING_WORD)
@@ -124,8 +124,8 @@ fn excess(word: u16, most: u16) -> u16
 
 // The words of a part against the limits: 0 exactly if each is at most its own. Tables are looked at whole, with no way out of the loop, so that the compiler vectorises it.
 fn part_excess(words: &[u16], at: usize, most: &[u16; PART_LENGTH], count: usize) -> u16
-    requires { (at + count ≤ length words.now) × (count ≤ partLength) }
-    ensures { eqb result 0 ≡ partWithin words.now most.now count at }
+    requires { (at + count ≤ length words.now) × (count ≤ part_length) }
+    ensures { eqb result 0 ≡ part_within words.now most.now count at }
 {
     let mut over: u16 = 0;
     let mut j: usize = 0;
@@ -139,7 +139,7 @@ fn part_excess(words: &[u16], at: usize, most: &[u16; PART_LENGTH], count: usize
 // Whether each of `count` words from `first` on is at most its limit.
 pub fn words_within(words: &[u16], first: usize, count: usize, most: &[u16; PART_LENGTH]) -> bool
     requires { first + count ≤ length words.now }
-    ensures { result ≡ allEntries (wordWithin words.now first most.now) 1 0 count }
+    ensures { result ≡ all_entries (word_within words.now first most.now) 1 0 count }
 {
     let mut over: u16 = 0;
     let mut at: usize = first;
@@ -155,8 +155,8 @@ pub fn words_within(words: &[u16], first: usize, count: usize, most: &[u16; PART
 
 // "a kind, flag .. out of range"
 pub fn nodes_fit(shape: &[u16]) -> bool
-    requires { (shapeLength ≤ length shape.now) × (nodesIn shape.now ≤ nodeCeiling) }
-    ensures { (s : Store) → s.shape ≡ shape.now → result ≡ allEntries (nodeFits s) nodeWidth nodesAt (nodeCount s) }
+    requires { (shape_length ≤ length shape.now) × (nodes_in shape.now ≤ node_ceiling) }
+    ensures { (s : Store) → s.shape ≡ shape.now → result ≡ all_entries (node_fits s) node_width nodes_at (node_count s) }
 {
     let nodes = wide16(shape[NODE_COUNT_AT]);
     let most = limits_of_2(3, 1);
@@ -165,8 +165,8 @@ pub fn nodes_fit(shape: &[u16]) -> bool
 
 // An edge: two nodes and a column. Without nodes or columns no edge fits.
 pub fn edges_fit(shape: &[u16]) -> bool
-    requires { (shapeLength ≤ length shape.now) × (edgesIn shape.now ≤ edgeCeiling) }
-    ensures { (s : Store) → s.shape ≡ shape.now → result ≡ allEntries (edgeFits s) edgeWidth edges_at (edge_count s) }
+    requires { (shape_length ≤ length shape.now) × (edges_in shape.now ≤ edge_ceiling) }
+    ensures { (s : Store) → s.shape ≡ shape.now → result ≡ all_entries (edge_fits s) edge_width edges_at (edge_count s) }
 {
     let nodes = shape[NODE_COUNT_AT];
     let columns = shape[EDGE_COLUMN_COUNT_AT];
@@ -184,7 +184,7 @@ pub fn edges_fit(shape: &[u16]) -> bool
 // Whether each of `count` words from `first` on is under `limit`.
 pub fn words_under(words: &[u16], first: usize, count: usize, limit: u16) -> bool
     requires { first + count ≤ length words.now }
-    ensures { result ≡ allEntries (λ (at : ℕ). ltb (get_or words.now at 0) limit) 1 first count }
+    ensures { result ≡ all_entries (λ (at : ℕ). ltb (get_or words.now at 0) limit) 1 first count }
 {
     if limit == 0 {
         return count == 0;
@@ -201,8 +201,8 @@ pub fn words_under(words: &[u16], first: usize, count: usize, limit: u16) -> boo
 
 // An aggregate: a varying row.
 pub fn aggregates_fit(shape: &[u16]) -> bool
-    requires { (shapeLength ≤ length shape.now) × (aggregatesIn shape.now ≤ aggregateCeiling) }
-    ensures { (s : Store) → s.shape ≡ shape.now → result ≡ allEntries (aggregateFits s) aggregateWidth aggregatesAt (aggregateCount s) }
+    requires { (shape_length ≤ length shape.now) × (aggregates_in shape.now ≤ aggregate_ceiling) }
+    ensures { (s : Store) → s.shape ≡ shape.now → result ≡ all_entries (aggregate_fits s) aggregate_width aggregates_at (aggregate_count s) }
 {
     let aggregates = wide16(shape[AGGREGATE_COUNT_AT]);
     words_under(shape, AGGREGATES_AT, aggregates, shape[VARYING_COUNT_AT])
@@ -210,8 +210,8 @@ pub fn aggregates_fit(shape: &[u16]) -> bool
 
 // The flow order: an edge for each edge.
 pub fn flow_order_fits(shape: &[u16]) -> bool
-    requires { (shapeLength ≤ length shape.now) × (edgesIn shape.now ≤ edgeCeiling) }
-    ensures { (s : Store) → s.shape ≡ shape.now → result ≡ allEntries (flowOrderFits s) flowOrderWidth flowOrderAt (edge_count s) }
+    requires { (shape_length ≤ length shape.now) × (edges_in shape.now ≤ edge_ceiling) }
+    ensures { (s : Store) → s.shape ≡ shape.now → result ≡ all_entries (flow_order_fits s) flow_order_width flow_order_at (edge_count s) }
 {
     let edges = shape[EDGE_COUNT_AT];
     words_under(shape, FLOW_ORDER_AT, wide16(edges), edges)
@@ -219,8 +219,8 @@ pub fn flow_order_fits(shape: &[u16]) -> bool
 
 // A virtual storage: a varying row, and whether it has a period.
 pub fn virtual_storages_fit(shape: &[u16]) -> bool
-    requires { (shapeLength ≤ length shape.now) × (virtualStoragesIn shape.now ≤ virtualStorageCeiling) }
-    ensures { (s : Store) → s.shape ≡ shape.now → result ≡ allEntries (virtualStorageFits s) virtualStorageWidth virtualStoragesAt (virtualStorageCount s) }
+    requires { (shape_length ≤ length shape.now) × (virtual_storages_in shape.now ≤ virtual_storage_ceiling) }
+    ensures { (s : Store) → s.shape ≡ shape.now → result ≡ all_entries (virtual_storage_fits s) virtual_storage_width virtual_storages_at (virtual_storage_count s) }
 {
     let varying = shape[VARYING_COUNT_AT];
     let virtual_storages = wide16(shape[VIRTUAL_STORAGE_COUNT_AT]);
@@ -237,9 +237,9 @@ pub fn virtual_storages_fit(shape: &[u16]) -> bool
 
 // A row's maker: a kind, one of that kind's makers, and how many share the row. `makers` has how many can make a row of each kind.
 fn maker_fits(shape: &[u16], at: usize, makers: &[u16; MAKER_KINDS]) -> bool
-    requires { at + makerWidth ≤ length shape.now }
+    requires { at + maker_width ≤ length shape.now }
     ensures { (s : Store) → s.shape ≡ shape.now
-        → makers.now ≡ nodeCount s ∷ nodeCount s ∷ aggregateCount s ∷ virtualStorageCount s ∷ aggregateCount s ∷ [] → result ≡ makerFits s at }
+        → makers.now ≡ node_count s ∷ node_count s ∷ aggregate_count s ∷ virtual_storage_count s ∷ aggregate_count s ∷ [] → result ≡ maker_fits s at }
 {
     let kind = shape[at];
     if BY_EXCLUSIVITY < kind {
@@ -253,8 +253,8 @@ fn maker_fits(shape: &[u16], at: usize, makers: &[u16; MAKER_KINDS]) -> bool
 
 // The makers of all rows. The loop ends at the first entry that fails: a maker's kind says what its index is compared with, so that the compiler cannot vectorise it.
 pub fn makers_fit(shape: &[u16]) -> bool
-    requires { (shapeLength ≤ length shape.now) × (varyingIn shape.now + fixedIn shape.now ≤ rowCeiling) }
-    ensures { (s : Store) → s.shape ≡ shape.now → result ≡ allEntries (makerFits s) makerWidth makersAt (rowCount s) }
+    requires { (shape_length ≤ length shape.now) × (varying_in shape.now + fixed_in shape.now ≤ row_ceiling) }
+    ensures { (s : Store) → s.shape ≡ shape.now → result ≡ all_entries (maker_fits s) maker_width makers_at (row_count s) }
 {
     let nodes = shape[NODE_COUNT_AT];
     let aggregates = shape[AGGREGATE_COUNT_AT];

@@ -1,7 +1,7 @@
 // Reads rows of a small store: as it stands, with each run one short, and with one word changed.
 // A line is what was changed, then the number and the place of the answer and the length of the part.
 ghost use Rattle.std.specs.Prelude.{◌≡◌, length};
-ghost use Rattle.layout.specs.Layout.{elementCeiling, rowStartsLength, shapeLength};
+ghost use Rattle.layout.specs.Layout.{element_ceiling, row_starts_length, shape_length};
 
 use layout::{
     AGGREGATE_CEILING, AGGREGATE_COUNT_AT, AGGREGATES_AT, BY_EXCLUSIVITY, BY_MASS, BY_NODE,
@@ -32,7 +32,7 @@ const FIFTH_MAKER: usize = FOURTH_MAKER + MAKER_WIDTH;
 // Two nodes with an edge, one edge column and one set. Varying rows: 0 with column 0, and 1 with columns 0 and 1, the set's.
 // Fixed rows: 2 with column 0, and 3 with none.
 fn small_columns() -> [u16; ELEMENT_CEILING]
-    ensures { elementCeiling ≡ length result }
+    ensures { element_ceiling ≡ length result }
 {
     let mut columns = [0u16; ELEMENT_CEILING];
     columns[2] = 1;
@@ -40,7 +40,7 @@ fn small_columns() -> [u16; ELEMENT_CEILING]
 }
 
 fn small_starts() -> [u32; ROW_STARTS_LENGTH]
-    ensures { rowStartsLength ≡ length result }
+    ensures { row_starts_length ≡ length result }
 {
     let mut starts = [0u32; ROW_STARTS_LENGTH];
     starts[1] = 1;
@@ -53,7 +53,7 @@ fn small_starts() -> [u32; ROW_STARTS_LENGTH]
 // Node 0 has row 0 and, as a binary upper row, row 1. The aggregate and the virtual storage, which has a period, have row 0. Row 2 is node 1's mass row;
 // row 3 has this maker.
 fn shape_with(kind: u16, index: u16, shared_by: u16) -> [u16; SHAPE_LENGTH]
-    ensures { shapeLength ≡ length result }
+    ensures { shape_length ≡ length result }
 {
     let mut shape = [0u16; SHAPE_LENGTH];
     shape[NODE_COUNT_AT] = 2;
@@ -91,7 +91,7 @@ fn shape_with(kind: u16, index: u16, shared_by: u16) -> [u16; SHAPE_LENGTH]
 
 // Row 3 is the aggregate's exclusivity row.
 fn small_shape() -> [u16; SHAPE_LENGTH]
-    ensures { shapeLength ≡ length result }
+    ensures { shape_length ≡ length result }
 {
     shape_with(BY_EXCLUSIVITY, 0, 1)
 }

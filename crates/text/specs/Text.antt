@@ -13,5 +13,5 @@ pub record DecimalPut (n : ℕ) (out : List ℕ) (at : ℕ) (out' : List ℕ) (r
   pub fewest : IsDigitCount 10 1 n places
   pub put : Put (last_digits 10 places n) out at out' r
 
-unfoldable pub sixteenDigits : ℕ → List ℕ
-sixteenDigits n = last_digits 16 16 n
+unfoldable pub sixteen_digits : ℕ → List ℕ
+sixteen_digits n = last_digits 16 16 n

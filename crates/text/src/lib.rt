@@ -1,6 +1,6 @@
 // Text gathered in a buffer that the caller lends.
 ghost use Rattle.std.specs.Prelude.{◌≡◌, ◌<◌, ◌≤◌, ◌+◌, List, [], ◌∷◌, length};
-ghost use Rattle.text.specs.Text.{Put, DecimalPut, sixteenDigits};
+ghost use Rattle.text.specs.Text.{Put, DecimalPut, sixteen_digits};
 
 // Puts one byte at `at`, and answers the place behind it.
 pub fn put(out: &mut [u8], at: usize, b: u8) -> usize
@@ -37,7 +37,7 @@ pub fn put_decimal(out: &mut [u8], at: usize, n: u64) -> usize
 // Puts n in sixteen hexadecimal digits.
 pub fn put_hex(out: &mut [u8], at: usize, n: u64) -> usize
     requires { at + 16 ≤ length out.old }
-    ensures { Put (sixteenDigits n) out.old at out.new result }
+    ensures { Put (sixteen_digits n) out.old at out.new result }
 {
     let mut digits = [0u8; 16];
     let k = io::hex(n, 16, &mut digits);

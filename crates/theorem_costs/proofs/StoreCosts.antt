@@ -10,101 +10,101 @@ use lib.Ieee.{Float}
 use Rattle.pywr.specs.Result.{value}
 use Rattle.pywr.specs.Numbers.{zero64}
 use Rattle.pywr.specs.Network.{Network}
-use Rattle.pywr.specs.ColEdgeMap.{columns, mappedEdges}
-use Rattle.pywr.specs.FlowOrder.{numbersFrom, edgeOrder, flowOrder}
-use Rattle.pywr.specs.Rows.{columnMap}
+use Rattle.pywr.specs.ColEdgeMap.{columns, mapped_edges}
+use Rattle.pywr.specs.FlowOrder.{numbers_from, edge_order, flow_order}
+use Rattle.pywr.specs.Rows.{column_map}
 use Rattle.pywr.specs.Programme.{Column, Programme, Built}
-use Rattle.pywr.specs.Build.{assemble, programmeOf, nodeShape}
+use Rattle.pywr.specs.Build.{assemble, programme_of, node_shape}
 use Rattle.pywr.specs.StepFile.{NodeStep, StepFile}
-use Rattle.pywr.specs.Costs.{addCosts, edgesNumbered, stepCosts, edgeOrderCosts}
-use Rattle.pywr.specs.Store.{Store, programmeIn}
-use Rattle.pywr.specs.Calls.{buildStore, storeOfStep}
+use Rattle.pywr.specs.Costs.{add_costs, edges_numbered, step_costs, edge_order_costs}
+use Rattle.pywr.specs.Store.{Store, programme_in}
+use Rattle.pywr.specs.Calls.{build_store, store_of_step}
 use Rattle.pywr.proofs.ListLaws.{AllMem, all_none, all_cons}
-use Rattle.pywr.proofs.ReadLaws.{Sound, read-sound, same-value}
-use Rattle.pywr.proofs.Represents.{Represents, programme-back}
-use Rattle.pywr.proofs.RunLaws.{costs-length, stepped-length, stepped-costs, after, after-held, Reached, run}
-use Rattle.pywr.proofs.DemandThree.{build-accepted, build-represents, read_alike}
-use Rattle.pywr.proofs.OnceLaws.{numbers-perm-length}
-use Rattle.pywr.proofs.FlowLaws.{flow-perm, flow-below}
-use Rattle.theorem_costs.specs.CostOrder.{costsIn, columnDownstream, Stepped, storeThen, costsInEdgeOrder, FlowCosts}
-use Rattle.theorem_costs.proofs.ColumnSums.{edge_order, column-sum}
+use Rattle.pywr.proofs.ReadLaws.{Sound, read_sound, same_value}
+use Rattle.pywr.proofs.Represents.{Represents, programme_back}
+use Rattle.pywr.proofs.RunLaws.{costs_length, stepped_length, stepped_costs, after, after_held, Reached, run}
+use Rattle.pywr.proofs.DemandThree.{build_accepted, build_represents, read_alike}
+use Rattle.pywr.proofs.OnceLaws.{numbers_perm_length}
+use Rattle.pywr.proofs.FlowLaws.{flow_perm, flow_below}
+use Rattle.theorem_costs.specs.CostOrder.{costs_in, column_downstream, Stepped, store_then, costs_in_edge_order, FlowCosts}
+use Rattle.theorem_costs.proofs.ColumnSums.{edge_order_lem, column_sum}
 
 module _ (s : Stepped) where
   abbrev b : Built
-  b = programmeOf s.sentinel s.net
+  b = programme_of s.sentinel s.net
 
   abbrev start : Store
-  start = buildStore s.sentinel s.networkFile s.old s.words s.numbers
+  start = build_store s.sentinel s.network_file s.old s.words s.numbers
 
   sound : Sound s.net
-  sound = read-sound s.networkFile s.net s.parsed
+  sound = read_sound s.network_file s.net s.parsed
 
   held : Represents start b
-  held = build-represents s.sentinel s.net s.old s.networkFile s.words s.numbers sound
-      (build-accepted s.sentinel s.net s.old s.networkFile s.words s.numbers s.parsed s.accepted)
+  held = build_represents s.sentinel s.net s.old s.network_file s.words s.numbers sound
+      (build_accepted s.sentinel s.net s.old s.network_file s.words s.numbers s.parsed s.accepted)
 
-  programme-then : programmeIn (storeThen s) ≡ (after start b held s.step).programme
+  programme_then : programme_in (store_then s) ≡ (after start b held s.step).programme
   unfolding Reached
-  programme-then =
-      let r : Reached start b held (some s.file) (storeThen s) =
-      subst (λ (o : Option (List ℕ)). Reached start b held o (storeThen s)) s.last (run start b held s.calls start none refl) in
-      let same : r.0 ≡ s.step = same-value r.0 s.step (sym (sym (read_alike s.sentinel s.net s.file) ∙ r.1) ∙ s.read) in
-      ap programmeIn r.2
-      ∙ programme-back (storeOfStep start (value r.0)) (after start b held r.0) (after-held start b held r.0)
+  programme_then =
+      let r : Reached start b held (some s.file) (store_then s) =
+      subst (λ (o : Option (List ℕ)). Reached start b held o (store_then s)) s.last (run start b held s.calls start none refl) in
+      let same : r.0 ≡ s.step = same_value r.0 s.step (sym (sym (read_alike s.sentinel s.net s.file) ∙ r.1) ∙ s.read) in
+      ap programme_in r.2
+      ∙ programme_back (store_of_step start (value r.0)) (after start b held r.0) (after_held start b held r.0)
       ∙ ap (λ (f : StepFile). (after start b held f).programme) same
 
   -- as many columns as the build made
-  columns-then : length (programmeIn (storeThen s)).columns ≡ length b.programme.columns
-  columns-then = ap (λ (p : Programme). length p.columns) programme-then ∙ stepped-length b.shape s.step b.programme
+  columns_then : length (programme_in (store_then s)).columns ≡ length b.programme.columns
+  columns_then = ap (λ (p : Programme). length p.columns) programme_then ∙ stepped_length b.shape s.step b.programme
 
-  pub costs-then : costsIn (storeThen s)
-      ≡ stepCosts (programmeOf s.sentinel s.net).shape (length (programmeIn (storeThen s)).columns) s.step.nodes
-  unfolding costsIn
-  costs-then =
-      ap (λ (p : Programme). map (λ (c : Column). c.cost) p.columns) programme-then
-      ∙ stepped-costs b.shape s.step b.programme
-      ∙ ap (λ (n : ℕ). stepCosts b.shape n s.step.nodes) (sym columns-then)
+  pub costs_then : costs_in (store_then s)
+      ≡ step_costs (programme_of s.sentinel s.net).shape (length (programme_in (store_then s)).columns) s.step.nodes
+  unfolding costs_in
+  costs_then =
+      ap (λ (p : Programme). map (λ (c : Column). c.cost) p.columns) programme_then
+      ∙ stepped_costs b.shape s.step b.programme
+      ∙ ap (λ (n : ℕ). step_costs b.shape n s.step.nodes) (sym columns_then)
 
-  pub edge-columns : (columns s.net).count ≤ length (programmeIn (storeThen s)).columns
-  unfolding programmeOf assemble columnMap
-  edge-columns = let k = held.edgeColumns in let n = held.columnCount in let l = columns-then in omega arith
+  pub edge_columns_lem : (columns s.net).count ≤ length (programme_in (store_then s)).columns
+  unfolding programme_of assemble column_map
+  edge_columns_lem = let k = held.edge_columns in let n = held.column_count in let l = columns_then in omega arith
 
 module _ (net : Network) (steps : List NodeStep) (columns : ℕ) where
   -- the costs from edges taken in any order, over the network's own tables
-  abbrev pub costsOver : List ℕ → List Float
-  costsOver order = addCosts (map nodeShape net.nodes) steps (edgesNumbered order (mappedEdges net)) (replicate columns zero64)
+  abbrev pub costs_over : List ℕ → List Float
+  costs_over order = add_costs (map node_shape net.nodes) steps (edges_numbered order (mapped_edges net)) (replicate columns zero64)
 
-  pub over-length : (order : List ℕ) → length (costsOver order) ≡ columns
-  over-length order =
-      costs-length (map nodeShape net.nodes) steps (edgesNumbered order (mappedEdges net)) (replicate columns zero64) ∙ length-replicate columns zero64
+  pub over_length : (order : List ℕ) → length (costs_over order) ≡ columns
+  over_length order =
+      costs_length (map node_shape net.nodes) steps (edges_numbered order (mapped_edges net)) (replicate columns zero64) ∙ length-replicate columns zero64
 
 -- ---- orders of a network's edges: every edge once
 
 pub record EdgeOrder (net : Network) (order : List ℕ) : Type 0 where
-  pub perm : Permᴰ (edgeOrder net) order
+  pub perm : Permᴰ (edge_order net) order
   pub below : AllMem (λ (e : ℕ). e < length net.edges) order
 
-pub flow-order : (net : Network) → EdgeOrder net (flowOrder net)
-flow-order net = record { perm = flow-perm net; below = flow-below net }
+pub flow_order_lem : (net : Network) → EdgeOrder net (flow_order net)
+flow_order_lem net = record { perm = flow_perm net; below = flow_below net }
 
-numbers-below : (n i size : ℕ) → i + n ≤ size → AllMem (λ (e : ℕ). e < size) (numbersFrom i n)
-unfolding numbersFrom
-numbers-below zero i size h = all_none (λ (e : ℕ). e < size)
-numbers-below (suc n) i size h = all_cons (λ (e : ℕ). e < size) i (numbersFrom (suc i) n) (omega arith) (numbers-below n (suc i) size (omega arith))
+numbers_below : (n i size : ℕ) → i + n ≤ size → AllMem (λ (e : ℕ). e < size) (numbers_from i n)
+unfolding numbers_from
+numbers_below zero i size h = all_none (λ (e : ℕ). e < size)
+numbers_below (suc n) i size h = all_cons (λ (e : ℕ). e < size) i (numbers_from (suc i) n) (omega arith) (numbers_below n (suc i) size (omega arith))
 
-pub edge-order-itself : (net : Network) → EdgeOrder net (edgeOrder net)
-unfolding edgeOrder
-edge-order-itself net =
+pub edge_order_itself : (net : Network) → EdgeOrder net (edge_order net)
+unfolding edge_order
+edge_order_itself net =
     record {
-      perm = Permᴰ.refl (edgeOrder net);
-      below = numbers-below (length net.edges) 0 (length net.edges) (omega arith);
+      perm = Permᴰ.refl (edge_order net);
+      below = numbers_below (length net.edges) 0 (length net.edges) (omega arith);
     }
 
 -- of a network that was read at most 512
-pub order-few : (s : Stepped) (order : List ℕ) → EdgeOrder s.net order → length order ≤ 512
-unfolding edgeOrder
-order-few s order o =
-    let n = numbers-perm-length (length s.net.edges) order o.perm in
+pub order_few : (s : Stepped) (order : List ℕ) → EdgeOrder s.net order → length order ≤ 512
+unfolding edge_order
+order_few s order o =
+    let n = numbers_perm_length (length s.net.edges) order o.perm in
     let h = (sound s).good.edge_count in
     omega arith
 
@@ -115,22 +115,22 @@ module _ (s : Stepped) where
   net = s.net
 
   abbrev count : ℕ
-  count = length (programmeIn (storeThen s)).columns
+  count = length (programme_in (store_then s)).columns
 
-  pub flow-costs-over : costsIn (storeThen s) ≡ costsOver s.net s.step.nodes (length (programmeIn (storeThen s)).columns) (flowOrder s.net)
-  unfolding stepCosts programmeOf assemble columnMap
-  flow-costs-over = costs-then s
+  pub flow_costs_over : costs_in (store_then s) ≡ costs_over s.net s.step.nodes (length (programme_in (store_then s)).columns) (flow_order s.net)
+  unfolding step_costs programme_of assemble column_map
+  flow_costs_over = costs_then s
 
-  pub edge-costs-over : costsInEdgeOrder s
-      ≡ costsOver s.net s.step.nodes (length (programmeIn (storeThen s)).columns) (edgeOrder s.net)
-  unfolding edgeOrderCosts programmeOf assemble columnMap
-  edge-costs-over =
-      ap (λ (ps : List _). addCosts (map nodeShape net.nodes) s.step.nodes ps (replicate count zero64)) (sym (edge_order net))
+  pub edge_costs_over : costs_in_edge_order s
+      ≡ costs_over s.net s.step.nodes (length (programme_in (store_then s)).columns) (edge_order s.net)
+  unfolding edge_order_costs programme_of assemble column_map
+  edge_costs_over =
+      ap (λ (ps : List _). add_costs (map node_shape net.nodes) s.step.nodes ps (replicate count zero64)) (sym (edge_order_lem net))
 
 -- "Sum each column in flow order"
-pub flow-costs : FlowCosts
-unfolding columnDownstream
-flow-costs s column h =
-    ap (λ (costs : List Float). get_or costs column zero64) (flow-costs-over s)
-    ∙ column-sum s.net s.step.nodes column (length (programmeIn (storeThen s)).columns) (flowOrder s.net) (flow-below s.net)
-    (let l = edge-columns s in omega arith)
+pub flow_costs : FlowCosts
+unfolding column_downstream
+flow_costs s column h =
+    ap (λ (costs : List Float). get_or costs column zero64) (flow_costs_over s)
+    ∙ column_sum s.net s.step.nodes column (length (programme_in (store_then s)).columns) (flow_order s.net) (flow_below s.net)
+    (let l = edge_columns_lem s in omega arith)

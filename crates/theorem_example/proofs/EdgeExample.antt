@@ -5,47 +5,47 @@ use mathlib.Core.List.{List, [], ◌∷◌, ◌++◌}
 use lib.ListN.{take}
 use Rattle.pywr.specs.Result.{value, Result, refused, ◌>>=◌}
 use Rattle.pywr.specs.Network.{input, output, link, storage, Edge}
-use Rattle.pywr.specs.NetworkFile.{parseNetwork}
+use Rattle.pywr.specs.NetworkFile.{parse_network}
 use Rattle.pywr.specs.FileBytes.{varying, edge}
 use Rattle.pywr.specs.Compute.{computing}
 
 pair : List ℕ
 pair = varying input ++ varying output ++ edge 0 1
 
-edgesOf : List ℕ → Result (List Edge)
-edgesOf file = parseNetwork file >>= λ net. value net.edges
+edges_of : List ℕ → Result (List Edge)
+edges_of file = parse_network file >>= λ net. value net.edges
 
 pub record EdgeExample : Type 0 where
   -- each slip
-  intoInput : edgesOf (varying link ++ varying input ++ edge 0 1) ≡ refused 5 42
-  outOfOutput : edgesOf (varying link ++ varying output ++ edge 1 0) ≡ refused 5 42
-  linkToItself : edgesOf (varying link ++ edge 0 0) ≡ refused 19 22
-  storageToItself : edgesOf (varying storage ++ edge 0 0) ≡ refused 19 22
-  repeated : edgesOf (pair ++ edge 0 1) ≡ refused 20 48
+  into_input : edges_of (varying link ++ varying input ++ edge 0 1) ≡ refused 5 42
+  out_of_output : edges_of (varying link ++ varying output ++ edge 1 0) ≡ refused 5 42
+  link_to_itself : edges_of (varying link ++ edge 0 0) ≡ refused 19 22
+  storage_to_itself : edges_of (varying storage ++ edge 0 0) ≡ refused 19 22
+  repeated : edges_of (pair ++ edge 0 1) ≡ refused 20 48
   -- 5 before 19, and a record whole before the next
-  inputToItself : edgesOf (varying input ++ edge 0 0) ≡ refused 5 22
-  outputToItself : edgesOf (varying output ++ edge 0 0) ≡ refused 5 22
-  firstRecord : edgesOf (varying link ++ varying input ++ edge 0 0 ++ edge 0 1) ≡ refused 19 42
+  input_to_itself : edges_of (varying input ++ edge 0 0) ≡ refused 5 22
+  output_to_itself : edges_of (varying output ++ edge 0 0) ≡ refused 5 22
+  first_record : edges_of (varying link ++ varying input ++ edge 0 0 ++ edge 0 1) ≡ refused 19 42
   -- 1 and 4 before them, at the record
-  cut : edgesOf (varying link ++ take 5 (edge 0 0)) ≡ refused 1 20
-  no_node : edgesOf (varying output ++ edge 0 1) ≡ refused 4 20
+  cut : edges_of (varying link ++ take 5 (edge 0 0)) ≡ refused 1 20
+  no_node : edges_of (varying output ++ edge 0 1) ≡ refused 4 20
   -- the same nodes the other way
-  bothWays : edgesOf (varying input ++ varying link ++ varying link ++ edge 0 1 ++ edge 1 2 ++ edge 2 1)
+  both_ways : edges_of (varying input ++ varying link ++ varying link ++ edge 0 1 ++ edge 1 2 ++ edge 2 1)
       ≡ value (record { from = 0; to = 1 } ∷ record { from = 1; to = 2 } ∷ record { from = 2; to = 1 } ∷ [])
 
-pub edge-example : EdgeExample
-unfolding computing pair edgesOf
-edge-example =
+pub edge_example : EdgeExample
+unfolding computing pair edges_of
+edge_example =
     record {
-      intoInput = refl;
-      outOfOutput = refl;
-      linkToItself = refl;
-      storageToItself = refl;
+      into_input = refl;
+      out_of_output = refl;
+      link_to_itself = refl;
+      storage_to_itself = refl;
       repeated = refl;
-      inputToItself = refl;
-      outputToItself = refl;
-      firstRecord = refl;
+      input_to_itself = refl;
+      output_to_itself = refl;
+      first_record = refl;
       cut = refl;
       no_node = refl;
-      bothWays = refl;
+      both_ways = refl;
     }

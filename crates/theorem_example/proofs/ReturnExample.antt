@@ -9,18 +9,18 @@ use lib.IntN.{ℤ, pos, neg_ℤ, negsuc}
 use lib.Ieee.{fin, inf, neg}
 use Rattle.pywr.specs.Numbers.{double, zero64, one64}
 use Rattle.pywr.specs.Network.{input, output, link, Part}
-use Rattle.pywr.specs.NetworkFile.{parseNetwork}
-use Rattle.pywr.specs.Rows.{element, columnMap}
+use Rattle.pywr.specs.NetworkFile.{parse_network}
+use Rattle.pywr.specs.Rows.{element, column_map}
 use Rattle.pywr.specs.Programme.{Row}
-use Rattle.pywr.specs.Store.{programmeIn}
-use Rattle.pywr.specs.Plans.{Plan, unitsInOne, unitsIn1024th}
-use Rattle.pywr.specs.Allows.{partsSum}
-use Rattle.pywr.specs.Correspondence.{storeAfter, factorsIn1024ths, factorsWhole}
-use Rattle.pywr.specs.ExactElements.{factorSum}
-use Rattle.pywr.specs.FileBytes.{constant, edge, virtualStorageOf, date, nodeStep, virtualStorageStep}
+use Rattle.pywr.specs.Store.{programme_in}
+use Rattle.pywr.specs.Plans.{Plan, units_in_one, units_in1024th}
+use Rattle.pywr.specs.Allows.{parts_sum}
+use Rattle.pywr.specs.Correspondence.{store_after, factors_in1024ths, factors_whole}
+use Rattle.pywr.specs.ExactElements.{factor_sum}
+use Rattle.pywr.specs.FileBytes.{constant, edge, virtual_storage_of, date, node_step, virtual_storage_step}
 use Rattle.pywr.specs.Compute.{computing}
-use Rattle.pywr.specs.Cases.{blank, work, times, minusWhole}
-use Rattle.theorem_example.proofs.Sides.{ofNetwork, built, call, allowed, admitted}
+use Rattle.pywr.specs.Cases.{blank, work, times, minus_whole}
+use Rattle.theorem_example.proofs.Sides.{of_network, built, call, allowed, admitted}
 
 -- ---- the files: examples/returns.network and examples/returns.step
 
@@ -38,67 +38,67 @@ network =
     ++ edge 0 1
     ++ edge 1 2
     ++ edge 1 3
-    ++ virtualStorageOf (replicate 5 0) licence
+    ++ virtual_storage_of (replicate 5 0) licence
 
 -- one day; 40 left of a licence of 100
 step : List ℕ
 step =
     date 6 1 (double 1)
-    ++ nodeStep one64 zero64 zero64 zero64
-    ++ nodeStep zero64 zero64 zero64 zero64
-    ++ nodeStep zero64 zero64 zero64 zero64
-    ++ nodeStep (neg (double 10)) zero64 zero64 zero64
-    ++ virtualStorageStep zero64 (double 100) (double 40)
+    ++ node_step one64 zero64 zero64 zero64
+    ++ node_step zero64 zero64 zero64 zero64
+    ++ node_step zero64 zero64 zero64 zero64
+    ++ node_step (neg (double 10)) zero64 zero64 zero64
+    ++ virtual_storage_step zero64 (double 100) (double 40)
 
 -- ---- plans: taken, returned and kept
 
 plan : ℕ → ℕ → ℕ → Plan
 plan taken returned kept = record { amount = λ e. get_or (taken ∷ returned ∷ kept ∷ []) e 0; on = λ s. false }
 
-inMegalitres : ℕ → ℕ → ℕ → Plan
-inMegalitres taken returned kept = plan (taken * unitsInOne) (returned * unitsInOne) (kept * unitsInOne)
+in_megalitres : ℕ → ℕ → ℕ → Plan
+in_megalitres taken returned kept = plan (taken * units_in_one) (returned * units_in_one) (kept * units_in_one)
 
 -- on the bound; 1 less returned; 1 more returned; 2^-1074 more taken and kept
 plans : List Plan
-plans = inMegalitres 100 80 20 ∷ inMegalitres 100 79 21 ∷ inMegalitres 100 81 19 ∷ plan (100 * unitsInOne + 1) (80 * unitsInOne) (20 * unitsInOne + 1) ∷ []
+plans = in_megalitres 100 80 20 ∷ in_megalitres 100 79 21 ∷ in_megalitres 100 81 19 ∷ plan (100 * units_in_one + 1) (80 * units_in_one) (20 * units_in_one + 1) ∷ []
 
 -- the licence's amount under a plan: minus what it counts
-licenceAmount : Plan → ℤ
-licenceAmount p = ofNetwork (λ net. partsSum net p licence) (pos 0) (parseNetwork network)
+licence_amount : Plan → ℤ
+licence_amount p = of_network (λ net. parts_sum net p licence) (pos 0) (parse_network network)
 
 -- the exact sum of the parts on a column
-sumOn : ℕ → ℤ
-sumOn column = ofNetwork (λ net. factorSum (columnMap net) column licence) (pos 0) (parseNetwork network)
+sum_on : ℕ → ℤ
+sum_on column = of_network (λ net. factor_sum (column_map net) column licence) (pos 0) (parse_network network)
 
-licenceRows : List Row
-licenceRows = (programmeIn (storeAfter (built network) (call step ∷ []))).varying
+licence_rows : List Row
+licence_rows = (programme_in (store_after (built network) (call step ∷ []))).varying
 
 pub record ReturnExample : Type 0 where
   -- the premise of demand 3; that the factors be whole would not hold
-  factors : ofNetwork factorsIn1024ths false (parseNetwork network) ≡ true
-  notWhole : ofNetwork factorsWhole true (parseNetwork network) ≡ false
+  factors : of_network factors_in1024ths false (parse_network network) ≡ true
+  not_whole : of_network factors_whole true (parse_network network) ≡ false
   -- −1 on what is taken and 0.75 on what is returned, from −40 to 60
-  row : licenceRows ≡ record { lower = fin true 5 (pos 3); upper = times 15 2; elements = element 0 (minusWhole 1) ∷ element 1 (fin false 3 (negsuc 1)) ∷ [] } ∷ []
-  sums : map sumOn (0 ∷ 1 ∷ 2 ∷ []) ≡ neg_ℤ (pos unitsInOne) ∷ pos (768 * unitsIn1024th) ∷ pos 0 ∷ []
+  row : licence_rows ≡ record { lower = fin true 5 (pos 3); upper = times 15 2; elements = element 0 (minus_whole 1) ∷ element 1 (fin false 3 (negsuc 1)) ∷ [] } ∷ []
+  sums : map sum_on (0 ∷ 1 ∷ 2 ∷ []) ≡ neg_ℤ (pos units_in_one) ∷ pos (768 * units_in1024th) ∷ pos 0 ∷ []
   -- −40, −40.75, −39.25, and −40 less the smallest amount
-  amounts : map licenceAmount plans
-      ≡ neg_ℤ (pos (40 * unitsInOne * unitsInOne))
-      ∷ neg_ℤ (pos (41728 * unitsIn1024th * unitsInOne))
-      ∷ neg_ℤ (pos (40192 * unitsIn1024th * unitsInOne))
-      ∷ neg_ℤ (pos (40 * unitsInOne * unitsInOne + unitsInOne))
+  amounts : map licence_amount plans
+      ≡ neg_ℤ (pos (40 * units_in_one * units_in_one))
+      ∷ neg_ℤ (pos (41728 * units_in1024th * units_in_one))
+      ∷ neg_ℤ (pos (40192 * units_in1024th * units_in_one))
+      ∷ neg_ℤ (pos (40 * units_in_one * units_in_one + units_in_one))
       ∷ []
-  networkSays : allowed network (step ∷ []) plans ≡ true ∷ false ∷ true ∷ false ∷ []
-  programmeSays : admitted network (step ∷ []) plans ≡ true ∷ false ∷ true ∷ false ∷ []
+  network_says : allowed network (step ∷ []) plans ≡ true ∷ false ∷ true ∷ false ∷ []
+  programme_says : admitted network (step ∷ []) plans ≡ true ∷ false ∷ true ∷ false ∷ []
 
-pub return-example : ReturnExample
-unfolding computing blank work ofNetwork built call allowed admitted licence network step plan inMegalitres plans licenceAmount sumOn licenceRows
-return-example =
+pub return_example : ReturnExample
+unfolding computing blank work of_network built call allowed admitted licence network step plan in_megalitres plans licence_amount sum_on licence_rows
+return_example =
     record {
       factors = refl;
-      notWhole = refl;
+      not_whole = refl;
       row = refl;
       sums = refl;
       amounts = refl;
-      networkSays = refl;
-      programmeSays = refl;
+      network_says = refl;
+      programme_says = refl;
     }

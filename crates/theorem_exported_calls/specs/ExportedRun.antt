@@ -2,10 +2,10 @@
 use Rattle.std.specs.Prelude.{◌≡◌, ℕ, List, [], ◌∷◌, map, Bool, true, eqb, Float}
 use Rattle.pywr.specs.Result.{value}
 use Rattle.pywr.specs.Network.{Network}
-use Rattle.pywr.specs.NetworkFile.{parseNetwork}
+use Rattle.pywr.specs.NetworkFile.{parse_network}
 use Rattle.pywr.specs.Store.{Store}
 use Rattle.pywr.specs.Plans.{Plan}
-use Rattle.pywr.specs.Correspondence.{Call, Report, networkAllows, programmeAdmits, factorsIn1024ths, anyAccepted}
+use Rattle.pywr.specs.Correspondence.{Call, Report, network_allows, programme_admits, factors_in1024ths, any_accepted}
 use Rattle.pywr_c_answers.specs.Crossing.{picked, BuildCrossed, StepCrossed}
 
 -- a call of `pywr_step` with the number that it answered
@@ -20,17 +20,17 @@ pub data ExportedRun : Store → List Numbered → Store → Type 0 where
       → StepCrossed a.call.file s a.call.work a.number place t work → ExportedRun t rest last → ExportedRun s (a ∷ rest) last
 
 -- a caller takes a step for accepted exactly if its number is 0
-unfoldable pub reportOf : Numbered → Report
-reportOf a = record { file = a.call.file; accepted = eqb a.number 0 }
+unfoldable pub report_of : Numbered → Report
+report_of a = record { file = a.call.file; accepted = eqb a.number 0 }
 
 abbrev pub ExportedCorrespondence : Type 0
 ExportedCorrespondence =
-    (networkFile : List ℕ) (infinite : Bool) (old built : Store) (words words' : List ℕ) (numbers numbers' : List Float) (place : ℕ) (net : Network)
-    → parseNetwork networkFile ≡ value net
-    → BuildCrossed (picked infinite) networkFile old words numbers 0 place built words' numbers'
-    → factorsIn1024ths net ≡ true
+    (network_file : List ℕ) (infinite : Bool) (old built : Store) (words words' : List ℕ) (numbers numbers' : List Float) (place : ℕ) (net : Network)
+    → parse_network network_file ≡ value net
+    → BuildCrossed (picked infinite) network_file old words numbers 0 place built words' numbers'
+    → factors_in1024ths net ≡ true
     → (calls : List Numbered) (last : Store)
     → ExportedRun built calls last
-    → anyAccepted (map reportOf calls) ≡ true
+    → any_accepted (map report_of calls) ≡ true
     → (plan : Plan)
-    → programmeAdmits (parseNetwork networkFile) last plan ≡ networkAllows (parseNetwork networkFile) (picked infinite) (map reportOf calls) plan
+    → programme_admits (parse_network network_file) last plan ≡ network_allows (parse_network network_file) (picked infinite) (map report_of calls) plan

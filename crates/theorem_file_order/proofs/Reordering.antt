@@ -10,7 +10,7 @@ use mathlib.Core.List.Permᴰ
 use mathlib.Core.List.{Permᴰ}
 use mathlib.Core.Option.{some}
 use lib.ListN.{length, get_elem?}
-use Rattle.pywr.proofs.ListLaws.{mem-found}
+use Rattle.pywr.proofs.ListLaws.{mem_found}
 
 module _ {A : Type 0} where
   -- a member can stand in front
@@ -50,9 +50,9 @@ module _ {A : Type 0} where
       (Permᴰ.symm f.order)
 
   -- no element has two numbers
-  pub once-each : (xs : List A) → ((i j : ℕ) (x : A) → get_elem? xs i ≡ some x → get_elem? xs j ≡ some x → i ≡ j) → Nodup xs
-  once-each [] once = Nodup-nil
-  once-each (x ∷ xs) once = Nodup-cons.1 (away, once-each xs (λ i j y f g. let e = once (suc i) (suc j) y f g in omega arith))
+  pub once_each : (xs : List A) → ((i j : ℕ) (x : A) → get_elem? xs i ≡ some x → get_elem? xs j ≡ some x → i ≡ j) → Nodup xs
+  once_each [] once = Nodup-nil
+  once_each (x ∷ xs) once = Nodup-cons.1 (away, once_each xs (λ i j y f g. let e = once (suc i) (suc j) y f g in omega arith))
     where
       away : ¬ Mem x xs
-      away m = ∥∥₁_elim m ⊥_prop (λ d. let f = mem-found xs x d in let e = once 0 (suc f.0) x refl f.1 in omega arith)
+      away m = ∥∥₁_elim m ⊥_prop (λ d. let f = mem_found xs x d in let e = once 0 (suc f.0) x refl f.1 in omega arith)

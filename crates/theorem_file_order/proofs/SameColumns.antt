@@ -7,44 +7,44 @@ use lib.ListN.{length}
 use lib.Dec.{eqb}
 use Rattle.pywr.specs.Numbers.{zero64}
 use Rattle.pywr.specs.Network.{link, Node, Network}
-use Rattle.pywr.specs.ColEdgeMap.{mappedEdges}
-use Rattle.pywr.specs.Rows.{ColumnMap, columnMap, massRow}
-use Rattle.pywr.specs.Programme.{Row, byMass}
-use Rattle.pywr.specs.FixedRows.{massRowsFrom}
-use Rattle.pywr.specs.Makers.{massMakers}
-use Rattle.pywr.proofs.MakerLaws.{masses-in-turn, in-turn-length}
-use Rattle.pywr.proofs.ReadLaws.{Sound, read-sound}
+use Rattle.pywr.specs.ColEdgeMap.{mapped_edges}
+use Rattle.pywr.specs.Rows.{ColumnMap, column_map, mass_row}
+use Rattle.pywr.specs.Programme.{Row, by_mass}
+use Rattle.pywr.specs.FixedRows.{mass_rows_from}
+use Rattle.pywr.specs.Makers.{mass_makers}
+use Rattle.pywr.proofs.MakerLaws.{masses_in_turn, in_turn_length}
+use Rattle.pywr.proofs.ReadLaws.{Sound, read_sound}
 use Rattle.theorem_file_order.specs.FileOrder.{SameButOrder, SameColumns, FileOrder}
 use Rattle.theorem_file_order.proofs.Places.{turned}
-use Rattle.theorem_file_order.proofs.Order.{turned-edge, together-there, same_count}
-use Rattle.theorem_file_order.proofs.RowsAlike.{withEdges}
-use Rattle.theorem_file_order.proofs.FixedAlike.{mass-makers-alike}
-use Rattle.theorem_file_order.proofs.NewNumbers.{edges-moved}
+use Rattle.theorem_file_order.proofs.Order.{turned_edge, together_there, same_count}
+use Rattle.theorem_file_order.proofs.RowsAlike.{with_edges}
+use Rattle.theorem_file_order.proofs.FixedAlike.{mass_makers_alike}
+use Rattle.theorem_file_order.proofs.NewNumbers.{edges_moved}
 
 -- a mass row is made from the edges alone
-masses-by-edges : (a b : Network) → massMakers (withEdges (columnMap a) (mappedEdges b)) 0 a.nodes ≡ massMakers (columnMap b) 0 a.nodes
-unfolding massMakers massRowsFrom massRow columnMap withEdges
-masses-by-edges a b = refl
+masses_by_edges : (a b : Network) → mass_makers (with_edges (column_map a) (mapped_edges b)) 0 a.nodes ≡ mass_makers (column_map b) 0 a.nodes
+unfolding mass_makers mass_rows_from mass_row column_map with_edges
+masses_by_edges a b = refl
 
-mass-links : (a b : Network) → SameButOrder a b → Sound a → Sound b → massMakers (columnMap a) 0 a.nodes ≡ massMakers (columnMap b) 0 b.nodes
-mass-links a b same sa sb =
-    mass-makers-alike (edges-moved a b same sa sb) a.nodes ∙ masses-by-edges a b ∙ ap (massMakers (columnMap b) 0) same.nodes
+mass_links_lem : (a b : Network) → SameButOrder a b → Sound a → Sound b → mass_makers (column_map a) 0 a.nodes ≡ mass_makers (column_map b) 0 b.nodes
+mass_links_lem a b same sa sb =
+    mass_makers_alike (edges_moved a b same sa sb) a.nodes ∙ masses_by_edges a b ∙ ap (mass_makers (column_map b) 0) same.nodes
 
-mass-count : (net : Network) → length (massMakers (columnMap net) 0 net.nodes) ≡ length (massRowsFrom (columnMap net) 0 net.nodes)
-unfolding massMakers
-mass-count net = in-turn-length byMass (massRowsFrom (columnMap net)) (masses-in-turn (columnMap net)) 0 net.nodes
+mass_count : (net : Network) → length (mass_makers (column_map net) 0 net.nodes) ≡ length (mass_rows_from (column_map net) 0 net.nodes)
+unfolding mass_makers
+mass_count net = in_turn_length by_mass (mass_rows_from (column_map net)) (masses_in_turn (column_map net)) 0 net.nodes
 
-pub same-columns : (a b : Network) → SameButOrder a b → Sound a → Sound b → SameColumns a b
-same-columns a b same sa sb =
+pub same_columns : (a b : Network) → SameButOrder a b → Sound a → Sound b → SameColumns a b
+same_columns a b same sa sb =
     record {
       count = same_count a b same sa sb;
       together = λ e f e' f' se sf. (
-        together-there a b same sa sb e f e' f' se sf,
-        together-there b a (turned same) sb sa e' f' e f (turned-edge se) (turned-edge sf),
+        together_there a b same sa sb e f e' f' se sf,
+        together_there b a (turned same) sb sa e' f' e f (turned_edge se) (turned_edge sf),
       );
-      massLinks = mass-links a b same sa sb;
-      massRows = sym (mass-count a) ∙ ap length (mass-links a b same sa sb) ∙ mass-count b;
+      mass_links = mass_links_lem a b same sa sb;
+      mass_rows = sym (mass_count a) ∙ ap length (mass_links_lem a b same sa sb) ∙ mass_count b;
     }
 
-pub file-order : FileOrder
-file-order first second a b read_a read-b same = same-columns a b same (read-sound first a read_a) (read-sound second b read-b)
+pub file_order : FileOrder
+file_order first second a b read_a read-b same = same_columns a b same (read_sound first a read_a) (read_sound second b read-b)

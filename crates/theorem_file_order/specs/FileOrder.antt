@@ -5,11 +5,11 @@ use Rattle.std.proofs.Math.Option.{some}
 use Rattle.std.proofs.Math.ListN.{get_elem?}
 use Rattle.pywr.specs.Result.{value}
 use Rattle.pywr.specs.Network.{Edge, Network}
-use Rattle.pywr.specs.NetworkFile.{parseNetwork}
-use Rattle.pywr.specs.ColEdgeMap.{columns, columnOf}
-use Rattle.pywr.specs.Rows.{columnMap}
-use Rattle.pywr.specs.FixedRows.{massRowsFrom}
-use Rattle.pywr.specs.Makers.{massMakers}
+use Rattle.pywr.specs.NetworkFile.{parse_network}
+use Rattle.pywr.specs.ColEdgeMap.{columns, column_of}
+use Rattle.pywr.specs.Rows.{column_map}
+use Rattle.pywr.specs.FixedRows.{mass_rows_from}
+use Rattle.pywr.specs.Makers.{mass_makers}
 
 -- two networks with the same nodes and the same edges, in whatever order these stand
 pub record SameButOrder (a b : Network) : Type 0 where
@@ -17,19 +17,19 @@ pub record SameButOrder (a b : Network) : Type 0 where
   pub edges : (edge : Edge) → Memᴰ edge a.edges ↔ Memᴰ edge b.edges
 
 -- an edge by its number in each of the two
-pub record SameEdge (a b : Network) (inFirst inSecond : ℕ) : Type 0 where
+pub record SameEdge (a b : Network) (in_first in_second : ℕ) : Type 0 where
   pub edge : Edge
-  pub first : get_elem? a.edges inFirst ≡ some edge
-  pub second : get_elem? b.edges inSecond ≡ some edge
+  pub first : get_elem? a.edges in_first ≡ some edge
+  pub second : get_elem? b.edges in_second ≡ some edge
 
 pub record SameColumns (a b : Network) : Type 0 where
   pub count : (columns a).count ≡ (columns b).count
   -- two edges have one column in the one exactly if they have in the other
-  pub together : (e f e' f' : ℕ) → SameEdge a b e e' → SameEdge a b f f' → (columnOf a e ≡ columnOf a f) ↔ (columnOf b e' ≡ columnOf b f')
+  pub together : (e f e' f' : ℕ) → SameEdge a b e e' → SameEdge a b f f' → (column_of a e ≡ column_of a f) ↔ (column_of b e' ≡ column_of b f')
   -- the same links have mass rows, so there are as many
-  pub massLinks : massMakers (columnMap a) 0 a.nodes ≡ massMakers (columnMap b) 0 b.nodes
-  pub massRows : length (massRowsFrom (columnMap a) 0 a.nodes) ≡ length (massRowsFrom (columnMap b) 0 b.nodes)
+  pub mass_links : mass_makers (column_map a) 0 a.nodes ≡ mass_makers (column_map b) 0 b.nodes
+  pub mass_rows : length (mass_rows_from (column_map a) 0 a.nodes) ≡ length (mass_rows_from (column_map b) 0 b.nodes)
 
 -- of every two files that were read
 abbrev pub FileOrder : Type 0
-FileOrder = (first second : List ℕ) (a b : Network) → parseNetwork first ≡ value a → parseNetwork second ≡ value b → SameButOrder a b → SameColumns a b
+FileOrder = (first second : List ℕ) (a b : Network) → parse_network first ≡ value a → parse_network second ≡ value b → SameButOrder a b → SameColumns a b

@@ -8,34 +8,34 @@ use mathlib.Core.Option.{some}
 use lib.ListN.{length, replicate, get_elem?}
 use lib.Dec.{T, eqb}
 use lib.Ieee.{Float, binary64, fits, neg, eq}
-use Rattle.doubles.proofs.Rounding.{round-num}
+use Rattle.doubles.proofs.Rounding.{round_num}
 use Rattle.pywr.specs.declared.Sentinel.{Sentinel}
 use Rattle.pywr.specs.Numbers.{double, zero64, one64, high}
 use Rattle.pywr.specs.Network.{link, Node, Aggregate, Network}
-use Rattle.pywr.specs.ColEdgeMap.{columns, mappedEdges}
-use Rattle.pywr.specs.ExclusiveSets.{exclusiveSets, setsWithNode}
-use Rattle.pywr.specs.Rows.{Element, ColumnMap, columnMap, addNode, massRow, aggregateRow, virtualStorageRow, upperRow, lowerRow, exclusivityRow}
-use Rattle.pywr.specs.VariableRows.{Joined, addVariableRows}
+use Rattle.pywr.specs.ColEdgeMap.{columns, mapped_edges}
+use Rattle.pywr.specs.ExclusiveSets.{exclusive_sets, sets_with_node}
+use Rattle.pywr.specs.Rows.{Element, ColumnMap, column_map, add_node, mass_row, aggregate_row, virtual_storage_row, upper_row, lower_row, exclusivity_row}
+use Rattle.pywr.specs.VariableRows.{Joined, add_variable_rows}
 use Rattle.pywr.specs.Programme.{Column, Row, Programme}
-use Rattle.pywr.specs.VaryingRows.{RowRequest, exclusiveRequests, requestsBySets, requestsFrom, fresh_row}
-use Rattle.pywr.specs.FixedRows.{massRowsFrom, upperCoefficient, lowerCoefficient, exclusiveRows, constantRows, constantRowsFrom, exclusivityRows}
-use Rattle.pywr.specs.Build.{edgeColumn, setColumn, allColumns, requestedRow, assemble, programmeOf}
-use Rattle.pywr.proofs.BoundLaws.{IsBound, high-bound}
+use Rattle.pywr.specs.VaryingRows.{RowRequest, exclusive_requests, requests_by_sets, requests_from, fresh_row}
+use Rattle.pywr.specs.FixedRows.{mass_rows_from, upper_coefficient, lower_coefficient, exclusive_rows, constant_rows, constant_rows_from, exclusivity_rows}
+use Rattle.pywr.specs.Build.{edge_column, set_column, all_columns, requested_row, assemble, programme_of}
+use Rattle.pywr.proofs.BoundLaws.{IsBound, high_bound}
 use Rattle.pywr.proofs.MassLaws.{Every, every_append}
 use Rattle.pywr.proofs.NumberLaws.{FiniteFit}
 use Rattle.pywr.proofs.ExclusiveLaws.{Under}
-use Rattle.pywr.proofs.ListLaws.{AllMem, all_none, all_append, all_map, every-mem, found-mem, each_of}
-use Rattle.pywr.proofs.WeightLaws.{pipes-length}
-use Rattle.pywr.proofs.MembershipLaws.{membership-exclusive}
-use Rattle.pywr.proofs.FitLaws.{columns-long}
-use Rattle.pywr.proofs.CoefficientLaws.{upper-finite, lower-finite}
-use Rattle.pywr.proofs.ShapeLaws.{Rising, node-rises, joins-all}
-use Rattle.pywr.proofs.ElementSums.{rising-under}
+use Rattle.pywr.proofs.ListLaws.{AllMem, all_none, all_append, all_map, every_mem, found_mem, each_of}
+use Rattle.pywr.proofs.WeightLaws.{pipes_length}
+use Rattle.pywr.proofs.MembershipLaws.{membership_exclusive}
+use Rattle.pywr.proofs.FitLaws.{columns_long}
+use Rattle.pywr.proofs.CoefficientLaws.{upper_finite, lower_finite}
+use Rattle.pywr.proofs.ShapeLaws.{Rising, node_rises, joins_all}
+use Rattle.pywr.proofs.ElementSums.{rising_under}
 use Rattle.pywr.proofs.ReadLaws.{AggregateOk, Good, Sound}
-use Rattle.theorem_numbers.specs.ProgrammeNumbers.{askedRows}
-use Rattle.theorem_numbers.proofs.SumBounds.{within-finite, neg-within, one-within}
+use Rattle.theorem_numbers.specs.ProgrammeNumbers.{asked_rows}
+use Rattle.theorem_numbers.proofs.SumBounds.{within_finite, neg_within, one_within}
 use Rattle.theorem_numbers.proofs.ReadBounds.{AllSmall}
-use Rattle.theorem_numbers.proofs.ElementBounds.{Plain, AllPlain, node-plain, mass-plain, upper-plain, lower-plain, aggregate-plain, virtual-storage-plain, exclusivity-plain}
+use Rattle.theorem_numbers.proofs.ElementBounds.{Plain, AllPlain, node_plain, mass_plain, upper_plain, lower_plain, aggregate_plain, virtual_storage_plain, exclusivity_plain}
 
 -- elements of which P holds
 abbrev pub ElementsOk : (Float → Type 0) → Row → Type 0
@@ -59,119 +59,119 @@ pub record ProgrammeOk (P : Float → Type 0) (p : Programme) : Type 0 where
 
 -- ---- lists
 
-pub mem-every : {A : Type 0} (P : A → Type 0) (xs : List A) → AllMem P xs → Every P xs
-mem-every P [] h = tt
-mem-every P (x ∷ xs) h = (h x (Memᴰ.head refl), mem-every P xs (λ y m. h y (Memᴰ.tail m)))
+pub mem_every : {A : Type 0} (P : A → Type 0) (xs : List A) → AllMem P xs → Every P xs
+mem_every P [] h = tt
+mem_every P (x ∷ xs) h = (h x (Memᴰ.head refl), mem_every P xs (λ y m. h y (Memᴰ.tail m)))
 
-pub every-replicate : {A : Type 0} (P : A → Type 0) (n : ℕ) (x : A) → P x → Every P (replicate n x)
-every-replicate P zero x p = tt
-every-replicate P (suc n) x p = (p, every-replicate P n x p)
+pub every_replicate : {A : Type 0} (P : A → Type 0) (n : ℕ) (x : A) → P x → Every P (replicate n x)
+every_replicate P zero x p = tt
+every_replicate P (suc n) x p = (p, every_replicate P n x p)
 
 -- one where the test passes
-every-if : {A : Type 0} (P : A → Type 0) (b : Bool) (x : A) → P x → Every P (cond b (x ∷ []) [])
-every-if P true x p = (p, tt)
-every-if P false x p = tt
+every_if : {A : Type 0} (P : A → Type 0) (b : Bool) (x : A) → P x → Every P (cond b (x ∷ []) [])
+every_if P true x p = (p, tt)
+every_if P false x p = tt
 
 -- ---- numbers
 
-pub zero-bound : IsBound zero64
+pub zero_bound : IsBound zero64
 unfolding zero64 fits
-zero-bound = (tt, tt)
+zero_bound = (tt, tt)
 
-one-bound : IsBound one64
+one_bound : IsBound one64
 unfolding one64 fits
-one-bound = (tt, tt)
+one_bound = (tt, tt)
 
-double-bound : (n : ℕ) → IsBound (double n)
+double_bound : (n : ℕ) → IsBound (double n)
 unfolding double
-double-bound n = round-num binary64 false n 1
+double_bound n = round_num binary64 false n 1
 
 -- ---- columns
 
-columns-ok : (s : Sentinel) (f : ColumnMap) → Every ColumnOk (allColumns s f)
-unfolding allColumns edgeColumn setColumn
-columns-ok s f =
-    (every_append ColumnOk (replicate f.edgeColumns (edgeColumn s)) (replicate (length f.sets) setColumn)).1 (
-      every-replicate ColumnOk f.edgeColumns (edgeColumn s) (record { lower = zero-bound; upper = high-bound s; cost = zero-bound }),
-      every-replicate ColumnOk (length f.sets) setColumn (record { lower = zero-bound; upper = one-bound; cost = zero-bound }),
+columns_ok : (s : Sentinel) (f : ColumnMap) → Every ColumnOk (all_columns s f)
+unfolding all_columns edge_column set_column
+columns_ok s f =
+    (every_append ColumnOk (replicate f.edge_columns (edge_column s)) (replicate (length f.sets) set_column)).1 (
+      every_replicate ColumnOk f.edge_columns (edge_column s) (record { lower = zero_bound; upper = high_bound s; cost = zero_bound }),
+      every_replicate ColumnOk (length f.sets) set_column (record { lower = zero_bound; upper = one_bound; cost = zero_bound }),
     )
 
-pub edges_few : (net : Network) → Good net → length (mappedEdges net) ≤ 512
-unfolding mappedEdges
-edges_few net good = le_trans (le_of_eq (pipes-length net.edges (columns net).of (columns-long net))) good.edge_count
+pub edges_few : (net : Network) → Good net → length (mapped_edges net) ≤ 512
+unfolding mapped_edges
+edges_few net good = le_trans (le_of_eq (pipes_length net.edges (columns net).of (columns_long net))) good.edge_count
 
 module _ (net : Network) (sound : Sound net) where
   abbrev f : ColumnMap
-  f = columnMap net
+  f = column_map net
 
-  few : length f.mappedEdges ≤ 512
-  unfolding columnMap
+  few : length f.mapped_edges ≤ 512
+  unfolding column_map
   few = edges_few net sound.good
 
   -- a node's columns are edge columns
-  under : (i : ℕ) (x : Float) → Under f.edgeColumns (addNode f i x [])
-  unfolding columnMap
-  under i x = rising-under (columns net).count 0 (addNode (columnMap net) i x []) (node-rises net sound i x [] Rising.none)
+  under : (i : ℕ) (x : Float) → Under f.edge_columns (add_node f i x [])
+  unfolding column_map
+  under i x = rising_under (columns net).count 0 (add_node (column_map net) i x []) (node_rises net sound i x [] Rising.none)
 
-  upper-ok : (n k : ℕ) (x : Float) → FiniteFit x → AllPlain (upperRow f n k x)
-  upper-ok n k x ok = upper-plain f few n k x ok (under n (neg one64))
+  upper_ok : (n k : ℕ) (x : Float) → FiniteFit x → AllPlain (upper_row f n k x)
+  upper_ok n k x ok = upper_plain f few n k x ok (under n (neg one64))
 
-  lower-ok : (n k : ℕ) (x : Float) → FiniteFit x → AllPlain (lowerRow f n k x)
-  lower-ok n k x ok = lower-plain f few n k x ok (under n one64)
+  lower_ok : (n k : ℕ) (x : Float) → FiniteFit x → AllPlain (lower_row f n k x)
+  lower_ok n k x ok = lower_plain f few n k x ok (under n one64)
 
   -- ---- varying rows
 
   abbrev AskOk : RowRequest → Type 0
   AskOk a = AllPlain a.row
 
-  exclusive-asks : (n : ℕ) (ks : List ℕ) → Every AskOk (exclusiveRequests f n ks)
-  unfolding exclusiveRequests
-  exclusive-asks n [] = tt
-  exclusive-asks n (k ∷ ks) =
-      (upper-ok n k one64 (within-finite 1 one64 one-within), (lower-ok n k (neg one64) (within-finite 1 (neg one64) (neg-within 1 one64 one-within)), exclusive-asks n ks))
+  exclusive_asks : (n : ℕ) (ks : List ℕ) → Every AskOk (exclusive_requests f n ks)
+  unfolding exclusive_requests
+  exclusive_asks n [] = tt
+  exclusive_asks n (k ∷ ks) =
+      (upper_ok n k one64 (within_finite 1 one64 one_within), (lower_ok n k (neg one64) (within_finite 1 (neg one64) (neg_within 1 one64 one_within)), exclusive_asks n ks))
 
-  asks-by : (n : ℕ) (ks : List ℕ) → Every AskOk (requestsBySets f n ks)
-  unfolding requestsBySets
-  asks-by n [] = (node-plain f few n, tt)
-  asks-by n (k ∷ ks) = exclusive-asks n (k ∷ ks)
+  asks_by : (n : ℕ) (ks : List ℕ) → Every AskOk (requests_by_sets f n ks)
+  unfolding requests_by_sets
+  asks_by n [] = (node_plain f few n, tt)
+  asks_by n (k ∷ ks) = exclusive_asks n (k ∷ ks)
 
-  asks-ok : (n : ℕ) (xs : List Node) → Every AskOk (requestsFrom f n xs)
-  unfolding requestsFrom
-  asks-ok n [] = tt
-  asks-ok n (x ∷ xs) = (every_append AskOk (cond x.constant [] (requestsBySets f n (setsWithNode n 0 f.sets))) (requestsFrom f (suc n) xs)).1 (go x.constant, asks-ok (suc n) xs)
+  asks_ok : (n : ℕ) (xs : List Node) → Every AskOk (requests_from f n xs)
+  unfolding requests_from
+  asks_ok n [] = tt
+  asks_ok n (x ∷ xs) = (every_append AskOk (cond x.constant [] (requests_by_sets f n (sets_with_node n 0 f.sets))) (requests_from f (suc n) xs)).1 (go x.constant, asks_ok (suc n) xs)
     where
-      go : (b : Bool) → Every AskOk (cond b [] (requestsBySets f n (setsWithNode n 0 f.sets)))
+      go : (b : Bool) → Every AskOk (cond b [] (requests_by_sets f n (sets_with_node n 0 f.sets)))
       go true = tt
-      go false = asks-by n (setsWithNode n 0 f.sets)
+      go false = asks_by n (sets_with_node n 0 f.sets)
 
   -- ---- mass rows
 
-  masses-ok : (n : ℕ) (xs : List Node) → Every (RowOk Plain) (massRowsFrom f n xs)
-  unfolding massRowsFrom
-  masses-ok n [] = tt
-  masses-ok n (x ∷ xs) =
-      let r : Row = record { lower = zero64; upper = zero64; elements = massRow f n } in
-      let b : Bool = eqb x.kind link && not (eqb (length (massRow f n)) 1) in
-      (every_append (RowOk Plain) (cond b (r ∷ []) []) (massRowsFrom f (suc n) xs)).1
-      (every-if (RowOk Plain) b r (record { lower = zero-bound; upper = zero-bound; elements = mass-plain f few n }), masses-ok (suc n) xs)
+  masses_ok : (n : ℕ) (xs : List Node) → Every (RowOk Plain) (mass_rows_from f n xs)
+  unfolding mass_rows_from
+  masses_ok n [] = tt
+  masses_ok n (x ∷ xs) =
+      let r : Row = record { lower = zero64; upper = zero64; elements = mass_row f n } in
+      let b : Bool = eqb x.kind link && not (eqb (length (mass_row f n)) 1) in
+      (every_append (RowOk Plain) (cond b (r ∷ []) []) (mass_rows_from f (suc n) xs)).1
+      (every_if (RowOk Plain) b r (record { lower = zero_bound; upper = zero_bound; elements = mass_plain f few n }), masses_ok (suc n) xs)
 
   -- ---- exclusivity rows
 
-  exclusivities-ok : (nodes : ℕ) (ags : List Aggregate) → AllMem (AggregateOk nodes) ags → Every (RowOk Plain) (exclusivityRows f ags)
-  unfolding exclusivityRows
-  exclusivities-ok nodes [] ok = tt
-  exclusivities-ok nodes (a ∷ ags) ok =
-      let r : Row = record { lower = double a.minActive; upper = double a.maxActive; elements = exclusivityRow f a } in
-      (every_append (RowOk Plain) (cond a.exclusive (r ∷ []) []) (exclusivityRows f ags)).1 (
-        every-if (RowOk Plain) a.exclusive r
-            (record { lower = double-bound a.minActive; upper = double-bound a.maxActive; elements = exclusivity-plain f few a (ok a (Memᴰ.head refl)).few }),
-        exclusivities-ok nodes ags (λ b m. ok b (Memᴰ.tail m)),
+  exclusivities_ok : (nodes : ℕ) (ags : List Aggregate) → AllMem (AggregateOk nodes) ags → Every (RowOk Plain) (exclusivity_rows f ags)
+  unfolding exclusivity_rows
+  exclusivities_ok nodes [] ok = tt
+  exclusivities_ok nodes (a ∷ ags) ok =
+      let r : Row = record { lower = double a.min_active; upper = double a.max_active; elements = exclusivity_row f a } in
+      (every_append (RowOk Plain) (cond a.exclusive (r ∷ []) []) (exclusivity_rows f ags)).1 (
+        every_if (RowOk Plain) a.exclusive r
+            (record { lower = double_bound a.min_active; upper = double_bound a.max_active; elements = exclusivity_plain f few a (ok a (Memᴰ.head refl)).few }),
+        exclusivities_ok nodes ags (λ b m. ok b (Memᴰ.tail m)),
       )
 
   module _ (s : Sentinel) where
     -- from 0.0 to the high sentinel
     from_zero : (es : List Element) → AllPlain es → RowOk Plain (record { lower = zero64; upper = high s; elements = es })
-    from_zero es h = record { lower = zero-bound; upper = high-bound s; elements = h }
+    from_zero es h = record { lower = zero_bound; upper = high_bound s; elements = h }
 
     fresh_ok : (rows : List (List Element)) → Every AllPlain rows → Every (RowOk Plain) (map (fresh_row s) rows)
     unfolding fresh_row
@@ -180,14 +180,14 @@ module _ (net : Network) (sound : Sound net) where
 
     -- ---- rows of constant nodes
 
-    exclusives-ok : (n : ℕ) (x : Node) → FiniteFit (lowerCoefficient x.min) → FiniteFit (upperCoefficient x.max) → (ks : List ℕ) → Every (RowOk Plain) (exclusiveRows s f n x ks)
-    unfolding exclusiveRows
-    exclusives-ok n x l u [] = tt
-    exclusives-ok n x l u (k ∷ ks) =
-        let lower : Row = record { lower = zero64; upper = high s; elements = lowerRow f n k (lowerCoefficient x.min) } in (
-          from_zero (upperRow f n k (upperCoefficient x.max)) (upper-ok n k (upperCoefficient x.max) u),
-          (every_append (RowOk Plain) (cond (eq x.min zero64) [] (lower ∷ [])) (exclusiveRows s f n x ks)).1
-              (omitted (eq x.min zero64) lower (from_zero lower.elements (lower-ok n k (lowerCoefficient x.min) l)), exclusives-ok n x l u ks),
+    exclusives_ok : (n : ℕ) (x : Node) → FiniteFit (lower_coefficient x.min) → FiniteFit (upper_coefficient x.max) → (ks : List ℕ) → Every (RowOk Plain) (exclusive_rows s f n x ks)
+    unfolding exclusive_rows
+    exclusives_ok n x l u [] = tt
+    exclusives_ok n x l u (k ∷ ks) =
+        let lower : Row = record { lower = zero64; upper = high s; elements = lower_row f n k (lower_coefficient x.min) } in (
+          from_zero (upper_row f n k (upper_coefficient x.max)) (upper_ok n k (upper_coefficient x.max) u),
+          (every_append (RowOk Plain) (cond (eq x.min zero64) [] (lower ∷ [])) (exclusive_rows s f n x ks)).1
+              (omitted (eq x.min zero64) lower (from_zero lower.elements (lower_ok n k (lower_coefficient x.min) l)), exclusives_ok n x l u ks),
         )
       where
         omitted : (b : Bool) (r : Row) → RowOk Plain r → Every (RowOk Plain) (cond b [] (r ∷ []))
@@ -196,71 +196,71 @@ module _ (net : Network) (sound : Sound net) where
 
     module _ (n : ℕ) (x : Node) (at : get_elem? net.nodes n ≡ some x) where
       -- 10 refused the coefficients that are not finite
-      constant-ok : T x.constant → (ks : List ℕ) → AllMem (λ (k : ℕ). Memᴰ k (setsWithNode n 0 (exclusiveSets net))) ks → Every (RowOk Plain) (constantRows s f n x ks)
-      unfolding constantRows upperCoefficient lowerCoefficient
-      constant-ok t [] listed =
-          let ok = sound.good.nodes x (found-mem net.nodes n x at) in
-          (record { lower = ok.least t; upper = ok.most t; elements = node-plain f few n }, tt)
-      constant-ok t (k ∷ ks) listed =
-          let ok = sound.good.nodes x (found-mem net.nodes n x at) in
-          let c = sound.coefficients n x at t (membership-exclusive net n k (listed k (Memᴰ.head refl))) in
-          exclusives-ok n x (lower-finite x.min (ok.least t) c.least) (upper-finite x.max (ok.most t) c.most) (k ∷ ks)
+      constant_ok : T x.constant → (ks : List ℕ) → AllMem (λ (k : ℕ). Memᴰ k (sets_with_node n 0 (exclusive_sets net))) ks → Every (RowOk Plain) (constant_rows s f n x ks)
+      unfolding constant_rows upper_coefficient lower_coefficient
+      constant_ok t [] listed =
+          let ok = sound.good.nodes x (found_mem net.nodes n x at) in
+          (record { lower = ok.least t; upper = ok.most t; elements = node_plain f few n }, tt)
+      constant_ok t (k ∷ ks) listed =
+          let ok = sound.good.nodes x (found_mem net.nodes n x at) in
+          let c = sound.coefficients n x at t (membership_exclusive net n k (listed k (Memᴰ.head refl))) in
+          exclusives_ok n x (lower_finite x.min (ok.least t) c.least) (upper_finite x.max (ok.most t) c.most) (k ∷ ks)
 
-      constant-part : (b : Bool) → (T b → T x.constant) → Every (RowOk Plain) (cond b (constantRows s f n x (setsWithNode n 0 f.sets)) [])
-      unfolding columnMap
-      constant-part true t = constant-ok (t tt) (setsWithNode n 0 (exclusiveSets net)) (λ k m. m)
-      constant-part false t = tt
+      constant_part : (b : Bool) → (T b → T x.constant) → Every (RowOk Plain) (cond b (constant_rows s f n x (sets_with_node n 0 f.sets)) [])
+      unfolding column_map
+      constant_part true t = constant_ok (t tt) (sets_with_node n 0 (exclusive_sets net)) (λ k m. m)
+      constant_part false t = tt
 
-    constants-ok : Every (RowOk Plain) (constantRowsFrom s f 0 net.nodes)
-    unfolding constantRowsFrom
-    constants-ok =
-        let rows : ℕ → Node → List Row = (λ n x. cond x.constant (constantRows s f n x (setsWithNode n 0 f.sets)) []) in
-        (each_of (RowOk Plain) rows (constantRowsFrom s f) (λ n. refl) (λ n x xs. refl) net.nodes 0).1
-        (λ n x at. subst (λ (m : ℕ). Every (RowOk Plain) (rows m x)) (sym (zero-add n)) (constant-part n x at x.constant (λ t. t)))
+    constants_ok : Every (RowOk Plain) (constant_rows_from s f 0 net.nodes)
+    unfolding constant_rows_from
+    constants_ok =
+        let rows : ℕ → Node → List Row = (λ n x. cond x.constant (constant_rows s f n x (sets_with_node n 0 f.sets)) []) in
+        (each_of (RowOk Plain) rows (constant_rows_from s f) (λ n. refl) (λ n x xs. refl) net.nodes 0).1
+        (λ n x at. subst (λ (m : ℕ). Every (RowOk Plain) (rows m x)) (sym (zero-add n)) (constant_part n x at x.constant (λ t. t)))
 
   -- ---- the whole programme
 
   module _ (small : AllSmall net) where
-    abbrev ofNodes : List (List Element)
-    ofNodes = map requestedRow (requestsFrom f 0 net.nodes)
+    abbrev of_nodes : List (List Element)
+    of_nodes = map requested_row (requests_from f 0 net.nodes)
 
-    abbrev ofAggregates : List (List Element)
-    ofAggregates = map (aggregateRow f) net.aggregates
+    abbrev of_aggregates : List (List Element)
+    of_aggregates = map (aggregate_row f) net.aggregates
 
-    abbrev ofVirtualStorages : List (List Element)
-    ofVirtualStorages = map (virtualStorageRow f) net.virtualStorages
+    abbrev of_virtual_storages : List (List Element)
+    of_virtual_storages = map (virtual_storage_row f) net.virtual_storages
 
-    nodes-asked : AllMem AllPlain ofNodes
-    unfolding requestedRow
-    nodes-asked = all_map AllPlain requestedRow (requestsFrom f 0 net.nodes) (every-mem AskOk (requestsFrom f 0 net.nodes) (asks-ok 0 net.nodes))
+    nodes_asked : AllMem AllPlain of_nodes
+    unfolding requested_row
+    nodes_asked = all_map AllPlain requested_row (requests_from f 0 net.nodes) (every_mem AskOk (requests_from f 0 net.nodes) (asks_ok 0 net.nodes))
 
-    aggregates-asked : AllMem AllPlain ofAggregates
-    aggregates-asked = all_map AllPlain (aggregateRow f) net.aggregates (λ g m. aggregate-plain f few (length net.nodes) g (sound.good.aggregates g m))
+    aggregates_asked : AllMem AllPlain of_aggregates
+    aggregates_asked = all_map AllPlain (aggregate_row f) net.aggregates (λ g m. aggregate_plain f few (length net.nodes) g (sound.good.aggregates g m))
 
-    virtual-storages-asked : AllMem AllPlain ofVirtualStorages
-    virtual-storages-asked = all_map AllPlain (virtualStorageRow f) net.virtualStorages (λ v m. virtual-storage-plain f few v (small v m) (sound.good.virtualStorages v m).few)
+    virtual_storages_asked : AllMem AllPlain of_virtual_storages
+    virtual_storages_asked = all_map AllPlain (virtual_storage_row f) net.virtual_storages (λ v m. virtual_storage_plain f few v (small v m) (sound.good.virtual_storages v m).few)
 
-    pub asked-plain : AllMem AllPlain (askedRows net)
-    unfolding askedRows
-    asked-plain = all_append AllPlain (ofNodes ++ ofAggregates) ofVirtualStorages (all_append AllPlain ofNodes ofAggregates nodes-asked aggregates-asked) virtual-storages-asked
+    pub asked_plain : AllMem AllPlain (asked_rows net)
+    unfolding asked_rows
+    asked_plain = all_append AllPlain (of_nodes ++ of_aggregates) of_virtual_storages (all_append AllPlain of_nodes of_aggregates nodes_asked aggregates_asked) virtual_storages_asked
 
-    pub build-ok : (s : Sentinel) → ProgrammeOk Plain (programmeOf s net).programme
-    unfolding programmeOf assemble
-    build-ok s =
-        let forNodes : Joined = addVariableRows ofNodes (record { rows = []; places = [] }) in
-        let forAggregates : Joined = addVariableRows ofAggregates (record { rows = forNodes.rows; places = [] }) in
-        let forVirtualStorages : Joined = addVariableRows ofVirtualStorages (record { rows = forAggregates.rows; places = [] }) in
-        let a : AllMem AllPlain forNodes.rows = joins-all AllPlain ofNodes (record { rows = []; places = [] }) nodes-asked (all_none AllPlain) in
-        let b : AllMem AllPlain forAggregates.rows = joins-all AllPlain ofAggregates (record { rows = forNodes.rows; places = [] }) aggregates-asked a in
-        let c : AllMem AllPlain forVirtualStorages.rows = joins-all AllPlain ofVirtualStorages (record { rows = forAggregates.rows; places = [] }) virtual-storages-asked b in
-        let mass : List Row = massRowsFrom f 0 net.nodes in
-        let constant : List Row = constantRowsFrom s f 0 net.nodes in
+    pub build_ok : (s : Sentinel) → ProgrammeOk Plain (programme_of s net).programme
+    unfolding programme_of assemble
+    build_ok s =
+        let for_nodes : Joined = add_variable_rows of_nodes (record { rows = []; places = [] }) in
+        let for_aggregates : Joined = add_variable_rows of_aggregates (record { rows = for_nodes.rows; places = [] }) in
+        let for_virtual_storages : Joined = add_variable_rows of_virtual_storages (record { rows = for_aggregates.rows; places = [] }) in
+        let a : AllMem AllPlain for_nodes.rows = joins_all AllPlain of_nodes (record { rows = []; places = [] }) nodes_asked (all_none AllPlain) in
+        let b : AllMem AllPlain for_aggregates.rows = joins_all AllPlain of_aggregates (record { rows = for_nodes.rows; places = [] }) aggregates_asked a in
+        let c : AllMem AllPlain for_virtual_storages.rows = joins_all AllPlain of_virtual_storages (record { rows = for_aggregates.rows; places = [] }) virtual_storages_asked b in
+        let mass : List Row = mass_rows_from f 0 net.nodes in
+        let constant : List Row = constant_rows_from s f 0 net.nodes in
         record {
-          columns = columns-ok s f;
-          varying = fresh_ok s forVirtualStorages.rows (mem-every AllPlain forVirtualStorages.rows c);
+          columns = columns_ok s f;
+          varying = fresh_ok s for_virtual_storages.rows (mem_every AllPlain for_virtual_storages.rows c);
           fixed =
-              (every_append (RowOk Plain) (mass ++ constant) (exclusivityRows f net.aggregates)).1 (
-                (every_append (RowOk Plain) mass constant).1 (masses-ok 0 net.nodes, constants-ok s),
-                exclusivities-ok (length net.nodes) net.aggregates sound.good.aggregates,
+              (every_append (RowOk Plain) (mass ++ constant) (exclusivity_rows f net.aggregates)).1 (
+                (every_append (RowOk Plain) mass constant).1 (masses_ok 0 net.nodes, constants_ok s),
+                exclusivities_ok (length net.nodes) net.aggregates sound.good.aggregates,
               );
         }

@@ -10,22 +10,22 @@ use borrow.Author.Tests.{le-leb}
 use Rattle.laws.proofs.Tests.{by_cases}
 use Rattle.pywr.specs.Result.{value, Result, refused, ◌>>=◌}
 use Rattle.pywr.specs.NetworkFile.{Read}
-use Rattle.pywr.proofs.ReadLaws.{same-value}
-use Rattle.pywr.specs.Bytes.{byte, le16, le32, le64, within, markIs, u8, u16, u32, bits64}
+use Rattle.pywr.proofs.ReadLaws.{same_value}
+use Rattle.pywr.specs.Bytes.{byte, le16, le32, le64, within, mark_is, u8, u16, u32, bits64}
 
 -- ---- a reading in two steps
 
-bind-same : {A B : Type 0} (r : Result A) (k l : A → Result B) → ((a : A) → r ≡ value a → k a ≡ l a) → (r >>= k) ≡ (r >>= l)
+bind_same : {A B : Type 0} (r : Result A) (k l : A → Result B) → ((a : A) → r ≡ value a → k a ≡ l a) → (r >>= k) ≡ (r >>= l)
 unfolding ◌>>=◌
-bind-same (value a) k l f = f a refl
-bind-same (refused n p) k l f = refl
+bind_same (value a) k l f = f a refl
+bind_same (refused n p) k l f = refl
 
-pub bind-both : {A B : Type 0} {r q : Result A} {k l : A → Result B} → r ≡ q → ((a : A) → r ≡ value a → k a ≡ l a) → (r >>= k) ≡ (q >>= l)
-bind-both {A} {B} {r} {q} {k} {l} e f = bind-same r k l f ∙ ap (λ (x : Result A). x >>= l) e
+pub bind_both : {A B : Type 0} {r q : Result A} {k l : A → Result B} → r ≡ q → ((a : A) → r ≡ value a → k a ≡ l a) → (r >>= k) ≡ (q >>= l)
+bind_both {A} {B} {r} {q} {k} {l} e f = bind_same r k l f ∙ ap (λ (x : Result A). x >>= l) e
 
 -- where a record that was read ends
 pub ends : {A : Type 0} (q r : Read A) → value q ≡ value r → q.next ≡ r.next
-ends {A} q r e = ap (λ (x : Read A). x.next) (same-value q r e)
+ends {A} q r e = ap (λ (x : Read A). x.next) (same_value q r e)
 
 -- ---- two files
 
@@ -34,17 +34,17 @@ pub record Same (n : ℕ) (f g : List ℕ) : Type 0 where
   pub long' : n ≤ length g
   pub bytes : (i : ℕ) → i < n → byte f i ≡ byte g i
 
-pub same-take : (n m : ℕ) (file : List ℕ) → n ≤ m → m ≤ length file → Same n (take m file) file
-same-take n m file h k =
+pub same_take : (n m : ℕ) (file : List ℕ) → n ≤ m → m ≤ length file → Same n (take m file) file
+same_take n m file h k =
     let l = length-take-le m file k in
     record { long = omega (arith, l); long' = omega arith; bytes = λ i lt. get_or-take m file i 0 (omega arith) }
 
 -- what depends on the first n bytes alone, where there are so many, is the same of the first m bytes, n ≤ m, and of the file
-pub by-prefix : {X : Type 0} (of : List ℕ → X) (n : ℕ) → ((f g : List ℕ) → Same n f g → of f ≡ of g) → (m : ℕ) (file : List ℕ) → n ≤ m → of (take m file) ≡ of file
-by-prefix of n law m file h =
+pub by_prefix : {X : Type 0} (of : List ℕ → X) (n : ℕ) → ((f g : List ℕ) → Same n f g → of f ≡ of g) → (m : ℕ) (file : List ℕ) → n ≤ m → of (take m file) ≡ of file
+by_prefix of n law m file h =
     by_cases (leb (length file) m)
     (λ t. ap of (take_all m file (leb→le (length file) m t)))
-    (λ t. let k = nleb→lt (length file) m t in law (take m file) file (same-take n m file h (omega arith)))
+    (λ t. let k = nleb→lt (length file) m t in law (take m file) file (same_take n m file h (omega arith)))
 
 -- ---- fields
 
@@ -52,31 +52,31 @@ module _ {n : ℕ} {f g : List ℕ} (h : Same n f g) where
   pub within_same : (at k : ℕ) → at + k ≤ n → within f at k ≡ within g at k
   within_same at k le = rw (le-leb (at + k) (length f) (omega (arith, h.long)), le-leb (at + k) (length g) (omega (arith, h.long')))
 
-  le16-same : (at : ℕ) → at + 2 ≤ n → le16 f at ≡ le16 g at
-  le16-same at le = rw (h.bytes at (omega arith), h.bytes (at + 1) (omega arith))
+  le16_same : (at : ℕ) → at + 2 ≤ n → le16 f at ≡ le16 g at
+  le16_same at le = rw (h.bytes at (omega arith), h.bytes (at + 1) (omega arith))
 
-  le32-same : (at : ℕ) → at + 4 ≤ n → le32 f at ≡ le32 g at
-  le32-same at le = rw (le16-same at (omega arith), le16-same (at + 2) (omega arith))
+  le32_same : (at : ℕ) → at + 4 ≤ n → le32 f at ≡ le32 g at
+  le32_same at le = rw (le16_same at (omega arith), le16_same (at + 2) (omega arith))
 
-  le64-same : (at : ℕ) → at + 8 ≤ n → le64 f at ≡ le64 g at
-  le64-same at le = rw (le32-same at (omega arith), le32-same (at + 4) (omega arith))
+  le64_same : (at : ℕ) → at + 8 ≤ n → le64 f at ≡ le64 g at
+  le64_same at le = rw (le32_same at (omega arith), le32_same (at + 4) (omega arith))
 
-  pub mark-same : (at a b : ℕ) → at + 2 ≤ n → markIs f at a b ≡ markIs g at a b
-  mark-same at a b le = rw (h.bytes at (omega arith), h.bytes (at + 1) (omega arith))
+  pub mark_same : (at a b : ℕ) → at + 2 ≤ n → mark_is f at a b ≡ mark_is g at a b
+  mark_same at a b le = rw (h.bytes at (omega arith), h.bytes (at + 1) (omega arith))
 
   module _ (place short : ℕ) where
-    pub u8-same : (at : ℕ) → at + 1 ≤ n → u8 f place short at ≡ u8 g place short at
+    pub u8_same : (at : ℕ) → at + 1 ≤ n → u8 f place short at ≡ u8 g place short at
     unfolding u8
-    u8-same at le = rw (within_same at 1 le, h.bytes at (omega arith))
+    u8_same at le = rw (within_same at 1 le, h.bytes at (omega arith))
 
-    pub u16-same : (at : ℕ) → at + 2 ≤ n → u16 f place short at ≡ u16 g place short at
+    pub u16_same : (at : ℕ) → at + 2 ≤ n → u16 f place short at ≡ u16 g place short at
     unfolding u16
-    u16-same at le = rw (within_same at 2 le, le16-same at le)
+    u16_same at le = rw (within_same at 2 le, le16_same at le)
 
-    pub u32-same : (at : ℕ) → at + 4 ≤ n → u32 f place short at ≡ u32 g place short at
+    pub u32_same : (at : ℕ) → at + 4 ≤ n → u32 f place short at ≡ u32 g place short at
     unfolding u32
-    u32-same at le = rw (within_same at 4 le, le32-same at le)
+    u32_same at le = rw (within_same at 4 le, le32_same at le)
 
-    pub bits64-same : (at : ℕ) → at + 8 ≤ n → bits64 f place short at ≡ bits64 g place short at
+    pub bits64_same : (at : ℕ) → at + 8 ≤ n → bits64 f place short at ≡ bits64 g place short at
     unfolding bits64
-    bits64-same at le = rw (within_same at 8 le, le64-same at le)
+    bits64_same at le = rw (within_same at 8 le, le64_same at le)

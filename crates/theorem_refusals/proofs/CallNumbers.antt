@@ -9,99 +9,99 @@ use lib.Ieee.{Float}
 use Rattle.laws.proofs.Tests.{or_l, or_r}
 use Rattle.pywr.specs.declared.Sentinel.{Sentinel}
 use Rattle.pywr.specs.Result.{value, Result, refused, ◌>>=◌, need}
-use Rattle.pywr.specs.NetworkFile.{parseNetwork}
+use Rattle.pywr.specs.NetworkFile.{parse_network}
 use Rattle.pywr.specs.Build.{build}
 use Rattle.pywr.specs.StepFile.{StepFile, read_step}
-use Rattle.pywr.specs.StepIntervals.{hasBinaryRow}
-use Rattle.pywr.specs.Store.{Store, storeHasRoom, shape_of, programmeIn}
-use Rattle.pywr.specs.Misshapen.{wellShaped}
-use Rattle.pywr.specs.Calls.{buildRoom, buildAnswer, stepRoom, stepRead, stepIntervals, stepOrdered, stepAnswer, rowAnswer}
-use Rattle.theorem_refusals.specs.RefusalNumbers.{Among, passed, ofNetworkFile, ofProgramme, ofBuild, ofStepFile, ofIntervals, ofJudged, ofStep, ofRow}
-use Rattle.theorem_refusals.proofs.Among.{bind-among, need-among, more-among, number-among}
-use Rattle.theorem_refusals.proofs.NetworkNumbers.{network-file-numbers}
-use Rattle.theorem_refusals.proofs.StepNumbers.{step-file-numbers, interval-numbers}
+use Rattle.pywr.specs.StepIntervals.{has_binary_row}
+use Rattle.pywr.specs.Store.{Store, store_has_room, shape_of, programme_in}
+use Rattle.pywr.specs.Misshapen.{well_shaped}
+use Rattle.pywr.specs.Calls.{build_room, build_answer, step_room, step_read, step_intervals, step_ordered, step_answer, row_answer}
+use Rattle.theorem_refusals.specs.RefusalNumbers.{Among, passed, of_network_file, of_programme, of_build, of_step_file, of_intervals, of_judged, of_step, of_row}
+use Rattle.theorem_refusals.proofs.Among.{bind_among, need_among, more_among, number_among}
+use Rattle.theorem_refusals.proofs.NetworkNumbers.{network_file_numbers}
+use Rattle.theorem_refusals.proofs.StepNumbers.{step_file_numbers, interval_numbers}
 
 -- ---- the build
 
-programme-among : (s : Sentinel) (file : List ℕ) → Among ofProgramme (build s file)
+programme_among : (s : Sentinel) (file : List ℕ) → Among of_programme (build s file)
 unfolding build
-programme-among s file = bind-among _ _ (more-among (parseNetwork file) (λ n t. or_l (ofNetworkFile n) (eqb n 11) t) (network-file-numbers file)) (λ net. need-among _ 11 0 _ tt)
+programme_among s file = bind_among _ _ (more_among (parse_network file) (λ n t. or_l (of_network_file n) (eqb n 11) t) (network_file_numbers file)) (λ net. need_among _ 11 0 _ tt)
 
 module _ (s : Sentinel) (file : List ℕ) (old : Store) (words : List ℕ) (numbers : List Float) where
-  build-among : Among ofBuild (buildAnswer s file old words numbers)
-  unfolding buildAnswer
-  build-among =
-      bind-among _ _ (need-among (buildRoom old words numbers) 16 0 old tt) (λ room. more-among (build s file) (λ n t. or_l (ofProgramme n) (eqb n 16) t) (programme-among s file))
+  build_among : Among of_build (build_answer s file old words numbers)
+  unfolding build_answer
+  build_among =
+      bind_among _ _ (need_among (build_room old words numbers) 16 0 old tt) (λ room. more_among (build s file) (λ n t. or_l (of_programme n) (eqb n 16) t) (programme_among s file))
 
-  pub build-numbers : (n p : ℕ) → buildAnswer s file old words numbers ≡ refused n p → T (ofBuild n)
-  build-numbers n p e = number-among (buildAnswer s file old words numbers) n p build-among e
+  pub build_numbers_lem : (n p : ℕ) → build_answer s file old words numbers ≡ refused n p → T (of_build n)
+  build_numbers_lem n p e = number_among (build_answer s file old words numbers) n p build_among e
 
-  pub build-short : buildRoom old words numbers ≡ false → buildAnswer s file old words numbers ≡ refused 16 0
-  unfolding buildAnswer need ◌>>=◌
-  build-short e = ap (λ (b : Bool). cond b (value old) (refused 16 0) >>= λ room. build s file) e
+  pub build_short : build_room old words numbers ≡ false → build_answer s file old words numbers ≡ refused 16 0
+  unfolding build_answer need ◌>>=◌
+  build_short e = ap (λ (b : Bool). cond b (value old) (refused 16 0) >>= λ room. build s file) e
 
-  pub build-not-short : (p : ℕ) → buildRoom old words numbers ≡ true → buildAnswer s file old words numbers ≡ refused 16 p → ⊥
-  unfolding buildAnswer need ◌>>=◌
-  build-not-short p e k =
-      number-among (build s file) 16 p (programme-among s file) (sym (ap (λ (b : Bool). cond b (value old) (refused 16 0) >>= λ room. build s file) e) ∙ k)
+  pub build_not_short : (p : ℕ) → build_room old words numbers ≡ true → build_answer s file old words numbers ≡ refused 16 p → ⊥
+  unfolding build_answer need ◌>>=◌
+  build_not_short p e k =
+      number_among (build s file) 16 p (programme_among s file) (sym (ap (λ (b : Bool). cond b (value old) (refused 16 0) >>= λ room. build s file) e) ∙ k)
 
 -- ---- the step
 
 -- a step with room, in its two parts: 17 and the file, then the intervals
-abbrev readWith : List ℕ → Store → Result StepFile
-readWith file room =
-    need (wellShaped room) 17 0 (shape_of room) >>= λ shaped. read_step shaped.nodes (length shaped.aggregates) (length shaped.virtualStorages) file
+abbrev read_with : List ℕ → Store → Result StepFile
+read_with file room =
+    need (well_shaped room) 17 0 (shape_of room) >>= λ shaped. read_step shaped.nodes (length shaped.aggregates) (length shaped.virtual_storages) file
 
-abbrev orderedIn : Store → StepFile → Result StepFile
-orderedIn store f = stepOrdered store f >>= λ _. value f
+abbrev ordered_in : Store → StepFile → Result StepFile
+ordered_in store f = step_ordered store f >>= λ _. value f
 
-read-among : (file : List ℕ) (room : Store) → Among ofJudged (readWith file room)
-read-among file room =
-    bind-among _ _ (need-among (wellShaped room) 17 0 (shape_of room) tt) (λ shaped.
-    more-among _ (λ n t. or_r (eqb n 17) (ofStepFile n || ofIntervals n) (or_l (ofStepFile n) (ofIntervals n) t))
-    (step-file-numbers shaped.nodes (length shaped.aggregates) (length shaped.virtualStorages) file))
+read_among : (file : List ℕ) (room : Store) → Among of_judged (read_with file room)
+read_among file room =
+    bind_among _ _ (need_among (well_shaped room) 17 0 (shape_of room) tt) (λ shaped.
+    more_among _ (λ n t. or_r (eqb n 17) (of_step_file n || of_intervals n) (or_l (of_step_file n) (of_intervals n) t))
+    (step_file_numbers shaped.nodes (length shaped.aggregates) (length shaped.virtual_storages) file))
 
-ordered-among : (store : Store) (f : StepFile) → Among ofJudged (orderedIn store f)
-unfolding stepOrdered
-ordered-among store f =
-    bind-among _ _
-    (more-among _ (λ n t. or_r (eqb n 17) (ofStepFile n || ofIntervals n) (or_r (ofStepFile n) (ofIntervals n) t))
-    (interval-numbers (programmeIn store).sentinel (hasBinaryRow (shape_of store).nodeRows) (stepIntervals store f)))
+ordered_among : (store : Store) (f : StepFile) → Among of_judged (ordered_in store f)
+unfolding step_ordered
+ordered_among store f =
+    bind_among _ _
+    (more_among _ (λ n t. or_r (eqb n 17) (of_step_file n || of_intervals n) (or_r (of_step_file n) (of_intervals n) t))
+    (interval_numbers (programme_in store).sentinel (has_binary_row (shape_of store).node_rows) (step_intervals store f)))
     (λ i. passed)
 
 module _ (store : Store) (file : List ℕ) (work : List Float) where
-  step-among : Among ofStep (stepAnswer store file work)
-  unfolding stepAnswer stepRead
-  step-among =
-      bind-among (need (stepRoom store work) 16 0 store >>= readWith file) (orderedIn store)
-      (bind-among (need (stepRoom store work) 16 0 store) (readWith file) (need-among (stepRoom store work) 16 0 store tt)
-      (λ room. more-among (readWith file room) (λ n t. or_l (ofJudged n) (eqb n 16) t) (read-among file room)))
-      (λ f. more-among (orderedIn store f) (λ n t. or_l (ofJudged n) (eqb n 16) t) (ordered-among store f))
+  step_among : Among of_step (step_answer store file work)
+  unfolding step_answer step_read
+  step_among =
+      bind_among (need (step_room store work) 16 0 store >>= read_with file) (ordered_in store)
+      (bind_among (need (step_room store work) 16 0 store) (read_with file) (need_among (step_room store work) 16 0 store tt)
+      (λ room. more_among (read_with file room) (λ n t. or_l (of_judged n) (eqb n 16) t) (read_among file room)))
+      (λ f. more_among (ordered_in store f) (λ n t. or_l (of_judged n) (eqb n 16) t) (ordered_among store f))
 
-  pub step-numbers : (n p : ℕ) → stepAnswer store file work ≡ refused n p → T (ofStep n)
-  step-numbers n p e = number-among (stepAnswer store file work) n p step-among e
+  pub step_numbers : (n p : ℕ) → step_answer store file work ≡ refused n p → T (of_step n)
+  step_numbers n p e = number_among (step_answer store file work) n p step_among e
 
   -- the answer where the test for room has come out
-  with-room : (b : Bool) → stepRoom store work ≡ b → stepAnswer store file work ≡ ((cond b (value store) (refused 16 0) >>= readWith file) >>= orderedIn store)
-  unfolding stepAnswer stepRead need
-  with-room b e = ap (λ (q : Bool). (cond q (value store) (refused 16 0) >>= readWith file) >>= orderedIn store) e
+  with_room : (b : Bool) → step_room store work ≡ b → step_answer store file work ≡ ((cond b (value store) (refused 16 0) >>= read_with file) >>= ordered_in store)
+  unfolding step_answer step_read need
+  with_room b e = ap (λ (q : Bool). (cond q (value store) (refused 16 0) >>= read_with file) >>= ordered_in store) e
 
-  pub step-short : stepRoom store work ≡ false → stepAnswer store file work ≡ refused 16 0
+  pub step_short : step_room store work ≡ false → step_answer store file work ≡ refused 16 0
   unfolding ◌>>=◌
-  step-short e = with-room false e
+  step_short e = with_room false e
 
-  pub step-not-short : (p : ℕ) → stepRoom store work ≡ true → stepAnswer store file work ≡ refused 16 p → ⊥
+  pub step_not_short : (p : ℕ) → step_room store work ≡ true → step_answer store file work ≡ refused 16 p → ⊥
   unfolding ◌>>=◌
-  step-not-short p e k =
-      number-among (readWith file store >>= orderedIn store) 16 p (bind-among (readWith file store) (orderedIn store) (read-among file store) (ordered-among store)) (sym (with-room true e) ∙ k)
+  step_not_short p e k =
+      number_among (read_with file store >>= ordered_in store) 16 p (bind_among (read_with file store) (ordered_in store) (read_among file store) (ordered_among store)) (sym (with_room true e) ∙ k)
 
 -- ---- reading a row
 
-row-among : (store : Store) (r : ℕ) → Among ofRow (rowAnswer store r)
-unfolding rowAnswer
-row-among store r =
-    bind-among _ _ (need-among (storeHasRoom store) 16 0 store tt) (λ room.
-    bind-among _ _ (need-among (wellShaped room) 17 0 room tt) (λ shaped. need-among _ 18 r _ tt))
+row_among : (store : Store) (r : ℕ) → Among of_row (row_answer store r)
+unfolding row_answer
+row_among store r =
+    bind_among _ _ (need_among (store_has_room store) 16 0 store tt) (λ room.
+    bind_among _ _ (need_among (well_shaped room) 17 0 room tt) (λ shaped. need_among _ 18 r _ tt))
 
-pub row-numbers : (store : Store) (r n p : ℕ) → rowAnswer store r ≡ refused n p → T (ofRow n)
-row-numbers store r n p e = number-among (rowAnswer store r) n p (row-among store r) e
+pub row_numbers : (store : Store) (r n p : ℕ) → row_answer store r ≡ refused n p → T (of_row n)
+row_numbers store r n p e = number_among (row_answer store r) n p (row_among store r) e

@@ -3,11 +3,11 @@ use Rattle.std.specs.Prelude.{◌≡◌, ℕ, ◌+◌, ◌≤◌, List, length, 
 use Rattle.pywr.specs.declared.Sentinel.{Sentinel}
 use Rattle.pywr.specs.Result.{refused}
 use Rattle.pywr.specs.Store.{Store}
-use Rattle.pywr.specs.Calls.{buildAnswer}
-use Rattle.theorem_refusals.specs.RefusalNumbers.{ofEdge}
+use Rattle.pywr.specs.Calls.{build_answer}
+use Rattle.theorem_refusals.specs.RefusalNumbers.{of_edge}
 
 -- `from` and `to`, two bytes each, lie within the file
 abbrev pub EdgeInFile : Type 0
 EdgeInFile =
     (s : Sentinel) (file : List ℕ) (old : Store) (words : List ℕ) (numbers : List Float) (number place : ℕ)
-    → buildAnswer s file old words numbers ≡ refused number place → T (ofEdge number) → place + 4 ≤ length file
+    → build_answer s file old words numbers ≡ refused number place → T (of_edge number) → place + 4 ≤ length file

@@ -5,18 +5,18 @@ use native.Mathlib.Omega.{arith}
 use lib.ListN.{length}
 use lib.Ieee.{of_bits}
 use Rattle.pywr.specs.Numbers.{one64}
-use Rattle.pywr.specs.Rows.{columnMap, addNodes}
-use Rattle.network_aggregate.specs.AggregatedNode.{setAt}
+use Rattle.pywr.specs.Rows.{column_map, add_nodes}
+use Rattle.network_aggregate.specs.AggregatedNode.{aggregate_set_at}
 use Rattle.build_row.specs.RowBuilder.{gathered}
-use Rattle.build_node_row.specs.Tables.{networkOf}
-use Rattle.build_aggregates.proofs.AggregateLaws.{AddingNodes, nodes-none, nodes-more, nodes-all}
+use Rattle.build_node_row.specs.Tables.{network_of}
+use Rattle.build_aggregates.proofs.AggregateLaws.{AddingNodes, nodes_none, nodes_more, nodes_all}
 use borrow.Author.Rules.{rules}
 use Rattle.build_aggregates.proofs.add_nodes.Statement.{statement}
 use Rattle.build_aggregates.proofs.add_nodes.Tie as tie
 
 abbrev invariant-loop : tie.invariant-loop
 invariant-loop s c first-in next-in first_out next-out edge-to-col at columns₀ elements₀ n size count₀ k₀ columns elements count k =
-    AddingNodes s c at (addNodes (columnMap (networkOf s c)) (setAt s at) (gathered columns₀ elements₀ n)) k columns elements count × (length elements ≡ length elements₀)
+    AddingNodes s c at (add_nodes (column_map (network_of s c)) (aggregate_set_at s at) (gathered columns₀ elements₀ n)) k columns elements count × (length elements ≡ length elements₀)
 
 abbrev decreases-loop : tie.decreases-loop
 decreases-loop s c first-in next-in first_out next-out edge-to-col at columns₀ elements₀ n size count₀ k₀ columns elements count k = size - k
@@ -44,7 +44,7 @@ set-size-requires c κs =
 loop-holds : tie.Need-loop-init invariant-loop decreases-loop
 loop-holds c =
     let t = c.before.before.before in
-    (nodes-none _ t.args.c _ _ _ _ _ refl t.requires.5 t.requires.3, refl)
+    (nodes_none _ t.args.c _ _ _ _ _ refl t.requires.5 t.requires.3, refl)
 
 member-requires : tie.Need-member-requires invariant-loop decreases-loop
 member-requires c κs =
@@ -67,9 +67,9 @@ loop-again c =
     let after-set-size = at-loop.before in
     let start = after-set-size.before.before.before in
     let l = at-loop.loop in (
-      nodes-more _ start.args.c _ _ _ _ _ _ l.invariant.0 _ _ _ _ _ (omega (arith, after-set-size.set-size.ensures.0, in-loop.loop-test.true))
-          after-member.member.ensures refl after-add-node.add-node.ensures,
-      after-add-node.add-node.auto.1.1.1.1.1.1.1.1.1.1.0 ∙ l.invariant.1,
+      nodes_more _ start.args.c _ _ _ _ _ _ l.invariant.0 _ _ _ _ _ (omega (arith, after-set-size.set-size.ensures.0, in-loop.loop-test.true))
+          after-member.member.ensures refl after-add-node.add_node_lem.ensures,
+      after-add-node.add_node_lem.auto.1.1.1.1.1.1.1.1.1.1.0 ∙ l.invariant.1,
     )
 
 same_length : tie.Need-same-length invariant-loop decreases-loop
@@ -78,7 +78,7 @@ same_length c =
 
 returns : tie.Need-returns invariant-loop decreases-loop
 returns c =
-    nodes-all _ (to_start c.before).args.c _ _ _ _ _ _ c.before.loop.invariant.0 (omega (arith, c.before.before.set-size.ensures.0, c.loop-test.false))
+    nodes_all _ (to_start c.before).args.c _ _ _ _ _ _ c.before.loop.invariant.0 (omega (arith, c.before.before.set-size.ensures.0, c.loop-test.false))
 
 pub add-nodes-spec : {M : Type 1} → statement M
 add-nodes-spec =

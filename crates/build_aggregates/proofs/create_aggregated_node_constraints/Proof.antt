@@ -4,17 +4,17 @@ use Prim.Native.Nat.{ℕ, ◌+◌, ◌-◌, ◌≤◌}
 use native.Mathlib.Omega.{arith}
 use mathlib.Core.List.{List, [], ◌∷◌, ◌++◌, map}
 use lib.ListN.{length}
-use Rattle.layout.specs.Layout.{aggregatesPackedAt, aggregatesMadeAt, shapeMadeAt}
-use Rattle.laws.proofs.Tails.{tail-length, tail-kept}
+use Rattle.layout.specs.Layout.{aggregates_packed_at, aggregates_made_at, shape_made_at}
+use Rattle.laws.proofs.Tails.{tail_length, tail_kept}
 use Rattle.pywr.specs.Rows.{Element}
 use Rattle.pywr.specs.VaryingRows.{fresh_row}
-use Rattle.fields.specs.Records.{recordsEnd}
-use Rattle.network_laws.specs.NetworkAt.{aggregateStart}
+use Rattle.fields.specs.Records.{records_end}
+use Rattle.network_laws.specs.NetworkAt.{aggregate_start}
 use Rattle.build_append.specs.LpBuilder.{RowsHeld}
-use Rattle.build_node_row.specs.Tables.{networkOf}
-use Rattle.build_join.proofs.JoinedLaws.{Asked, asked-none, asked-more, asked-full, asked-all, place-fits}
-use Rattle.build_aggregates.specs.AggregateRows.{aggregateRows, aggregateTable}
-use Rattle.build_aggregates.proofs.AggregateLaws.{asked-count, asked-under, asked-row, aggregate-check, aggregate-within, aggregate-next}
+use Rattle.build_node_row.specs.Tables.{network_of}
+use Rattle.build_join.proofs.JoinedLaws.{Asked, asked_none, asked_more, asked_full, asked_all, place_fits}
+use Rattle.build_aggregates.specs.AggregateRows.{aggregate_rows, aggregate_table}
+use Rattle.build_aggregates.proofs.AggregateLaws.{asked_count, asked_under, asked_row, aggregate_check, aggregate_within, aggregate_next}
 use borrow.Author.Rules.{rules}
 use Rattle.build_aggregates.proofs.create_aggregated_node_constraints.Statement.{statement}
 use Rattle.build_aggregates.proofs.create_aggregated_node_constraints.Tie as tie
@@ -22,8 +22,8 @@ use Rattle.build_aggregates.proofs.create_aggregated_node_constraints.Tie as tie
 abbrev invariant-loop : tie.invariant-loop
 invariant-loop s c first-in next-in first_out next-out edge-to-col sentinel words₀ numbers₀ columns₀ at₀ filled₀ i₀ words numbers columns at filled i =
     ((rows : List (List Element)) → RowsHeld (map (fresh_row sentinel) rows) words₀ numbers₀ filled₀
-    → Asked sentinel (aggregateRows (networkOf s c)) aggregatesMadeAt 1 aggregateTable rows words₀ i words numbers filled)
-    × (at ≡ aggregateStart s c.nodes c.edges i)
+    → Asked sentinel (aggregate_rows (network_of s c)) aggregates_made_at 1 aggregate_table rows words₀ i words numbers filled)
+    × (at ≡ aggregate_start s c.nodes c.edges i)
     × (i ≤ c.aggregates)
     × (length words ≡ length words₀)
     × (length numbers ≡ length numbers₀)
@@ -70,12 +70,12 @@ to-put-aggregate-arg c =
 edges-end-requires : tie.Need-edges-end-requires invariant-loop decreases-loop
 edges-end-requires c κs =
     let sections = c.before.before.before.requires.0.sections in
-    omega (arith, sections.few-nodes, sections.few-edges)
+    omega (arith, sections.few_nodes, sections.few_edges)
 
 loop-holds : tie.Need-loop-init invariant-loop decreases-loop
-unfolding recordsEnd
+unfolding records_end
 loop-holds c =
-    ((λ rows held. asked-none _ _ _ _ _ rows _ _ _ refl held), c.edges-end.ensures, omega arith, refl, refl)
+    ((λ rows held. asked_none _ _ _ _ _ rows _ _ _ refl held), c.edges-end.ensures, omega arith, refl, refl)
 
 add-aggregate-row-requires : tie.Need-add-aggregate-row-requires invariant-loop decreases-loop
 add-aggregate-row-requires c κs =
@@ -84,8 +84,8 @@ add-aggregate-row-requires c κs =
     let lt = c.before.before.before.if1.true in
     let a = l.inv.0 t.pre.2.rows t.pre.2.held in (
       t.pre.0,
-      aggregate-check _ t.args.c t.pre.0.sections _ _ lt l.inv.1,
-      record { words-room = omega (arith, l.inv.3, t.pre.1.words-room); numbers-room = omega (arith, l.inv.4, t.pre.1.numbers-room) },
+      aggregate_check _ t.args.c t.pre.0.sections _ _ lt l.inv.1,
+      record { words_room = omega (arith, l.inv.3, t.pre.1.words_room); numbers_room = omega (arith, l.inv.4, t.pre.1.numbers_room) },
       record { rows = _; held = a.held },
     )
 
@@ -108,15 +108,15 @@ returns c =
     let lt = then1.if1.taken in
     λ rows held.
     let a = l.inv.0 rows held in
-    asked-full _ _ _ _ _ _ _ (omega arith) _ _ _ _ _ _ _ _ (asked-under _ t.args.c t.pre.0.sections _ _ lt l.inv.1)
-    (asked-row _ t.args.c t.pre.0.sections _ _ lt l.inv.1) a (after-add-aggregate-row.add-aggregate-row.ensures _ a.held) _ c.enum_told.given.1
+    asked_full _ _ _ _ _ _ _ (omega arith) _ _ _ _ _ _ _ _ (asked_under _ t.args.c t.pre.0.sections _ _ lt l.inv.1)
+    (asked_row _ t.args.c t.pre.0.sections _ _ lt l.inv.1) a (after-add-aggregate-row.add-aggregate-row.ensures _ a.held) _ c.enum_told.given.1
 
 sub-put-aggregate : tie.Need-overflow-sub-put-aggregate invariant-loop decreases-loop
 sub-put-aggregate c =
     let after-r = c.before in
     let call = (to-add-aggregate-row after-r.before.before).add-aggregate-row in
     let at-loop = to-loop (to-add-aggregate-row-arg3 after-r.before.before) in
-    omega (arith, call.kept.1.1.1.1.1.1.1.1.1.0, at-loop.loop.inv.3, (to_start at-loop).pre.1.words-room)
+    omega (arith, call.kept.1.1.1.1.1.1.1.1.1.0, at-loop.loop.inv.3, (to_start at-loop).pre.1.words_room)
 
 narrow16-requires : tie.Need-narrow16-requires invariant-loop decreases-loop
 narrow16-requires c κs =
@@ -129,8 +129,8 @@ narrow16-requires c κs =
     let l = at-loop.loop in
     let lt = then1.if1.taken in
     let a = l.inv.0 t.pre.2.rows t.pre.2.held in
-    place-fits _ _ _ _ _ _ _ (omega arith) _ _ _ _ _ _ _ _ (asked-under _ t.args.c t.pre.0.sections _ _ lt l.inv.1)
-    (asked-row _ t.args.c t.pre.0.sections _ _ lt l.inv.1) a (after-add-aggregate-row.add-aggregate-row.ensures _ a.held) _ _ after-r.r.given.1
+    place_fits _ _ _ _ _ _ _ (omega arith) _ _ _ _ _ _ _ _ (asked_under _ t.args.c t.pre.0.sections _ _ lt l.inv.1)
+    (asked_row _ t.args.c t.pre.0.sections _ _ lt l.inv.1) a (after-add-aggregate-row.add-aggregate-row.ensures _ a.held) _ _ after-r.r.given.1
 
 put-aggregate-requires : tie.Need-put-aggregate-requires invariant-loop decreases-loop
 put-aggregate-requires c κs =
@@ -140,11 +140,11 @@ put-aggregate-requires c κs =
     let call = (to-add-aggregate-row (to-slice-known4 c.before)).add-aggregate-row in
     omega (
       arith,
-      tail-length shapeMadeAt call.last.1.1.1.1.1.1.1.1.1.0,
+      tail_length shape_made_at call.last.1.1.1.1.1.1.1.1.1.0,
       call.kept.1.1.1.1.1.1.1.1.1.0,
       l.inv.3,
-      t.pre.1.words-room,
-      t.pre.0.sections.few-aggregates,
+      t.pre.1.words_room,
+      t.pre.0.sections.few_aggregates_lem,
       lt,
     )
 
@@ -153,11 +153,11 @@ aggregate-end-requires c κs =
     let t = to_start (to-loop (to-add-aggregate-row-arg3 (to-slice-known4 (to-put-aggregate-arg c)))) in
     let l = (to-loop (to-add-aggregate-row-arg3 (to-slice-known4 (to-put-aggregate-arg c)))).loop in
     let lt = (to-then1 (to-add-aggregate-row (to-slice-known4 (to-put-aggregate-arg c)))).if1.taken in
-    aggregate-within _ _ _ (aggregate-check _ t.args.c t.pre.0.sections _ _ lt l.inv.1)
+    aggregate_within _ _ _ (aggregate_check _ t.args.c t.pre.0.sections _ _ lt l.inv.1)
 
 add-i : tie.Need-overflow-add-i invariant-loop decreases-loop
 add-i c =
-    let few = (to_start (to-loop (to-add-aggregate-row-arg3 (to-slice-known4 (to-put-aggregate-arg c.before))))).pre.0.sections.few-aggregates in
+    let few = (to_start (to-loop (to-add-aggregate-row-arg3 (to-slice-known4 (to-put-aggregate-arg c.before))))).pre.0.sections.few_aggregates_lem in
     let lt = (to-then1 (to-add-aggregate-row (to-slice-known4 (to-put-aggregate-arg c.before)))).if1.taken in
     search rules
 
@@ -180,14 +180,14 @@ loop-again c =
     let call = after-add-aggregate-row.add-aggregate-row in (
       (λ rows held.
           let a = l.inv.0 rows held in
-          asked-more _ _ _ _ _ _ _ (omega arith) _ _ _ _ _ _ _ _ (asked-under _ t.args.c t.pre.0.sections _ _ lt l.inv.1)
-          (asked-row _ t.args.c t.pre.0.sections _ _ lt l.inv.1) a (call.ensures _ a.held) _ _ after-r.r.given.1 (aggregatesPackedAt + l.i)
+          asked_more _ _ _ _ _ _ _ (omega arith) _ _ _ _ _ _ _ _ (asked_under _ t.args.c t.pre.0.sections _ _ lt l.inv.1)
+          (asked_row _ t.args.c t.pre.0.sections _ _ lt l.inv.1) a (call.ensures _ a.held) _ _ after-r.r.given.1 (aggregates_packed_at + l.i)
           (after-narrow16.narrow16.result ∷ []) _ (omega arith) refl
-          (omega (arith, call.kept.1.1.1.1.1.1.1.1.1.0, l.inv.3, t.pre.1.words-room, t.pre.0.sections.few-aggregates, lt))
+          (omega (arith, call.kept.1.1.1.1.1.1.1.1.1.0, l.inv.3, t.pre.1.words_room, t.pre.0.sections.few_aggregates_lem, lt))
           (λ places e. ap (λ (k : ℕ). places ++ (k ∷ [])) (sym after-narrow16.narrow16.ensures)) after-put-aggregate.put-aggregate.ensures),
-      aggregate-next _ t.args.c t.pre.0.sections _ _ lt l.inv.1 _ c.aggregate-end.ensures,
+      aggregate_next _ t.args.c t.pre.0.sections _ _ lt l.inv.1 _ c.aggregate_end_lem.ensures,
       omega arith,
-      tail-kept shapeMadeAt call.last.1.1.1.1.1.1.1.1.1.0 after-put-aggregate.put-aggregate.new.0
+      tail_kept shape_made_at call.last.1.1.1.1.1.1.1.1.1.0 after-put-aggregate.put-aggregate.new.0
           after-put-aggregate.put-aggregate.auto.0 ∙ call.kept.1.1.1.1.1.1.1.1.1.0 ∙ l.inv.3,
       call.kept.1.1.1.1.1.1.1.1.1.1.0 ∙ l.inv.4,
     )
@@ -204,7 +204,7 @@ returns-2 : tie.Need-returns-2 invariant-loop decreases-loop
 returns-2 c =
     let t = to_start c.before.before in
     let l = c.before.before.loop in
-    λ rows held. asked-all _ _ _ _ _ _ _ _ _ _ _ _ (omega (arith, asked-count _ t.args.c t.pre.0.sections, c.if1.false)) (omega (arith, l.invariant.2, c.if1.false)) (l.invariant.0 rows held)
+    λ rows held. asked_all _ _ _ _ _ _ _ _ _ _ _ _ (omega (arith, asked_count _ t.args.c t.pre.0.sections, c.if1.false)) (omega (arith, l.invariant.2, c.if1.false)) (l.invariant.0 rows held)
 
 pub create-aggregated-node-constraints-spec : {M : Type 1} → statement M
 create-aggregated-node-constraints-spec =

@@ -1,14 +1,14 @@
 -- `build_append::add_fixed_row` meets its contract. Assumes nothing.
 use native.Mathlib.Omega.{arith}
 use lib.ListN.{length-set}
-use Rattle.build_append.proofs.AddLaws.{rows-over, elements-over, row-added}
+use Rattle.build_append.proofs.AddLaws.{rows_over, elements_over, row_added}
 use borrow.Author.Rules.{rules}
 use Rattle.build_append.proofs.add_fixed_row.Statement.{statement}
 use Rattle.build_append.proofs.add_fixed_row.Tie as tie
 
 returns : tie.Need-returns
 returns c =
-    λ rows held. rows-over rows _ _ _ _ _ _ _ held (omega arith)
+    λ rows held. rows_over rows _ _ _ _ _ _ _ held (omega arith)
 
 -- from a place to an earlier one
 abbrev to_start : tie.Then2 → tie.Start
@@ -19,7 +19,7 @@ to_start c =
 returns-2 : tie.Need-returns-2
 returns-2 c =
     let start = to_start c in
-    λ rows held. elements-over rows _ _ _ _ _ _ _ held start.pre.0.numbers-room (omega (arith, c.before.before.run.given.0)) start.pre.1 (omega arith)
+    λ rows held. elements_over rows _ _ _ _ _ _ _ held start.pre.0.numbers_room (omega (arith, c.before.before.run.given.0)) start.pre.1 (omega arith)
 
 slice-write-numbers-2 : tie.Need-slice-write-numbers-2
 slice-write-numbers-2 c =
@@ -34,7 +34,7 @@ returns-3 c =
     let start-place = after_run.before.before.before in
     let start = start-place in
     λ rows held.
-    row-added rows _ _ _ _ _ _ _ held start.requires.0.numbers-room (omega (arith, after_run.run.given.0)) start.requires.1 start.requires.0.words-room
+    row_added rows _ _ _ _ _ _ _ held start.requires.0.numbers_room (omega (arith, after_run.run.given.0)) start.requires.1 start.requires.0.words_room
     (omega (arith, else1.if1.false)) (omega (arith, else2.if2.false)) _ _ after-put-columns.put-columns.ensures c.narrow16.ensures
 
 pub add-fixed-row-spec : {M : Type 1} → statement M

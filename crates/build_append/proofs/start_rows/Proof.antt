@@ -1,7 +1,7 @@
 -- `build_append::start_rows` meets its contract. Assumes nothing.
 use native.Mathlib.Omega.{arith}
 use lib.Seq.{drop-set-lt}
-use Rattle.layout.specs.Layout.{shapeMadeAt}
+use Rattle.layout.specs.Layout.{shape_made_at}
 use Rattle.build_append.proofs.RowsHeldLaws.{held_none}
 use borrow.Author.Rules.{rules}
 use Rattle.build_append.proofs.start_rows.Statement.{statement}
@@ -10,7 +10,7 @@ use Rattle.build_append.proofs.start_rows.Tie as tie
 returns : tie.Need-returns
 returns c =
     let words = c.args.words.now in
-    (λ numbers. held_none words numbers (omega arith), drop-set-lt shapeMadeAt words 4096 0 (omega arith))
+    (λ numbers. held_none words numbers (omega arith), drop-set-lt shape_made_at words 4096 0 (omega arith))
 
 pub start-rows-spec : {M : Type 1} → statement M
 start-rows-spec =

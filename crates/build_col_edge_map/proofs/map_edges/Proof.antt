@@ -4,8 +4,8 @@ use Prim.Native.Nat.{◌-◌}
 use mathlib.Core.Path.{sym, ◌∙◌}
 use native.Mathlib.Nat.{le_trans}
 use native.Mathlib.Omega.{arith}
-use Rattle.build_incident_edges.proofs.Listed.{listed-most}
-use Rattle.build_col_edge_map.proofs.Turn.{Placed, none-placed, number-most, shared-read, shared-under, simple-placed, equal-placed, all_placed}
+use Rattle.build_incident_edges.proofs.Listed.{listed_most}
+use Rattle.build_col_edge_map.proofs.Turn.{Placed, none_placed, number_most, shared_read, shared_under, simple_placed, equal_placed, all_placed}
 use borrow.Author.Rules.{rules}
 use Rattle.build_col_edge_map.proofs.map_edges.Statement.{statement}
 use Rattle.build_col_edge_map.proofs.map_edges.Tie as tie
@@ -34,7 +34,7 @@ to_start c =
 
 loop-holds : tie.Need-loop-init invariant-loop decreases-loop
 loop-holds c =
-    none-placed _ _ _ c.before.before.requires.1
+    none_placed _ _ _ c.before.before.requires.1
 
 shares-with-requires : tie.Need-shares-with-requires invariant-loop decreases-loop
 shares-with-requires c κs =
@@ -44,13 +44,13 @@ shares-with-requires c κs =
     let under = start.requires.3 c.before.before.before.loop.e c.before.before.loop-test.true in (
       omega (arith, start.requires.0),
       omega (arith, start.requires.2),
-      le_trans (listed-most start.requires.4 c.from-node-index.result.0) start.requires.1,
-      le_trans (listed-most start.requires.5 c.from-node-index.result.0) start.requires.1,
+      le_trans (listed_most start.requires.4 c.from-node-index.result.0) start.requires.1,
+      le_trans (listed_most start.requires.5 c.from-node-index.result.0) start.requires.1,
     )
 
 add-simple-edge-requires : tie.Need-add-simple-edge-requires invariant-loop decreases-loop
 add-simple-edge-requires c κs =
-    let few = (to-loop c).loop.invariant.few-columns in
+    let few = (to-loop c).loop.invariant.few_columns in
     let most = (to_start c).requires.1 in
     let q = (to-narrow16 c).narrow16.ensures in
     (omega arith, omega arith)
@@ -64,12 +64,12 @@ loop-again c =
     let in-loop = after-narrow16.before in
     let at-loop = in-loop.before in
     let start = at-loop.before.before.before in
-    let k = shared-read _ _ _ start.requires.4 start.requires.5 at-loop.loop.e _ _
+    let k = shared_read _ _ _ start.requires.4 start.requires.5 at-loop.loop.e _ _
     (rw after-narrow16.narrow16.ensures at after-from-node-index.from-node-index.ensures) after-shares-with.shares-with.ensures in
     let under = start.requires.3 at-loop.loop.e in-loop.loop-test.true in
-    simple-placed _ _ _ _ _ _ _ _ at-loop.loop.invariant in-loop.loop-test.true under c.add-simple-edge.ensures.0 (sym k ∙ then1.if1.true)
+    simple_placed _ _ _ _ _ _ _ _ at-loop.loop.invariant in-loop.loop-test.true under c.add-simple-edge.ensures.0 (sym k ∙ then1.if1.true)
     (rw after-narrow16.narrow16.ensures at
-    (c.add-simple-edge.ensures.1 at-loop.loop.invariant.now-columns at-loop.loop.invariant.mapped (omega (arith, at-loop.loop.invariant.kept.long, after-narrow16.narrow16.ensures))))
+    (c.add-simple-edge.ensures.1 at-loop.loop.invariant.now_columns at-loop.loop.invariant.mapped (omega (arith, at-loop.loop.invariant.kept.long, after-narrow16.narrow16.ensures))))
 
 add-equal-edges-requires : tie.Need-add-equal-edges-requires invariant-loop decreases-loop
 add-equal-edges-requires c κs =
@@ -80,13 +80,13 @@ add-equal-edges-requires c κs =
     let in-loop = after-narrow16.before in
     let at-loop = in-loop.before in
     let start = at-loop.before.before.before in
-    let few = at-loop.loop.invariant.few-columns in
+    let few = at-loop.loop.invariant.few_columns in
     let most = start.requires.1 in
     let q = after-narrow16.narrow16.ensures in
-    let k = shared-read _ _ _ start.requires.4 start.requires.5 at-loop.loop.e _ _
+    let k = shared_read _ _ _ start.requires.4 start.requires.5 at-loop.loop.e _ _
     (rw after-narrow16.narrow16.ensures at after-from-node-index.from-node-index.ensures) after-shares-with.shares-with.ensures in
-    let under = shared-under _ _ _ start.requires.4 at-loop.loop.e _ k else1.if1.false in
-    (omega arith, under, most, omega arith, rw q (number-most _ _ _ at-loop.loop.invariant _ in-loop.loop-test.true))
+    let under = shared_under _ _ _ start.requires.4 at-loop.loop.e _ k else1.if1.false in
+    (omega arith, under, most, omega arith, rw q (number_most _ _ _ at-loop.loop.invariant _ in-loop.loop-test.true))
 
 loop-again-2 : tie.Need-loop-preserved-2 invariant-loop decreases-loop
 loop-again-2 c =
@@ -97,12 +97,12 @@ loop-again-2 c =
     let in-loop = after-narrow16.before in
     let at-loop = in-loop.before in
     let start = at-loop.before.before.before in
-    let k = shared-read _ _ _ start.requires.4 start.requires.5 at-loop.loop.e _ _
+    let k = shared_read _ _ _ start.requires.4 start.requires.5 at-loop.loop.e _ _
     (rw after-narrow16.narrow16.ensures at after-from-node-index.from-node-index.ensures) after-shares-with.shares-with.ensures in
     let under = start.requires.3 at-loop.loop.e in-loop.loop-test.true in
-    equal-placed _ _ _ _ _ _ _ _ at-loop.loop.invariant in-loop.loop-test.true under c.add-equal-edges.ensures.0 _ k else1.if1.false
+    equal_placed _ _ _ _ _ _ _ _ at-loop.loop.invariant in-loop.loop-test.true under c.add-equal-edges.ensures.0 _ k else1.if1.false
     (rw after-narrow16.narrow16.ensures at
-    (c.add-equal-edges.ensures.1 at-loop.loop.invariant.now-columns at-loop.loop.invariant.mapped at-loop.loop.invariant.kept.long))
+    (c.add-equal-edges.ensures.1 at-loop.loop.invariant.now_columns at-loop.loop.invariant.mapped at-loop.loop.invariant.kept.long))
 
 returns : tie.Need-returns invariant-loop decreases-loop
 returns c =

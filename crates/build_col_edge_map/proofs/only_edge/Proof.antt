@@ -1,6 +1,6 @@
 -- `build_col_edge_map::only_edge` meets its contract. Assumes nothing.
 use native.Mathlib.Omega.{arith}
-use Rattle.build_col_edge_map.proofs.Turn.{only_none, only_one, only-more}
+use Rattle.build_col_edge_map.proofs.Turn.{only_none, only_one, only_more}
 use borrow.Author.Rules.{rules}
 use Rattle.build_col_edge_map.proofs.only_edge.Statement.{statement}
 use Rattle.build_col_edge_map.proofs.only_edge.Tie as tie
@@ -24,7 +24,7 @@ returns-3 : tie.Need-returns-3
 returns-3 c =
     let after-wide162 = c.before.before in
     let else1 = after-wide162.before in
-    rw (← else1.before.before.wide16.ensures.0) (λ size js l. only-more size _ _ js l else1.if1.false (rw after-wide162.wide162.ensures.0 at c.if2.false))
+    rw (← else1.before.before.wide16.ensures.0) (λ size js l. only_more size _ _ js l else1.if1.false (rw after-wide162.wide162.ensures.0 at c.if2.false))
 
 pub only-edge-spec : {M : Type 1} → statement M
 only-edge-spec =

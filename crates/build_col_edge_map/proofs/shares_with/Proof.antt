@@ -1,13 +1,13 @@
 -- `build_col_edge_map::shares_with` meets its contract. Assumes nothing.
 use mathlib.Core.Path.{sym, ◌∙◌}
-use Rattle.build_col_edge_map.proofs.Turn.{not-link, not-one-out, across}
+use Rattle.build_col_edge_map.proofs.Turn.{not_link, not_one_out, across}
 use borrow.Author.Rules.{rules}
 use Rattle.build_col_edge_map.proofs.shares_with.Statement.{statement}
 use Rattle.build_col_edge_map.proofs.shares_with.Tie as tie
 
 returns : tie.Need-returns
 returns c =
-    λ size into out i o. not-link _ into out (λ q. c.if1.true (c.before.kind.ensures ∙ q))
+    λ size into out i o. not_link _ into out (λ q. c.if1.true (c.before.kind.ensures ∙ q))
 
 only-edge-requires : tie.Need-only-edge-requires
 only-edge-requires c κs =
@@ -17,7 +17,7 @@ only-edge-requires c κs =
 returns-2 : tie.Need-returns-2
 returns-2 c =
     let else1 = c.before.before in
-    λ size into out i o. not-one-out _ into out (sym else1.before.kind.ensures ∙ else1.if1.false) (sym (c.before.only-edge.ensures size out o) ∙ c.if2.true)
+    λ size into out i o. not_one_out _ into out (sym else1.before.kind.ensures ∙ else1.if1.false) (sym (c.before.only-edge.ensures size out o) ∙ c.if2.true)
 
 only-edge-requires-2 : tie.Need-only-edge-requires-2
 only-edge-requires-2 c κs =

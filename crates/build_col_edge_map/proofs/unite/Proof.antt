@@ -9,7 +9,7 @@ use Rattle.build_col_edge_map.proofs.unite.Tie as tie
 returns : tie.Need-returns
 unfolding unite
 returns c =
-    (c.unite-under.ensures.0, λ k a b m l p q. rw (lt-ltb a b (omega arith)) (c.unite-under.ensures.1 k a b m l p q))
+    (c.unite_under_lem.ensures.0, λ k a b m l p q. rw (lt-ltb a b (omega arith)) (c.unite_under_lem.ensures.1 k a b m l p q))
 
 returns-2 : tie.Need-returns-2
 unfolding unite

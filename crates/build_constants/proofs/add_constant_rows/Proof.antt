@@ -2,7 +2,7 @@
 use mathlib.Core.Path.{sym, ◌∙◌}
 use native.Mathlib.Omega.{arith}
 use borrow.Author.Tests.{not-true, not-false}
-use Rattle.build_constants.proofs.ConstantRows.{varying-none, no-membership, some-membership}
+use Rattle.build_constants.proofs.ConstantRows.{varying_none, no_membership, some_membership}
 use borrow.Author.Rules.{rules}
 use Rattle.build_constants.proofs.add_constant_rows.Statement.{statement}
 use Rattle.build_constants.proofs.add_constant_rows.Tie as tie
@@ -13,7 +13,7 @@ is-constant-requires c κs =
 
 returns : tie.Need-returns
 returns c =
-    varying-none _ _ _ _ (sym c.before.is-constant.ensures ∙ not-true c.before.is-constant.result c.if1.true) _ _ _
+    varying_none _ _ _ _ (sym c.before.is-constant.ensures ∙ not-true c.before.is-constant.result c.if1.true) _ _ _
 
 -- from a place to an earlier one
 abbrev to_start : tie.After-is-constant → tie.Start
@@ -56,7 +56,7 @@ to-add-node-row c =
 element-copy-out-if2 : tie.Need-element-copy-out-if2
 element-copy-out-if2 c =
     let start = to_start c.before.before in
-    omega (arith, c.wide16.ensures, start.pre.1, start.pre.0.sections.few-nodes)
+    omega (arith, c.wide16.ensures, start.pre.1, start.pre.0.sections.few_nodes)
 
 add-node-row-requires : tie.Need-add-node-row-requires
 add-node-row-requires c κs =
@@ -70,7 +70,7 @@ returns-2 c =
     let else1 = after-wide16.before in
     let after-is-constant = else1.before in
     let start = to_start after-is-constant in
-    no-membership _ _ _ _ start.pre.3 _ _ after-wide16.wide16.ensures.0 (omega (arith, start.pre.1, start.pre.0.sections.few-nodes)) _ _
+    no_membership _ _ _ _ start.pre.3 _ _ after-wide16.wide16.ensures.0 (omega (arith, start.pre.1, start.pre.0.sections.few_nodes)) _ _
     (sym after-is-constant.is-constant.ensures ∙ not-false after-is-constant.is-constant.result else1.if1.left) _ _ _ _ _ _ then2.if2.taken after-add-node-row.add-node-row.ensures
 
 add-exclusive-rows-requires : tie.Need-add-exclusive-rows-requires
@@ -85,7 +85,7 @@ returns-3 c =
     let else1 = after-wide16.before in
     let after-is-constant = else1.before in
     let start = to_start after-is-constant in
-    some-membership _ _ _ _ start.pre.3 _ _ after-wide16.wide16.ensures.0 (omega (arith, start.pre.1, start.pre.0.sections.few-nodes)) _ _
+    some_membership _ _ _ _ start.pre.3 _ _ after-wide16.wide16.ensures.0 (omega (arith, start.pre.1, start.pre.0.sections.few_nodes)) _ _
     (sym after-is-constant.is-constant.ensures ∙ not-false after-is-constant.is-constant.result else1.if1.left) _ _ _ _ _ _ else2.if2.left
     after-add-exclusive-rows.add-exclusive-rows.ensures
 

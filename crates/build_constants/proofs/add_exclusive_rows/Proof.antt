@@ -3,24 +3,24 @@ use mathlib.Core.Path.{◌≡◌, refl, ◌∙◌}
 use Prim.Native.Nat.{◌+◌, ◌*◌, ◌≤◌}
 use native.Mathlib.Omega.{arith}
 use lib.ListN.{length}
-use Rattle.pywr.specs.ExclusiveSets.{setsWithNode}
-use Rattle.pywr.specs.Rows.{columnMap}
-use Rattle.network_node.specs.Node.{nodeAt}
-use Rattle.build_node_row.specs.Tables.{networkOf}
-use Rattle.build_append.proofs.AddingRows.{adding-holding}
-use Rattle.build_constants.proofs.Memberships.{above, Walking, walk_first, walked, membership-under, membership-falls, walk-over, walk-next}
+use Rattle.pywr.specs.ExclusiveSets.{sets_with_node}
+use Rattle.pywr.specs.Rows.{column_map}
+use Rattle.network_node.specs.Node.{node_at}
+use Rattle.build_node_row.specs.Tables.{network_of}
+use Rattle.build_append.proofs.AddingRows.{adding_holding}
+use Rattle.build_constants.proofs.Memberships.{above, Walking, walk_first, walked, membership_under, membership_falls, walk_over, walk_next}
 use borrow.Author.Rules.{rules}
 use Rattle.build_constants.proofs.add_exclusive_rows.Statement.{statement}
 use Rattle.build_constants.proofs.add_exclusive_rows.Tie as tie
 
 abbrev invariant-loop : tie.invariant-loop
-invariant-loop s c first-in next-in first_out next-out edge-to-col edge-columns first-membership next-membership node sentinel words₀ numbers₀ columns₀ k filled₀ link₀ words numbers columns filled link =
-    Walking sentinel (columnMap (networkOf s c)) node.0 (nodeAt s (20 * node.0)) next-membership
-    (setsWithNode node.0 0 (columnMap (networkOf s c)).sets) words₀ numbers₀ filled₀ words numbers filled link
+invariant-loop s c first-in next-in first_out next-out edge-to-col edge_columns_lem first-membership next-membership node sentinel words₀ numbers₀ columns₀ k filled₀ link₀ words numbers columns filled link =
+    Walking sentinel (column_map (network_of s c)) node.0 (node_at s (20 * node.0)) next-membership
+    (sets_with_node node.0 0 (column_map (network_of s c)).sets) words₀ numbers₀ filled₀ words numbers filled link
     × (length words ≡ length words₀) × (length numbers ≡ length numbers₀)
 
 abbrev decreases-loop : tie.decreases-loop
-decreases-loop s c first-in next-in first_out next-out edge-to-col edge-columns first-membership next-membership node sentinel words₀ numbers₀ columns₀ k filled₀ link₀ words numbers columns filled link = above link
+decreases-loop s c first-in next-in first_out next-out edge-to-col edge_columns_lem first-membership next-membership node sentinel words₀ numbers₀ columns₀ k filled₀ link₀ words numbers columns filled link = above link
 
 -- from a place to an earlier one
 abbrev to_start : tie.After-wide16 invariant-loop decreases-loop → tie.Start invariant-loop decreases-loop
@@ -61,13 +61,13 @@ to-slice-known4 c =
 element-copy-out-wide16 : tie.Need-element-copy-out-wide16 invariant-loop decreases-loop
 element-copy-out-wide16 c =
     let start = to_start c in
-    omega (arith, c.wide16.ensures, start.pre.1, start.pre.0.sections.few-nodes)
+    omega (arith, c.wide16.ensures, start.pre.1, start.pre.0.sections.few_nodes)
 
 loop-holds : tie.Need-loop-init invariant-loop decreases-loop
 loop-holds c =
     let after-wide16 = c.before.before in
     let start = to_start after-wide16 in
-    (walk_first _ _ _ _ _ _ _ _ _ _ _ _ start.pre.3 after-wide16.wide16.ensures.0 (omega (arith, start.pre.1, start.pre.0.sections.few-nodes)) c.wide162.ensures.0, refl, refl)
+    (walk_first _ _ _ _ _ _ _ _ _ _ _ _ start.pre.3 after-wide16.wide16.ensures.0 (omega (arith, start.pre.1, start.pre.0.sections.few_nodes)) c.wide162.ensures.0, refl, refl)
 
 sub-membership : tie.Need-overflow-sub-membership invariant-loop decreases-loop
 sub-membership c =
@@ -77,17 +77,17 @@ add-bounded-rows-requires : tie.Need-add-bounded-rows-requires invariant-loop de
 add-bounded-rows-requires c κs =
     let start = to_start (to-wide16 c) in
     let w = (to-loop c).loop.invariant in
-    let u = membership-under _ _ _ _ _ _ _ _ _ _ _ _ _ w.0 c.before.before.before.loop-test.true in (
+    let u = membership_under _ _ _ _ _ _ _ _ _ _ _ _ _ w.0 c.before.before.before.loop-test.true in (
       start.pre.0,
       start.pre.1,
       start.pre.2,
       omega arith,
       record {
-        words-room = omega (arith, w.1, start.pre.4.words-room);
-        numbers-room = omega
-            (arith, w.2, start.pre.4.numbers-room);
+        words_room = omega (arith, w.1, start.pre.4.words_room);
+        numbers_room = omega
+            (arith, w.2, start.pre.4.numbers_room);
       },
-      adding-holding _ _ _ _ _ _ (w.0.adding start.pre.5.rows start.pre.5.held),
+      adding_holding _ _ _ _ _ _ (w.0.adding start.pre.5.rows start.pre.5.held),
     )
 
 same_length : tie.Need-same-length invariant-loop decreases-loop
@@ -103,31 +103,31 @@ returns c =
     let after-add-bounded-rows = to-add-bounded-rows c.before.before in
     let in-loop = to-in-loop after-add-bounded-rows in
     let at-loop = in-loop.before in
-    walk-over _ _ _ _ _ _ _ _ _ _ _ _ _ at-loop.loop.inv.0 in-loop.loop-test.taken _ _ _ after-add-bounded-rows.add-bounded-rows.ensures c.enum_told.given.1
+    walk_over _ _ _ _ _ _ _ _ _ _ _ _ _ at-loop.loop.inv.0 in-loop.loop-test.taken _ _ _ after-add-bounded-rows.add-bounded-rows.ensures c.enum_told.given.1
 
 mul-wide16-2 : tie.Need-overflow-mul-wide16-2 invariant-loop decreases-loop
 mul-wide16-2 c =
     let in-loop = to-in-loop (to-add-bounded-rows c.before.before.before) in
     let at-loop = in-loop.before in
-    omega (arith, membership-under _ _ _ _ _ _ _ _ _ _ _ _ _ at-loop.loop.inv.0 in-loop.loop-test.taken)
+    omega (arith, membership_under _ _ _ _ _ _ _ _ _ _ _ _ _ at-loop.loop.inv.0 in-loop.loop-test.taken)
 
 element-copy-out-wide16-2 : tie.Need-element-copy-out-wide16-2 invariant-loop decreases-loop
 element-copy-out-wide16-2 c =
     let in-loop = to-in-loop (to-add-bounded-rows c.before.before.before) in
     let at-loop = in-loop.before in
-    membership-under _ _ _ _ _ _ _ _ _ _ _ _ _ at-loop.loop.inv.0 in-loop.loop-test.taken
+    membership_under _ _ _ _ _ _ _ _ _ _ _ _ _ at-loop.loop.inv.0 in-loop.loop-test.taken
 
 loop-less : tie.Need-loop-smaller invariant-loop decreases-loop
 loop-less c =
     let in-loop = to-in-loop (to-add-bounded-rows (to-slice-known4 c)) in
     let at-loop = in-loop.before in
-    membership-falls _ _ _ _ _ _ _ _ _ _ _ _ _ at-loop.loop.inv.0 in-loop.loop-test.taken _ c.wide163.ensures.0
+    membership_falls _ _ _ _ _ _ _ _ _ _ _ _ _ at-loop.loop.inv.0 in-loop.loop-test.taken _ c.wide163.ensures.0
 
 loop-again : tie.Need-loop-preserved invariant-loop decreases-loop
 loop-again c =
     let after-add-bounded-rows = to-add-bounded-rows (to-slice-known4 c) in
     let at-loop = to-loop (to-add-bounded-rows-arg3 (to-slice-known4 c)) in (
-      walk-next _ _ _ _ _ _ _ _ _ _ _ _ _ at-loop.loop.inv.0 (to-in-loop (to-add-bounded-rows (to-slice-known4 c))).loop-test.taken _ _ _
+      walk_next _ _ _ _ _ _ _ _ _ _ _ _ _ at-loop.loop.inv.0 (to-in-loop (to-add-bounded-rows (to-slice-known4 c))).loop-test.taken _ _ _
           after-add-bounded-rows.add-bounded-rows.ensures _ _ c.before.before.before.r.given.1 c.wide163.ensures.0,
       after-add-bounded-rows.add-bounded-rows.kept.1.1.1.1.1.1.1.1.1.1.1.0 ∙ at-loop.loop.inv.1,
       after-add-bounded-rows.add-bounded-rows.kept.1.1.1.1.1.1.1.1.1.1.1.1.0 ∙ at-loop.loop.inv.2,

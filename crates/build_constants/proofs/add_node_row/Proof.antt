@@ -4,11 +4,11 @@ use Prim.Native.Nat.{◌+◌}
 use native.Mathlib.Omega.{arith}
 use lib.Ieee.{of_bits}
 use Rattle.pywr.specs.Numbers.{one64}
-use Rattle.pywr.specs.Misshapen.{columnsRise}
-use Rattle.build_append.proofs.RowsHeldLaws.{held-few}
-use Rattle.build_append.proofs.LentRow.{lent-room, lent-long, lent_row}
-use Rattle.build_set_rows.proofs.Coefficients.{node-stands}
-use Rattle.build_constants.proofs.ConstantRows.{node_row}
+use Rattle.pywr.specs.Misshapen.{columns_rise}
+use Rattle.build_append.proofs.RowsHeldLaws.{held_few}
+use Rattle.build_append.proofs.LentRow.{lent_room, lent_long, lent_row}
+use Rattle.build_set_rows.proofs.Coefficients.{node_stands}
+use Rattle.build_constants.proofs.ConstantRows.{node_row_lem}
 use borrow.Author.Rules.{rules}
 use Rattle.build_constants.proofs.add_node_row.Statement.{statement}
 use Rattle.build_constants.proofs.add_node_row.Tie as tie
@@ -35,32 +35,32 @@ to-add-fixed-row c =
     after-words.before
 
 add-node-requires : tie.Need-add-node-requires
-unfolding columnsRise
+unfolding columns_rise
 add-node-requires c κs =
     let start = to_start c in
-    (start.pre.0, start.pre.1, omega arith, (lent-room _ _ _ start.pre.3 start.pre.2.numbers-room).1, refl)
+    (start.pre.0, start.pre.1, omega arith, (lent_room _ _ _ start.pre.3 start.pre.2.numbers_room).1, refl)
 
 min-requires : tie.Need-min-requires
 min-requires c κs =
     let start = to_start (to-add-node-arg2 c) in
-    let p = node-stands _ _ _ _ _ _ start.pre.0.sections _ start.pre.1 in (p.within, p.min)
+    let p = node_stands _ _ _ _ _ _ start.pre.0.sections _ start.pre.1 in (p.within, p.min)
 
 max-requires : tie.Need-max-requires
 max-requires c κs =
     let start = to_start (to-add-node-arg2 c.before) in
-    let p = node-stands _ _ _ _ _ _ start.pre.0.sections _ start.pre.1 in (p.within, p.max)
+    let p = node_stands _ _ _ _ _ _ start.pre.0.sections _ start.pre.1 in (p.within, p.max)
 
 add-fixed-row-requires : tie.Need-add-fixed-row-requires
 add-fixed-row-requires c κs =
     let after-add-node = to-add-node c.before in
     let start = to_start after-add-node.before in
-    let few = held-few _ _ _ _ start.pre.3.held in
-    let a = after-add-node.add-node.ensures in (
+    let few = held_few _ _ _ _ start.pre.3.held in
+    let a = after-add-node.add_node_lem.ensures in (
       record {
-        words-room = start.pre.2.words-room;
-        numbers-room = lent-long start.args.numbers.now
-            after-add-node.add-node.last.1.1.1.1.1.1.1.1.1.1.0 (2048 + start.args.f.elements)
-            after-add-node.add-node.kept.1.1.1.1.1.1.1.1.1.1.0 start.pre.2.numbers-room;
+        words_room = start.pre.2.words_room;
+        numbers_room = lent_long start.args.numbers.now
+            after-add-node.add_node_lem.last.1.1.1.1.1.1.1.1.1.1.0 (2048 + start.args.f.elements)
+            after-add-node.add_node_lem.kept.1.1.1.1.1.1.1.1.1.1.0 start.pre.2.numbers_room;
       },
       a.few,
       few.0,
@@ -76,9 +76,9 @@ returns c =
     let after-min = after-max.before in
     let after-add-node = to-add-node after-min in
     let start = to_start after-add-node.before in
-    let room = lent-room _ _ _ start.pre.3 start.pre.2.numbers-room in
+    let room = lent_room _ _ _ start.pre.3 start.pre.2.numbers_room in
     lent_row _ _ _ _ _ refl room.0 _ _ _ _ _ _ _ _ _ _ after-min.min.ensures after-max.max.ensures
-    (node_row _ _ _ _ _ _ _ _ _ refl after-add-node.add-node.ensures) after-add-fixed-row.add-fixed-row.ensures
+    (node_row_lem _ _ _ _ _ _ _ _ _ refl after-add-node.add_node_lem.ensures) after-add-fixed-row.add-fixed-row.ensures
 
 pub add-node-row-spec : {M : Type 1} → statement M
 add-node-row-spec =

@@ -2,19 +2,19 @@
 use mathlib.Core.Path.{◌≡◌, refl, ◌∙◌}
 use native.Mathlib.Omega.{arith}
 use lib.ListN.{length}
-use Rattle.pywr.specs.Rows.{columnMap}
-use Rattle.build_node_row.specs.Tables.{networkOf}
-use Rattle.build_exclusive_request.proofs.Memberships.{above, Walking, walked, membership-under, membership-falls, room, walk-full, walk-next, walk_first}
+use Rattle.pywr.specs.Rows.{column_map}
+use Rattle.build_node_row.specs.Tables.{network_of}
+use Rattle.build_exclusive_request.proofs.Memberships.{above, Walking, walked, membership_under, membership_falls, room, walk_full, walk_next, walk_first}
 use borrow.Author.Rules.{rules}
 use Rattle.build_exclusive_request.proofs.request_exclusive_rows.Statement.{statement}
 use Rattle.build_exclusive_request.proofs.request_exclusive_rows.Tie as tie
 
 abbrev invariant-loop : tie.invariant-loop
-invariant-loop s c first-in next-in first_out next-out edge-to-col edge-columns first-membership next-membership node sentinel words₀ numbers₀ columns₀ k held₀ link₀ words numbers columns held link =
-    Walking (columnMap (networkOf s c)) node.0 next-membership sentinel words numbers held link × (length words ≡ length words₀) × (length numbers ≡ length numbers₀)
+invariant-loop s c first-in next-in first_out next-out edge-to-col edge_columns_lem first-membership next-membership node sentinel words₀ numbers₀ columns₀ k held₀ link₀ words numbers columns held link =
+    Walking (column_map (network_of s c)) node.0 next-membership sentinel words numbers held link × (length words ≡ length words₀) × (length numbers ≡ length numbers₀)
 
 abbrev decreases-loop : tie.decreases-loop
-decreases-loop s c first-in next-in first_out next-out edge-to-col edge-columns first-membership next-membership node sentinel words₀ numbers₀ columns₀ k held₀ link₀ words numbers columns held link = above link
+decreases-loop s c first-in next-in first_out next-out edge-to-col edge_columns_lem first-membership next-membership node sentinel words₀ numbers₀ columns₀ k held₀ link₀ words numbers columns held link = above link
 
 -- from a place to an earlier one
 abbrev to_start : tie.After-wide16 invariant-loop decreases-loop → tie.Start invariant-loop decreases-loop
@@ -55,12 +55,12 @@ to-slice-known4 c =
 element-copy-out-link : tie.Need-element-copy-out-link invariant-loop decreases-loop
 element-copy-out-link c =
     let start = to_start c in
-    omega (arith, c.wide16.ensures.0, start.pre.1, start.pre.0.sections.few-nodes)
+    omega (arith, c.wide16.ensures.0, start.pre.1, start.pre.0.sections.few_nodes)
 
 loop-holds : tie.Need-loop-init invariant-loop decreases-loop
 loop-holds c =
     let p = (to_start c.before).pre in
-    (walk_first _ _ _ _ _ _ _ _ _ _ p.3 c.before.wide16.ensures.0 (omega (arith, p.1, p.0.sections.few-nodes)) p.5, refl, refl)
+    (walk_first _ _ _ _ _ _ _ _ _ _ p.3 c.before.wide16.ensures.0 (omega (arith, p.1, p.0.sections.few_nodes)) p.5, refl, refl)
 
 request-bounded-rows-requires : tie.Need-request-bounded-rows-requires invariant-loop decreases-loop
 request-bounded-rows-requires c κs =
@@ -68,15 +68,15 @@ request-bounded-rows-requires c κs =
     let p = (to_start (to-wide16 c)).pre in
     let w = at-loop.loop.inv.0 in
     let ne = c.before.before.before.loop-test.true in
-    let under = membership-under _ _ _ _ _ _ _ _ w ne in (
+    let under = membership_under _ _ _ _ _ _ _ _ w ne in (
       p.0,
       p.1,
       p.2,
       omega arith,
       record {
-        words-room = omega (arith, p.4.words-room, at-loop.loop.inv.1);
-        numbers-room = omega
-            (arith, p.4.numbers-room, at-loop.loop.inv.2);
+        words_room = omega (arith, p.4.words_room, at-loop.loop.inv.1);
+        numbers_room = omega
+            (arith, p.4.numbers_room, at-loop.loop.inv.2);
       },
       record { asks = w.asks; held = w.rows },
       room _ _ _ _ _ _ _ _ w ne p.6,
@@ -96,13 +96,13 @@ returns c =
     let in-loop = to-in-loop after-request-bounded-rows in
     let at-loop = in-loop.before in
     let w = at-loop.loop.inv.0 in
-    walk-full _ _ _ _ _ _ _ _ w in-loop.loop-test.taken _ _ _ (after-request-bounded-rows.request-bounded-rows.ensures w.asks w.rows) c.enum_told.given.1
+    walk_full _ _ _ _ _ _ _ _ w in-loop.loop-test.taken _ _ _ (after-request-bounded-rows.request-bounded-rows.ensures w.asks w.rows) c.enum_told.given.1
 
 element-copy-out-link-2 : tie.Need-element-copy-out-link-2 invariant-loop decreases-loop
 element-copy-out-link-2 c =
     let in-loop = to-in-loop (to-request-bounded-rows (to-slice-known4 c)) in
     let at-loop = in-loop.before in
-    let under = membership-under _ _ _ _ _ _ _ _ at-loop.loop.inv.0 in-loop.loop-test.taken in
+    let under = membership_under _ _ _ _ _ _ _ _ at-loop.loop.inv.0 in-loop.loop-test.taken in
     omega (arith, c.wide162.ensures.0)
 
 loop-less : tie.Need-loop-smaller invariant-loop decreases-loop
@@ -110,7 +110,7 @@ loop-less c =
     let after-wide162 = c.before in
     let in-loop = to-in-loop (to-request-bounded-rows (to-slice-known4 after-wide162)) in
     let at-loop = in-loop.before in
-    membership-falls _ _ _ _ _ _ _ _ at-loop.loop.inv.0 in-loop.loop-test.taken _ after-wide162.wide162.ensures.0
+    membership_falls _ _ _ _ _ _ _ _ at-loop.loop.inv.0 in-loop.loop-test.taken _ after-wide162.wide162.ensures.0
 
 loop-again : tie.Need-loop-preserved invariant-loop decreases-loop
 loop-again c =
@@ -120,7 +120,7 @@ loop-again c =
     let in-loop = to-in-loop after-request-bounded-rows in
     let at-loop = in-loop.before in
     let w = at-loop.loop.inv.0 in (
-      walk-next _ _ _ _ _ _ _ _ w in-loop.loop-test.taken _ _ _ (after-request-bounded-rows.request-bounded-rows.ensures w.asks w.rows) _ _
+      walk_next _ _ _ _ _ _ _ _ w in-loop.loop-test.taken _ _ _ (after-request-bounded-rows.request-bounded-rows.ensures w.asks w.rows) _ _
           after-r.r.given.1 after-wide162.wide162.ensures.0,
       after-request-bounded-rows.request-bounded-rows.kept.1.1.1.1.1.1.1.1.1.1.1.0
           ∙ at-loop.loop.inv.1,

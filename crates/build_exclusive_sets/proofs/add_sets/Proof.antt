@@ -4,7 +4,7 @@ use Prim.Native.Nat.{ℕ, ◌-◌}
 use native.Mathlib.Omega.{arith}
 use Rattle.network_laws.specs.Passed.{SetPassed}
 use Rattle.build_exclusive_sets.proofs.Accepted.{fields_within}
-use Rattle.build_exclusive_sets.proofs.AddSets.{Adding, adding-first, adding-known, adding-new, adding-over, adding-done}
+use Rattle.build_exclusive_sets.proofs.AddSets.{Adding, adding_first, adding_known, adding_new, adding_over, adding_done}
 use borrow.Author.Rules.{rules}
 use Rattle.build_exclusive_sets.proofs.add_sets.Statement.{statement}
 use Rattle.build_exclusive_sets.proofs.add_sets.Tie as tie
@@ -43,7 +43,7 @@ sets-at-requires c κs =
 loop-holds : tie.Need-loop-init invariant-loop decreases-loop
 loop-holds c =
     let start = c.before.before.before in
-    rw c.sets-at.ensures (adding-first _ _ _ _ _ c.before.set-count.ensures.0 start.requires.1)
+    rw c.sets-at.ensures (adding_first _ _ _ _ _ c.before.set_count_lem.ensures.0 start.requires.1)
 
 set-number-requires : tie.Need-set-number-requires invariant-loop decreases-loop
 set-number-requires c κs =
@@ -58,14 +58,14 @@ loop-again c =
     let after-set-number-arg = c.before.before.before in
     let in-loop = after-set-number-arg.before in
     let at-loop = in-loop.before in
-    rw c.set-end.ensures (adding-known _ _ _ _ _ _ _ _ _ at-loop.loop.invariant in-loop.loop-test.true (rw c.before.before.set-number.ensures at c.before.if1.true))
+    rw c.set_end_lem.ensures (adding_known _ _ _ _ _ _ _ _ _ at-loop.loop.invariant in-loop.loop-test.true (rw c.before.before.set-number.ensures at c.before.if1.true))
 
 returns : tie.Need-returns invariant-loop decreases-loop
 returns c =
     let after-set-number-arg = c.before.before.before in
     let in-loop = after-set-number-arg.before in
     let at-loop = in-loop.before in
-    adding-over _ _ _ _ _ _ _ _ _ at-loop.loop.invariant in-loop.loop-test.true (rw c.before.before.set-number.ensures at c.before.if1.false) c.if2.true _
+    adding_over _ _ _ _ _ _ _ _ _ at-loop.loop.invariant in-loop.loop-test.true (rw c.before.before.set-number.ensures at c.before.if1.false) c.if2.true _
 
 narrow16-requires : tie.Need-narrow16-requires invariant-loop decreases-loop
 narrow16-requires c κs =
@@ -84,11 +84,11 @@ loop-again-2 c =
     let in-loop = after-set-number.before.before in
     let at-loop = in-loop.before in
     rw (c.set-end2.ensures, after-narrow16.narrow16.ensures)
-    (adding-new _ _ _ _ _ _ _ _ _ at-loop.loop.invariant in-loop.loop-test.true (rw after-set-number.set-number.ensures at else1.if1.false) else2.if2.false (fits (in-loop)))
+    (adding_new _ _ _ _ _ _ _ _ _ at-loop.loop.invariant in-loop.loop-test.true (rw after-set-number.set-number.ensures at else1.if1.false) else2.if2.false (fits (in-loop)))
 
 returns-2 : tie.Need-returns-2 invariant-loop decreases-loop
 returns-2 c =
-    adding-done _ _ _ _ _ _ _ _ _ c.before.loop.invariant c.loop-test.false
+    adding_done _ _ _ _ _ _ _ _ _ c.before.loop.invariant c.loop-test.false
 
 pub add-sets-spec : {M : Type 1} → statement M
 add-sets-spec =

@@ -2,10 +2,10 @@
 use Prim.Native.Nat.{ℕ, ◌-◌}
 use mathlib.Core.Path.{sym, subst, ◌∙◌}
 use native.Mathlib.Omega.{arith}
-use Rattle.network_edge.specs.Edge.{edgePlace}
+use Rattle.network_edge.specs.Edge.{edge_place}
 use Rattle.network_laws.specs.Passed.{AggregatePassed}
-use Rattle.build_exclusive_sets.proofs.Accepted.{fields_within, few_bytes, aggregate-passed-256}
-use Rattle.build_exclusive_sets.proofs.CollectSets.{Collecting, collecting-first, collecting-plain, collecting-more, collecting-over, collecting-done, of-network}
+use Rattle.build_exclusive_sets.proofs.Accepted.{fields_within, few_bytes, aggregate_passed_256}
+use Rattle.build_exclusive_sets.proofs.CollectSets.{Collecting, collecting_first, collecting_plain, collecting_more, collecting_over, collecting_done, of_network_lem}
 use borrow.Author.Rules.{rules}
 use Rattle.build_exclusive_sets.proofs.collect_sets.Statement.{statement}
 use Rattle.build_exclusive_sets.proofs.collect_sets.Tie as tie
@@ -36,7 +36,7 @@ to-in-loop c =
 -- the invariant, the aggregates standing behind the edges
 collecting : (c : tie.At-loop invariant-loop decreases-loop)
     → let p = (to_start c).args in
-    Collecting p.s.now (edgePlace p.c.nodes p.c.edges) p.c.aggregates c.loop.set_at c.loop.count c.loop.at c.loop.i
+    Collecting p.s.now (edge_place p.c.nodes p.c.edges) p.c.aggregates c.loop.set_at c.loop.count c.loop.at c.loop.i
 collecting c =
     rw c.before.edges-end.ensures at c.loop.invariant
 
@@ -44,15 +44,15 @@ collecting c =
 fits : (c : tie.In-loop invariant-loop decreases-loop) → AggregatePassed (to_start c.before).args.s.now 256 c.before.loop.at
 fits c =
     subst (λ (at : ℕ). AggregatePassed (to_start c.before).args.s.now 256 at) (sym (collecting c.before).stands)
-    (aggregate-passed-256 _ _ _ _ _ _ (to_start c.before).pre.0 c.before.loop.i c.loop-test.true)
+    (aggregate_passed_256 _ _ _ _ _ _ (to_start c.before).pre.0 c.before.loop.i c.loop-test.true)
 
 edges-end-requires : tie.Need-edges-end-requires invariant-loop decreases-loop
 edges-end-requires c κs =
-    omega (arith, c.before.requires.0.few-nodes, c.before.requires.0.few-edges)
+    omega (arith, c.before.requires.0.few_nodes, c.before.requires.0.few_edges)
 
 loop-holds : tie.Need-loop-init invariant-loop decreases-loop
 loop-holds c =
-    collecting-first _ _ _ _ c.before.before.requires.1
+    collecting_first _ _ _ _ c.before.before.requires.1
 
 is-exclusive-requires : tie.Need-is-exclusive-requires invariant-loop decreases-loop
 is-exclusive-requires c κs =
@@ -71,9 +71,9 @@ returns c =
     let at-loop = in-loop.before in
     let start = to_start at-loop in
     let p = start.args in
-    of-network p.s.now p.c.nodes p.c.edges p.c.aggregates _ _ _
-    (collecting-over _ _ _ _ _ _ _ (collecting at-loop) in-loop.loop-test.true (sym after-is-exclusive.is-exclusive.ensures ∙ then1.if1.true) _ _
-    after-add-sets.add-sets.ensures c.enum_told.given.1)
+    of_network_lem p.s.now p.c.nodes p.c.edges p.c.aggregates _ _ _
+    (collecting_over _ _ _ _ _ _ _ (collecting at-loop) in-loop.loop-test.true (sym after-is-exclusive.is-exclusive.ensures ∙ then1.if1.true) _ _
+    after-add-sets.add_sets_lem.ensures c.enum_told.given.1)
 
 aggregate-end-requires : tie.Need-aggregate-end-requires invariant-loop decreases-loop
 aggregate-end-requires c κs =
@@ -87,8 +87,8 @@ loop-again c =
     let after-is-exclusive = then1.before in
     let in-loop = after-is-exclusive.before in
     let at-loop = in-loop.before in
-    rw c.aggregate-end.ensures (collecting-more _ _ _ _ _ _ _ at-loop.loop.invariant in-loop.loop-test.true
-    (sym after-is-exclusive.is-exclusive.ensures ∙ then1.if1.true) _ _ after-add-sets.add-sets.ensures _ after-r.r.given.1)
+    rw c.aggregate_end_lem.ensures (collecting_more _ _ _ _ _ _ _ at-loop.loop.invariant in-loop.loop-test.true
+    (sym after-is-exclusive.is-exclusive.ensures ∙ then1.if1.true) _ _ after-add-sets.add_sets_lem.ensures _ after-r.r.given.1)
 
 aggregate-end-requires-2 : tie.Need-aggregate-end-requires-2 invariant-loop decreases-loop
 aggregate-end-requires-2 c κs =
@@ -98,13 +98,13 @@ loop-again-2 : tie.Need-loop-preserved-2 invariant-loop decreases-loop
 loop-again-2 c =
     let in-loop = c.before.before.before in
     let at-loop = in-loop.before in
-    rw c.aggregate-end2.ensures (collecting-plain _ _ _ _ _ _ _ at-loop.loop.invariant c.before.before.before.loop-test.true
+    rw c.aggregate-end2.ensures (collecting_plain _ _ _ _ _ _ _ at-loop.loop.invariant c.before.before.before.loop-test.true
     (sym c.before.before.is-exclusive.ensures ∙ c.before.if1.false))
 
 returns-2 : tie.Need-returns-2 invariant-loop decreases-loop
 returns-2 c =
     let p = (to_start c.before).args in
-    of-network p.s.now p.c.nodes p.c.edges p.c.aggregates _ _ _ (collecting-done _ _ _ _ _ _ _ (collecting c.before) c.loop-test.false)
+    of_network_lem p.s.now p.c.nodes p.c.edges p.c.aggregates _ _ _ (collecting_done _ _ _ _ _ _ _ (collecting c.before) c.loop-test.false)
 
 pub collect-sets-spec : {M : Type 1} → statement M
 collect-sets-spec =

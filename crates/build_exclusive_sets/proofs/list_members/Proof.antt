@@ -5,13 +5,13 @@ use native.Mathlib.Omega.{arith}
 use lib.ListN.{get_or, get_or-replicate, length-replicate}
 use Rattle.build_exclusive_sets.specs.Sets.{Memberships}
 use Rattle.laws.specs.Linked.{Linked}
-use Rattle.build_exclusive_sets.proofs.ListMembers.{fromSet, sets-none, sets_more}
+use Rattle.build_exclusive_sets.proofs.ListMembers.{from_set, sets_none, sets_more}
 use borrow.Author.Rules.{rules}
 use Rattle.build_exclusive_sets.proofs.list_members.Statement.{statement}
 use Rattle.build_exclusive_sets.proofs.list_members.Tie as tie
 
 abbrev invariant-loop : tie.invariant-loop
-invariant-loop s set_at sets first₀ next₀ k₀ first next k = (k ≤ sets) × Memberships (16 * k) first next (fromSet s set_at sets k)
+invariant-loop s set_at sets first₀ next₀ k₀ first next k = (k ≤ sets) × Memberships (16 * k) first next (from_set s set_at sets k)
 
 abbrev decreases-loop : tie.decreases-loop
 decreases-loop s set_at sets first₀ next₀ k₀ first next k = k
@@ -19,7 +19,7 @@ decreases-loop s set_at sets first₀ next₀ k₀ first next k = k
 loop-holds : tie.Need-loop-init invariant-loop decreases-loop
 loop-holds c =
     let p = c.before.before.args in
-    (search rules, sets-none p.s.now p.set_at.now p.sets (omega arith) _ p.next.now (length-replicate {A = ℕ} 256 0) c.before.before.requires.1 (λ n l. get_or-replicate 256 n 0 0 l))
+    (search rules, sets_none p.s.now p.set_at.now p.sets (omega arith) _ p.next.now (length-replicate {A = ℕ} 256 0) c.before.before.requires.1 (λ n l. get_or-replicate 256 n 0 0 l))
 
 list-set-requires : tie.Need-list-set-requires invariant-loop decreases-loop
 list-set-requires c κs =
@@ -39,9 +39,9 @@ loop-again c =
     let q : l.k ≡ l.k - 1 + 1 = omega arith in (
       omega arith,
       sets_more p.s.now p.set_at.now p.sets (omega arith) _ _ (l.k - 1) c.before.before.before.wide16.result (omega arith) c.before.before.before.wide16.ensures.0
-          (c.List-set_of_Decides.ensures (fromSet p.s.now p.set_at.now p.sets (l.k - 1 + 1))
-          (subst (λ (low : ℕ). Memberships low l.first l.next (fromSet p.s.now p.set_at.now p.sets (l.k - 1 + 1))) e
-          (subst (λ (k : ℕ). Memberships (16 * l.k) l.first l.next (fromSet p.s.now p.set_at.now p.sets k)) q l.invariant.1))),
+          (c.List-set_of_Decides.ensures (from_set p.s.now p.set_at.now p.sets (l.k - 1 + 1))
+          (subst (λ (low : ℕ). Memberships low l.first l.next (from_set p.s.now p.set_at.now p.sets (l.k - 1 + 1))) e
+          (subst (λ (k : ℕ). Memberships (16 * l.k) l.first l.next (from_set p.s.now p.set_at.now p.sets k)) q l.invariant.1))),
     )
 
 returns : tie.Need-returns invariant-loop decreases-loop
@@ -51,7 +51,7 @@ returns c =
     let l = c.before.loop in
     let p = start.args in
     let z : l.k ≡ 0 = omega arith in
-    λ n h. subst (λ (k : ℕ). Linked 2048 l.next (get_or l.first n 0) (fromSet p.s.now p.set_at.now p.sets k n)) z (l.invariant.1.linked n h)
+    λ n h. subst (λ (k : ℕ). Linked 2048 l.next (get_or l.first n 0) (from_set p.s.now p.set_at.now p.sets k n)) z (l.invariant.1.linked n h)
 
 pub list-members-spec : {M : Type 1} → statement M
 list-members-spec =

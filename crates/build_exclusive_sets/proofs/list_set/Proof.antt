@@ -5,14 +5,14 @@ use mathlib.Core.List.{List}
 use native.Mathlib.Omega.{arith}
 use Rattle.pywr.specs.Bytes.{byte}
 use Rattle.build_exclusive_sets.specs.Sets.{Memberships}
-use Rattle.build_exclusive_sets.proofs.ListMembers.{withMembers, members-none, members-more, members-all}
+use Rattle.build_exclusive_sets.proofs.ListMembers.{with_members, members_none, members_more, members_all}
 use borrow.Author.Rules.{rules}
 use Rattle.build_exclusive_sets.proofs.list_set.Statement.{statement}
 use Rattle.build_exclusive_sets.proofs.list_set.Tie as tie
 
 abbrev invariant-loop : tie.invariant-loop
 invariant-loop s k at first₀ next₀ i₀ first next i =
-    (i ≤ byte s at) × ((of : ℕ → List ℕ) → Memberships (16 * k + 16) first₀ next₀ of → Memberships (16 * k + i) first next (withMembers s k at of i))
+    (i ≤ byte s at) × ((of : ℕ → List ℕ) → Memberships (16 * k + 16) first₀ next₀ of → Memberships (16 * k + i) first next (with_members s k at of i))
 
 abbrev decreases-loop : tie.decreases-loop
 decreases-loop s k at first₀ next₀ i₀ first next i = i
@@ -39,7 +39,7 @@ loop-holds : tie.Need-loop-init invariant-loop decreases-loop
 loop-holds c =
     let p = c.before.before.args in (
       omega (arith, c.set-size.ensures.0),
-      λ of h. members-none p.s.now p.k p.at of p.first.now p.next.now c.set-size.result
+      λ of h. members_none p.s.now p.k p.at of p.first.now p.next.now c.set-size.result
           c.set-size.ensures.0 (omega (arith, c.set-size.ensures.0, c.before.before.requires.1.most)) h,
     )
 
@@ -61,16 +61,16 @@ loop-again c =
     let p = start.args in
     let e : l.i ≡ l.i - 1 + 1 = omega arith in (
       omega arith,
-      λ of h. rw c.narrow16.ensures (members-more p.s.now p.k p.at of l.first l.next (l.i - 1) after-wide16.wide16.result (omega arith)
+      λ of h. rw c.narrow16.ensures (members_more p.s.now p.k p.at of l.first l.next (l.i - 1) after-wide16.wide16.result (omega arith)
           (after-wide16.wide16.ensures.0 ∙ after-member.member.ensures) (small (after-wide16)) (omega (arith, start.requires.1.most))
-          (subst (λ (i : ℕ). Memberships (16 * p.k + i) l.first l.next (withMembers p.s.now p.k p.at of i)) e (l.invariant.1 of h))),
+          (subst (λ (i : ℕ). Memberships (16 * p.k + i) l.first l.next (with_members p.s.now p.k p.at of i)) e (l.invariant.1 of h))),
     )
 
 returns : tie.Need-returns invariant-loop decreases-loop
 returns c =
     let l = c.before.loop in
     let p = (to-start-from-loop c).args in
-    λ of h. members-all p.s.now p.k p.at of l.first l.next l.i (omega arith) (l.invariant.1 of h)
+    λ of h. members_all p.s.now p.k p.at of l.first l.next l.i (omega arith) (l.invariant.1 of h)
 
 pub list-set-spec : {M : Type 1} → statement M
 list-set-spec =

@@ -3,15 +3,15 @@ use Prim.Native.Nat.{◌≤◌, ◌-◌}
 use mathlib.Core.Path.{◌≡◌, refl, sym, ◌∙◌}
 use native.Mathlib.Omega.{arith}
 use lib.ListN.{drop}
-use Rattle.pywr.specs.ExclusiveSets.{sameSet}
-use Rattle.network_aggregate.specs.AggregatedNode.{setAt}
-use Rattle.build_exclusive_sets.proofs.SameSet.{set-length, other-size, same_more, same_not, same_end}
+use Rattle.pywr.specs.ExclusiveSets.{same_set}
+use Rattle.network_aggregate.specs.AggregatedNode.{aggregate_set_at}
+use Rattle.build_exclusive_sets.proofs.SameSet.{set_length, other_size, same_more, same_not, same_end}
 use borrow.Author.Rules.{rules}
 use Rattle.build_exclusive_sets.proofs.same_set.Statement.{statement}
 use Rattle.build_exclusive_sets.proofs.same_set.Tie as tie
 
 abbrev invariant-loop : tie.invariant-loop
-invariant-loop s a b size i₀ i = (i ≤ size) × (sameSet (setAt s a) (setAt s b) ≡ sameSet (drop i (setAt s a)) (drop i (setAt s b)))
+invariant-loop s a b size i₀ i = (i ≤ size) × (same_set (aggregate_set_at s a) (aggregate_set_at s b) ≡ same_set (drop i (aggregate_set_at s a)) (drop i (aggregate_set_at s b)))
 
 abbrev decreases-loop : tie.decreases-loop
 decreases-loop s a b size i₀ i = size - i
@@ -30,8 +30,8 @@ to-start-from-loop c =
 returns : tie.Need-returns invariant-loop decreases-loop
 returns c =
     let p = (to-start-from-then1 c).args in
-    sym (other-size (setAt p.s.now p.a) (setAt p.s.now p.b)
-    (λ e. c.if1.true (c.before.before.set-size.ensures.0 ∙ sym (set-length p.s.now p.a) ∙ e ∙ set-length p.s.now p.b ∙ sym c.before.set-size2.ensures.0)))
+    sym (other_size (aggregate_set_at p.s.now p.a) (aggregate_set_at p.s.now p.b)
+    (λ e. c.if1.true (c.before.before.set-size.ensures.0 ∙ sym (set_length p.s.now p.a) ∙ e ∙ set_length p.s.now p.b ∙ sym c.before.set-size2.ensures.0)))
 
 loop-holds : tie.Need-loop-init invariant-loop decreases-loop
 loop-holds c =

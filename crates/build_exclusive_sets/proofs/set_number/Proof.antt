@@ -4,16 +4,16 @@ use mathlib.Core.Path.{◌≡◌, sym, ◌∙◌}
 use native.Mathlib.Omega.{arith}
 use native.Mathlib.Nat.{zero-add}
 use lib.ListN.{drop}
-use Rattle.pywr.specs.ExclusiveSets.{setNumber}
-use Rattle.network_aggregate.specs.AggregatedNode.{setAt}
-use Rattle.build_exclusive_sets.specs.Sets.{setsAt}
-use Rattle.build_exclusive_sets.proofs.SetNumber.{number-here, number_more, number-end}
+use Rattle.pywr.specs.ExclusiveSets.{set_number}
+use Rattle.network_aggregate.specs.AggregatedNode.{aggregate_set_at}
+use Rattle.build_exclusive_sets.specs.Sets.{sets_at}
+use Rattle.build_exclusive_sets.proofs.SetNumber.{number_here, number_more, number_end}
 use borrow.Author.Rules.{rules}
 use Rattle.build_exclusive_sets.proofs.set_number.Statement.{statement}
 use Rattle.build_exclusive_sets.proofs.set_number.Tie as tie
 
 abbrev invariant-loop : tie.invariant-loop
-invariant-loop s set_at count at k₀ k = (k ≤ count) × (setNumber (setAt s at) (setsAt s set_at count) ≡ k + setNumber (setAt s at) (drop k (setsAt s set_at count)))
+invariant-loop s set_at count at k₀ k = (k ≤ count) × (set_number (aggregate_set_at s at) (sets_at s set_at count) ≡ k + set_number (aggregate_set_at s at) (drop k (sets_at s set_at count)))
 
 abbrev decreases-loop : tie.decreases-loop
 decreases-loop s set_at count at k₀ k = count - k
@@ -36,7 +36,7 @@ returns c =
     let at-loop = in-loop.before in
     let start = at-loop.before.before in
     let p = start.args in
-    sym (at-loop.loop.invariant.1 ∙ number-here p.s.now p.set_at.now p.count (omega arith) (setAt p.s.now p.at) at-loop.loop.k
+    sym (at-loop.loop.invariant.1 ∙ number_here p.s.now p.set_at.now p.count (omega arith) (aggregate_set_at p.s.now p.at) at-loop.loop.k
     in-loop.loop-test.true (rw after-wide16.wide16.ensures.0 at (sym after-same-set.same_set.ensures ∙ c.if1.true)))
 
 loop-again : tie.Need-loop-preserved invariant-loop decreases-loop
@@ -48,14 +48,14 @@ loop-again c =
     let start = at-loop.before.before in
     let p = start.args in (
       search rules,
-      at-loop.loop.invariant.1 ∙ number_more p.s.now p.set_at.now p.count (omega arith) (setAt p.s.now p.at) at-loop.loop.k
+      at-loop.loop.invariant.1 ∙ number_more p.s.now p.set_at.now p.count (omega arith) (aggregate_set_at p.s.now p.at) at-loop.loop.k
           in-loop.loop-test.true (rw after-wide16.wide16.ensures.0 at (sym after-same-set.same_set.ensures ∙ c.if1.false)),
     )
 
 returns-2 : tie.Need-returns-2 invariant-loop decreases-loop
 returns-2 c =
     let p = c.before.before.before.args in
-    sym (c.before.loop.invariant.1 ∙ number-end p.s.now p.set_at.now p.count (omega arith) (setAt p.s.now p.at) c.before.loop.k c.loop-test.false)
+    sym (c.before.loop.invariant.1 ∙ number_end p.s.now p.set_at.now p.count (omega arith) (aggregate_set_at p.s.now p.at) c.before.loop.k c.loop-test.false)
 
 pub set-number-spec : {M : Type 1} → statement M
 set-number-spec =

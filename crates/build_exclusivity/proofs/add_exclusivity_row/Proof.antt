@@ -2,9 +2,9 @@
 use mathlib.Core.Path.{refl, sym, ap, ◌∙◌}
 use Prim.Native.Nat.{◌+◌}
 use Rattle.pywr.specs.Numbers.{double}
-use Rattle.build_append.proofs.RowsHeldLaws.{held-few}
-use Rattle.build_append.proofs.LentRow.{lent-room, lent-long}
-use Rattle.build_exclusivity.proofs.ExclusivityRows.{no-exclusivity-row, exclusivity-row-added}
+use Rattle.build_append.proofs.RowsHeldLaws.{held_few}
+use Rattle.build_append.proofs.LentRow.{lent_room, lent_long}
+use Rattle.build_exclusivity.proofs.ExclusivityRows.{no_exclusivity_row, exclusivity_row_added}
 use borrow.Author.Rules.{rules}
 use Rattle.build_exclusivity.proofs.add_exclusivity_row.Statement.{statement}
 use Rattle.build_exclusivity.proofs.add_exclusivity_row.Tie as tie
@@ -48,19 +48,19 @@ exclusivity-row-requires c κs =
     let after-is-exclusive = then1.before in
     let start = to_start after-is-exclusive in
     let x = sym after-is-exclusive.is-exclusive.ensures ∙ then1.if1.taken in
-    (start.pre.0, start.pre.1, start.pre.2, start.pre.3 x, (lent-room _ _ _ start.pre.5 start.pre.4.numbers-room).1)
+    (start.pre.0, start.pre.1, start.pre.2, start.pre.3 x, (lent_room _ _ _ start.pre.5 start.pre.4.numbers_room).1)
 
 add-fixed-row-requires : tie.Need-add-fixed-row-requires
 add-fixed-row-requires c κs =
     let after-exclusivity-row = to-exclusivity-row c in
     let start = to_start (to-is-exclusive after-exclusivity-row) in
-    let few = held-few _ _ _ _ start.pre.5.held in (
+    let few = held_few _ _ _ _ start.pre.5.held in (
       record {
-        words-room = start.pre.4.words-room;
-        numbers-room = lent-long start.args.numbers.now
+        words_room = start.pre.4.words_room;
+        numbers_room = lent_long start.args.numbers.now
             after-exclusivity-row.exclusivity-row.last.1.1.1.1.1.1.0 (2048 + start.args.f.elements)
             after-exclusivity-row.exclusivity-row.kept.1.1.1.1.1.1.0
-            start.pre.4.numbers-room;
+            start.pre.4.numbers_room;
       },
       after-exclusivity-row.exclusivity-row.ensures.few,
       few.0,
@@ -81,13 +81,13 @@ returns c =
     let after-is-exclusive = then1.before in
     let start = to_start after-is-exclusive in
     let x = sym after-is-exclusive.is-exclusive.ensures ∙ then1.if1.taken in
-    λ map m. exclusivity-row-added _ _ _ _ _ _ _ _ after-exclusivity-row.exclusivity-row.ensures x map m _ _ _ _ refl (lent-room _ _ _ start.pre.5 start.pre.4.numbers-room).0 _ _ _ _ _
+    λ map m. exclusivity_row_added _ _ _ _ _ _ _ _ after-exclusivity-row.exclusivity-row.ensures x map m _ _ _ _ refl (lent_room _ _ _ start.pre.5 start.pre.4.numbers_room).0 _ _ _ _ _
     (after_lower.u32-to-f64.ensures ∙ ap double after-min-active.min-active.ensures)
     (after-upper.u32-to-f642.ensures ∙ ap double after-max-active.max-active.ensures) after-add-fixed-row.add-fixed-row.ensures
 
 returns-2 : tie.Need-returns-2
 returns-2 c =
-    λ map m. no-exclusivity-row map _ (sym c.before.is-exclusive.ensures ∙ c.if1.false) _ _ _
+    λ map m. no_exclusivity_row map _ (sym c.before.is-exclusive.ensures ∙ c.if1.false) _ _ _
 
 pub add-exclusivity-row-spec : {M : Type 1} → statement M
 add-exclusivity-row-spec =

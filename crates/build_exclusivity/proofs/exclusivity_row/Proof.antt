@@ -5,17 +5,17 @@ use native.Mathlib.Omega.{arith}
 use lib.ListN.{length}
 use lib.Ieee.{of_bits}
 use Rattle.pywr.specs.Numbers.{one64}
-use Rattle.build_exclusivity.proofs.Gathering.{Gathering, gathering-first, next_known, gathering-next, gathering-done}
+use Rattle.build_exclusivity.proofs.Gathering.{Gathering, gathering_first, next_known, gathering_next, gathering_done}
 use borrow.Author.Rules.{rules}
 use Rattle.build_exclusivity.proofs.exclusivity_row.Statement.{statement}
 use Rattle.build_exclusivity.proofs.exclusivity_row.Tie as tie
 
 abbrev invariant-loop : tie.invariant-loop
-invariant-loop s set_at sets edge-columns at columns₀ elements₀ count n₀ here₀ i₀ columns elements n here i =
-    Gathering s set_at sets edge-columns at count columns elements n here i × (length elements ≡ length elements₀)
+invariant-loop s set_at sets edge_columns_lem at columns₀ elements₀ count n₀ here₀ i₀ columns elements n here i =
+    Gathering s set_at sets edge_columns_lem at count columns elements n here i × (length elements ≡ length elements₀)
 
 abbrev decreases-loop : tie.decreases-loop
-decreases-loop s set_at sets edge-columns at columns₀ elements₀ count n₀ here₀ i₀ columns elements n here i = count - i
+decreases-loop s set_at sets edge_columns_lem at columns₀ elements₀ count n₀ here₀ i₀ columns elements n here i = count - i
 
 -- from a place to an earlier one
 abbrev to_start : tie.At-loop invariant-loop decreases-loop → tie.Start invariant-loop decreases-loop
@@ -39,7 +39,7 @@ sets-at-requires c κs =
 
 loop-holds : tie.Need-loop-init invariant-loop decreases-loop
 loop-holds c =
-    (rw c.sets-at.ensures (gathering-first _ _ _ _ _ _ c.before.set-count.ensures.0 _ _), refl)
+    (rw c.sets-at.ensures (gathering_first _ _ _ _ _ _ c.before.set_count_lem.ensures.0 _ _), refl)
 
 set-number-requires : tie.Need-set-number-requires invariant-loop decreases-loop
 set-number-requires c κs =
@@ -90,9 +90,9 @@ loop-again c =
     let after-set-number = after-narrow16.before in
     let in-loop = after-set-number.before in
     let at-loop = in-loop.before in (
-      rw c.set-end.ensures (gathering-next _ _ _ _ _ _ _ _ _ _ _ at-loop.loop.invariant.0 in-loop.loop-test.true _ _ _ _ _ _
-          after-set-number.set-number.ensures after-narrow16.narrow16.ensures refl after-add-element.add-element.ensures),
-      after-add-element.add-element.auto.1.0 ∙ at-loop.loop.invariant.1,
+      rw c.set_end_lem.ensures (gathering_next _ _ _ _ _ _ _ _ _ _ _ at-loop.loop.invariant.0 in-loop.loop-test.true _ _ _ _ _ _
+          after-set-number.set-number.ensures after-narrow16.narrow16.ensures refl after-add-element.add_element_lem.ensures),
+      after-add-element.add_element_lem.auto.1.0 ∙ at-loop.loop.invariant.1,
     )
 
 same_length : tie.Need-same-length invariant-loop decreases-loop
@@ -101,7 +101,7 @@ same_length c =
 
 returns : tie.Need-returns invariant-loop decreases-loop
 returns c =
-    gathering-done _ _ _ _ _ _ _ _ _ _ _ c.before.loop.invariant.0 c.loop-test.false
+    gathering_done _ _ _ _ _ _ _ _ _ _ _ c.before.loop.invariant.0 c.loop-test.false
 
 pub exclusivity-row-spec : {M : Type 1} → statement M
 exclusivity-row-spec =

@@ -1,9 +1,9 @@
 -- `build_fixed::add_fixed_rows` meets its contract. Assumes nothing.
 use mathlib.Core.Path.{◌≡◌, ◌∙◌}
 use native.Mathlib.Omega.{arith}
-use Rattle.build_node_row.specs.Tables.{networkOf}
-use Rattle.build_fixed.proofs.Columns.{columns-most}
-use Rattle.build_fixed.proofs.Fixed.{mass-full, mass-holding, constant-full, constant-holding, all-fixed}
+use Rattle.build_node_row.specs.Tables.{network_of}
+use Rattle.build_fixed.proofs.Columns.{columns_most}
+use Rattle.build_fixed.proofs.Fixed.{mass_full, mass_holding, constant_full, constant_holding, all_fixed}
 use borrow.Author.Rules.{rules}
 use Rattle.build_fixed.proofs.add_fixed_rows.Statement.{statement}
 use Rattle.build_fixed.proofs.add_fixed_rows.Tie as tie
@@ -57,20 +57,20 @@ create-constant-constraints-requires c κs =
     let start = to_start after-create-mass-balance-constraints in (
       start.pre.0,
       start.pre.2,
-      record { setAt = _; sets = _; tables = start.pre.1 },
+      record { aggregate_set_at = _; sets = _; tables = start.pre.1 },
       record {
-        words-room = omega (
+        words_room = omega (
           arith,
           after-create-mass-balance-constraints.create-mass-balance-constraints.kept.1.1.1.1.1.1.1.0,
-          start.pre.3.words-room,
+          start.pre.3.words_room,
         );
-        numbers-room = omega (
+        numbers_room = omega (
           arith,
           after-create-mass-balance-constraints.create-mass-balance-constraints.kept.1.1.1.1.1.1.1.1.0,
-          start.pre.3.numbers-room,
+          start.pre.3.numbers_room,
         );
       },
-      mass-holding start.args.sentinel (networkOf start.args.s.now start.args.c) _ _ _ _ _ _
+      mass_holding start.args.sentinel (network_of start.args.s.now start.args.c) _ _ _ _ _ _
           after-create-mass-balance-constraints.create-mass-balance-constraints.ensures _ after-m.m.given.1 start.pre.4,
     )
 
@@ -85,22 +85,22 @@ create-mutual-exclusivity-constraints-requires c κs =
       start.pre.1.fit,
       start.pre.1.held,
       start.pre.2,
-      columns-most _ _ _ _ _ _ _ start.pre.0 _ start.pre.2,
+      columns_most _ _ _ _ _ _ _ start.pre.0 _ start.pre.2,
       record {
-        words-room = omega (
+        words_room = omega (
           arith,
           after-create-mass-balance-constraints.create-mass-balance-constraints.kept.1.1.1.1.1.1.1.0,
           after-create-constant-constraints.create-constant-constraints.kept.1.1.1.1.1.1.1.1.1.1.1.0,
-          start.pre.3.words-room,
+          start.pre.3.words_room,
         );
-        numbers-room = omega (
+        numbers_room = omega (
           arith,
           after-create-mass-balance-constraints.create-mass-balance-constraints.kept.1.1.1.1.1.1.1.1.0,
           after-create-constant-constraints.create-constant-constraints.kept.1.1.1.1.1.1.1.1.1.1.1.1.0,
-          start.pre.3.numbers-room,
+          start.pre.3.numbers_room,
         );
       },
-      constant-holding start.args.sentinel (networkOf start.args.s.now start.args.c) _ _ _ _ _ _
+      constant_holding start.args.sentinel (network_of start.args.s.now start.args.c) _ _ _ _ _ _
           after-create-mass-balance-constraints.create-mass-balance-constraints.ensures _ after-m.m.given.1 _ _ _
           after-create-constant-constraints.create-constant-constraints.ensures _ after-b.b.given.1 start.pre.4,
     )
@@ -117,7 +117,7 @@ returns : tie.Need-returns
 returns c =
     let after-create-mass-balance-constraints = to-create-mass-balance-constraints c.before.before in
     let start = to_start after-create-mass-balance-constraints in
-    mass-full start.args.sentinel (networkOf start.args.s.now start.args.c) _ _ _ _ _ _
+    mass_full start.args.sentinel (network_of start.args.s.now start.args.c) _ _ _ _ _ _
     after-create-mass-balance-constraints.create-mass-balance-constraints.ensures c.enum_told.given.1
 
 same-length-3 : tie.Need-same-length-3
@@ -140,7 +140,7 @@ returns-2 c =
     let after-m = to-m after-create-constant-constraints.before in
     let after-create-mass-balance-constraints = to-create-mass-balance-constraints after-m.before.before in
     let start = to_start after-create-mass-balance-constraints in
-    constant-full start.args.sentinel (networkOf start.args.s.now start.args.c) _ _ _ _ _ _
+    constant_full start.args.sentinel (network_of start.args.s.now start.args.c) _ _ _ _ _ _
     after-create-mass-balance-constraints.create-mass-balance-constraints.ensures _ after-m.m.given.1 _ _ _
     after-create-constant-constraints.create-constant-constraints.ensures c.enum-told2.given.1
 
@@ -170,7 +170,7 @@ returns-3 c =
     let after-m = to-m after-create-constant-constraints.before in
     let after-create-mass-balance-constraints = to-create-mass-balance-constraints after-m.before.before in
     let start = to_start after-create-mass-balance-constraints in
-    all-fixed start.args.sentinel (networkOf start.args.s.now start.args.c) _ _ _ _ _ _
+    all_fixed start.args.sentinel (network_of start.args.s.now start.args.c) _ _ _ _ _ _
     after-create-mass-balance-constraints.create-mass-balance-constraints.ensures _ after-m.m.given.1 _ _ _
     after-create-constant-constraints.create-constant-constraints.ensures _ after-b.b.given.1 _ _ _
     after-create-mutual-exclusivity-constraints.create-mutual-exclusivity-constraints.ensures

@@ -3,9 +3,9 @@
 use Prim.Native.Nat.{◌-◌, ◌<◌}
 use native.Mathlib.Nat.{le_trans}
 use native.Mathlib.Omega.{arith}
-use Rattle.build_incident_edges.proofs.Listed.{listed-most}
+use Rattle.build_incident_edges.proofs.Listed.{listed_most}
 use Rattle.build_flow_order.proofs.Marks.{room}
-use Rattle.build_flow_order.proofs.Turn.{FollowedTo, none-followed, one-followed, all-followed, followed-before}
+use Rattle.build_flow_order.proofs.Turn.{FollowedTo, none_followed, one_followed, all_followed, followed_before}
 use borrow.Author.Rules.{rules}
 use Rattle.build_flow_order.proofs.follow.Statement.{statement}
 use Rattle.build_flow_order.proofs.follow.Tie as tie
@@ -37,20 +37,20 @@ edge-under : (c : tie.After-wide16 invariant-loop decreases-loop) → c.wide16.r
 edge-under c =
     omega (arith, c.wide16.ensures.0, c.before.loop-test.true, (to-loop c).loop.invariant.under)
 
-edge-room : (c : tie.Else1 invariant-loop decreases-loop) → (to-loop (to-wide16 c)).loop.n < (to_start (to-loop (to-wide16 c))).args.edges
-edge-room c =
+edge_room : (c : tie.Else1 invariant-loop decreases-loop) → (to-loop (to-wide16 c)).loop.n < (to_start (to-loop (to-wide16 c))).args.edges
+edge_room c =
     let after-wide16 = to-wide16 c in
     let at-loop = to-loop after-wide16 in
-    room at-loop.loop.inv.marked (to_start at-loop).pre.0.few-edges (edge-under after-wide16) c.if1.false
+    room at-loop.loop.inv.marked (to_start at-loop).pre.0.few_edges (edge-under after-wide16) c.if1.false
 
 loop-holds : tie.Need-loop-init invariant-loop decreases-loop
 loop-holds c =
     let start = c.before.before.before in
-    none-followed _ _ _ _ _ _ _ (omega (arith, start.requires.3)) start.requires.2
+    none_followed _ _ _ _ _ _ _ (omega (arith, start.requires.3)) start.requires.2
 
 element-copy-out-if1 : tie.Need-element-copy-out-if1 invariant-loop decreases-loop
 element-copy-out-if1 c =
-    omega (arith, edge-under c, (to_start (to-loop c)).pre.0.few-edges)
+    omega (arith, edge-under c, (to_start (to-loop c)).pre.0.few_edges)
 
 same_length : tie.Need-same-length invariant-loop decreases-loop
 same_length c =
@@ -63,31 +63,31 @@ returns c =
     let at-loop = to-loop after-wide16 in (
       at-loop.loop.inv.marked,
       λ a v base order o.
-          followed-before _ _ _ at-loop.loop.inv _ a v base order (omega arith) o _ after-wide16.before.loop-test.true
+          followed_before _ _ _ at-loop.loop.inv _ a v base order (omega arith) o _ after-wide16.before.loop-test.true
           after-wide16.wide16.ensures.0 c.if1.true,
     )
 
 add-shape : tie.Need-overflow-add-shape invariant-loop decreases-loop
 add-shape c =
-    omega (arith, edge-room c, (to_start (to-loop (to-wide16 c))).pre.0.few-edges)
+    omega (arith, edge_room c, (to_start (to-loop (to-wide16 c))).pre.0.few_edges)
 
 mul-shape : tie.Need-overflow-mul-shape invariant-loop decreases-loop
 mul-shape c =
-    omega (arith, edge-room c, (to_start (to-loop (to-wide16 c))).pre.0.few-edges)
+    omega (arith, edge_room c, (to_start (to-loop (to-wide16 c))).pre.0.few_edges)
 
 slice-write-shape : tie.Need-slice-write-shape invariant-loop decreases-loop
 slice-write-shape c =
     let at-loop = to-loop (to-wide16 c) in
     let start = to_start at-loop in
-    omega (arith, edge-room c, at-loop.loop.inv.long, start.pre.0.few-edges, start.pre.1)
+    omega (arith, edge_room c, at-loop.loop.inv.long, start.pre.0.few_edges, start.pre.1)
 
 element-write-seen : tie.Need-element-write-seen invariant-loop decreases-loop
 element-write-seen c =
-    omega (arith, edge-under (to-wide16 c), (to_start (to-loop (to-wide16 c))).pre.0.few-edges)
+    omega (arith, edge-under (to-wide16 c), (to_start (to-loop (to-wide16 c))).pre.0.few_edges)
 
 add-n : tie.Need-overflow-add-n invariant-loop decreases-loop
 add-n c =
-    omega (arith, edge-room c, (to_start (to-loop (to-wide16 c))).pre.0.few-edges)
+    omega (arith, edge_room c, (to_start (to-loop (to-wide16 c))).pre.0.few_edges)
 
 to-node-index-requires : tie.Need-to-node-index-requires invariant-loop decreases-loop
 to-node-index-requires c κs =
@@ -100,23 +100,23 @@ shares-with-requires c κs =
     let at-loop = to-loop after-wide16 in
     let lists = (to_start at-loop).pre.0 in
     let to = c.to-node-index in
-    let under = lists.to-under (at-loop.loop.next - 1) (omega (arith, at-loop.loop.inv.under, after-wide16.before.loop-test.taken)) in (
-      omega (arith, to.ensures, under, lists.few-nodes),
+    let under = lists.to_under (at-loop.loop.next - 1) (omega (arith, at-loop.loop.inv.under, after-wide16.before.loop-test.taken)) in (
+      omega (arith, to.ensures, under, lists.few_nodes),
       omega (arith, to.ensures, under, lists.inside),
-      le_trans (listed-most lists.out_of to.result.0) lists.few-edges,
-      le_trans (listed-most lists.into to.result.0) lists.few-edges,
+      le_trans (listed_most lists.out_of to.result.0) lists.few_edges,
+      le_trans (listed_most lists.into to.result.0) lists.few_edges,
     )
 
 loop-less : tie.Need-loop-smaller invariant-loop decreases-loop
 loop-less c =
-    omega (arith, edge-room c.before.before)
+    omega (arith, edge_room c.before.before)
 
 loop-again : tie.Need-loop-preserved invariant-loop decreases-loop
 loop-again c =
     let else1 = c.before.before in
     let after-wide16 = to-wide16 else1 in
     let at-loop = to-loop after-wide16 in
-    one-followed _ _ _ at-loop.loop.inv (to_start at-loop).pre.0 _ _ _ after-wide16.before.loop-test.taken
+    one_followed _ _ _ at-loop.loop.inv (to_start at-loop).pre.0 _ _ _ after-wide16.before.loop-test.taken
     after-wide16.wide16.ensures.0 else1.if1.false c.before.to-node-index.ensures c.shares-with.ensures
 
 same-length-2 : tie.Need-same-length-2 invariant-loop decreases-loop
@@ -127,7 +127,7 @@ returns-2 : tie.Need-returns-2 invariant-loop decreases-loop
 returns-2 c =
     let at-loop = c.before in (
       at-loop.loop.invariant.marked,
-      λ a v base order o. all-followed _ _ _ at-loop.loop.invariant _ a v base order (omega arith) o c.loop-test.false,
+      λ a v base order o. all_followed _ _ _ at-loop.loop.invariant _ a v base order (omega arith) o c.loop-test.false,
     )
 
 pub follow-spec : {M : Type 1} → statement M

@@ -4,15 +4,15 @@ use Prim.Native.Nat.{◌-◌}
 use mathlib.Core.Bool.{true}
 use mathlib.Core.Path.{refl}
 use native.Mathlib.Omega.{arith}
-use Rattle.pywr.specs.FlowOrder.{paths, flowOrder}
-use Rattle.build_flow_order.proofs.Passes.{PassedTo, no-rings, edge-followed, pass-whole}
+use Rattle.pywr.specs.FlowOrder.{paths, flow_order}
+use Rattle.build_flow_order.proofs.Passes.{PassedTo, no_rings, edge_followed, pass_whole}
 use borrow.Author.Rules.{rules}
 use Rattle.build_flow_order.proofs.follow_rings.Statement.{statement}
 use Rattle.build_flow_order.proofs.follow_rings.Tie as tie
 
 abbrev invariant-loop : tie.invariant-loop
 invariant-loop s nodes edges first-in next-in first_out next-out seen₀ shape₀ count n₀ start₀ seen shape n start =
-    PassedTo s nodes edges (λ net edge. true) paths flowOrder seen₀ shape₀ count seen shape n start
+    PassedTo s nodes edges (λ net edge. true) paths flow_order seen₀ shape₀ count seen shape n start
 
 abbrev decreases-loop : tie.decreases-loop
 decreases-loop s nodes edges first-in next-in first_out next-out seen₀ shape₀ count n₀ start₀ seen shape n start = edges - start
@@ -31,7 +31,7 @@ to-narrow16 c =
 loop-holds : tie.Need-loop-init invariant-loop decreases-loop
 loop-holds c =
     let start = c.before.before in
-    no-rings _ _ _ _ _ _ start.requires.2
+    no_rings _ _ _ _ _ _ start.requires.2
 
 follow-requires : tie.Need-follow-requires invariant-loop decreases-loop
 follow-requires c κs =
@@ -49,7 +49,7 @@ loop-again c =
     let after-follow = c.before.before in
     let after-narrow16 = to-narrow16 after-follow.before in
     let at-loop = after-narrow16.before.before in
-    edge-followed _ _ _ _ _ _ at-loop.loop.inv after-narrow16.before.loop-test.taken _ (λ a v. refl)
+    edge_followed _ _ _ _ _ _ at-loop.loop.inv after-narrow16.before.loop-test.taken _ (λ a v. refl)
     after-narrow16.narrow16.ensures (search rules) after-follow.follow.ensures.0 after-follow.follow.ensures.1
 
 same_length : tie.Need-same-length invariant-loop decreases-loop
@@ -59,7 +59,7 @@ same_length c =
 returns : tie.Need-returns invariant-loop decreases-loop
 returns c a v base o =
     let at-loop = c.before in
-    (pass-whole _ _ _ _ _ _ at-loop.loop.invariant c.loop-test.false a v base o).written
+    (pass_whole _ _ _ _ _ _ at-loop.loop.invariant c.loop-test.false a v base o).written
 
 pub follow-rings-spec : {M : Type 1} → statement M
 follow-rings-spec =

@@ -1,6 +1,6 @@
 -- `build_flow_order::write_flow_order` meets its contract. Assumes nothing.
 use Rattle.build_flow_order.specs.Ordered.{EdgeLists}
-use Rattle.build_flow_order.proofs.Marks.{none-marked, none-ordered}
+use Rattle.build_flow_order.proofs.Marks.{none_marked, none_ordered}
 use borrow.Author.Rules.{rules}
 use Rattle.build_flow_order.proofs.write_flow_order.Statement.{statement}
 use Rattle.build_flow_order.proofs.write_flow_order.Tie as tie
@@ -24,11 +24,11 @@ Lists c =
 lists : (c : tie.Start) → Lists c
 lists c =
     record {
-      few-nodes = c.requires.0;
-      few-edges = c.requires.1;
+      few_nodes = c.requires.0;
+      few_edges = c.requires.1;
       inside = c.requires.2;
-      from-under = c.requires.3;
-      to-under = c.requires.4;
+      from_under = c.requires.3;
+      to_under = c.requires.4;
       into = c.requires.5;
       out_of = c.requires.6;
     }
@@ -36,7 +36,7 @@ lists c =
 follow-paths-requires : tie.Need-follow-paths-requires
 follow-paths-requires c κs =
     let start = to_start c in
-    (lists start, start.pre.7, none-marked _ start.pre.1)
+    (lists start, start.pre.7, none_marked _ start.pre.1)
 
 follow-rings-requires : tie.Need-follow-rings-requires
 follow-rings-requires c κs =
@@ -52,7 +52,7 @@ returns c a v =
     let after-follow-rings = c.before.before in
     let after-follow-paths = to-follow-paths after-follow-rings.before in
     let start = to_start after-follow-paths.before in
-    after-follow-rings.follow-rings.ensures a v _ (after-follow-paths.follow-paths.ensures.1 a v _ (none-ordered _ _ start.pre.1))
+    after-follow-rings.follow-rings.ensures a v _ (after-follow-paths.follow-paths.ensures.1 a v _ (none_ordered _ _ start.pre.1))
 
 pub write-flow-order-spec : {M : Type 1} → statement M
 write-flow-order-spec =

@@ -3,8 +3,8 @@
 use Prim.Native.Nat.{ℕ, ◌-◌, ◌<◌}
 use mathlib.Core.Path.{◌≡◌, ◌∙◌, ap}
 use native.Mathlib.Omega.{arith}
-use Rattle.network_edge.specs.Edge.{edge_at, edgePlace, end_of}
-use Rattle.build_incident_edges.proofs.Turn.{ListedFrom, none-listed, edge-listed}
+use Rattle.network_edge.specs.Edge.{edge_at, edge_place, end_of}
+use Rattle.build_incident_edges.proofs.Turn.{ListedFrom, none_listed, edge_listed}
 use borrow.Author.Rules.{rules}
 use Rattle.build_incident_edges.proofs.list_edges.Statement.{statement}
 use Rattle.build_incident_edges.proofs.list_edges.Tie as tie
@@ -30,34 +30,34 @@ to-loop c =
 abbrev end-node : tie.At-loop invariant-loop decreases-loop → ℕ → ℕ
 end-node c k =
     let p = (to_start c).args in
-    end_of p.end (edge_at p.s.now (edgePlace p.nodes k))
+    end_of p.end (edge_at p.s.now (edge_place p.nodes k))
 
-node-is : (c : tie.After-wide16 invariant-loop decreases-loop) → c.wide16.result ≡ end-node (to-loop c) ((to-loop c).loop.e - 1)
-node-is c = c.wide16.ensures.0 ∙ c.before.end-node.ensures ∙ ap (end-node (to-loop c)) c.before.before.narrow16.ensures
+node_is : (c : tie.After-wide16 invariant-loop decreases-loop) → c.wide16.result ≡ end-node (to-loop c) ((to-loop c).loop.e - 1)
+node_is c = c.wide16.ensures.0 ∙ c.before.end-node.ensures ∙ ap (end-node (to-loop c)) c.before.before.narrow16.ensures
 
-node-under : (c : tie.After-wide16 invariant-loop decreases-loop) → c.wide16.result < 256
-node-under c =
+node_under : (c : tie.After-wide16 invariant-loop decreases-loop) → c.wide16.result < 256
+node_under c =
     let at-loop = to-loop c in
     let start = to_start at-loop in
-    omega (arith, node-is c, start.pre.0, start.pre.3 (at-loop.loop.e - 1) (omega arith))
+    omega (arith, node_is c, start.pre.0, start.pre.3 (at-loop.loop.e - 1) (omega arith))
 
 loop-holds : tie.Need-loop-init invariant-loop decreases-loop
 loop-holds c =
-    none-listed _ _ _ _
+    none_listed _ _ _ _
 
 element-copy-out-next : tie.Need-element-copy-out-next invariant-loop decreases-loop
 element-copy-out-next c =
-    omega (arith, node-under c)
+    omega (arith, node_under c)
 
 element-write-first : tie.Need-element-write-first invariant-loop decreases-loop
 element-write-first c =
-    omega (arith, node-under c.before.before)
+    omega (arith, node_under c.before.before)
 
 loop-again : tie.Need-loop-preserved invariant-loop decreases-loop
 loop-again c =
     let after-wide16 = c.before.before in
     let at-loop = to-loop after-wide16 in
-    edge-listed _ _ _ _ _ _ _ _ _ _ (omega arith) c.narrow162.ensures (node-is after-wide16) (node-under after-wide16) (to_start at-loop).pre.1 at-loop.loop.inv
+    edge_listed _ _ _ _ _ _ _ _ _ _ (omega arith) c.narrow162.ensures (node_is after-wide16) (node_under after-wide16) (to_start at-loop).pre.1 at-loop.loop.inv
 
 returns : tie.Need-returns invariant-loop decreases-loop
 returns c =

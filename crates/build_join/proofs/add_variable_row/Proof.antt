@@ -4,7 +4,7 @@ use mathlib.Core.List.{map}
 use lib.Ieee.{of_bits}
 use Rattle.pywr.specs.Numbers.{zero64}
 use Rattle.pywr.specs.VaryingRows.{fresh_row}
-use Rattle.build_join.proofs.VariableRowLaws.{row-joined, row_new, row-full}
+use Rattle.build_join.proofs.VariableRowLaws.{row_joined, row_new, row_full}
 use borrow.Author.Rules.{rules}
 use Rattle.build_join.proofs.add_variable_row.Statement.{statement}
 use Rattle.build_join.proofs.add_variable_row.Tie as tie
@@ -23,7 +23,7 @@ to-add-fixed-row c =
 returns : tie.Need-returns
 returns c =
     let s = (to_start c.before).args.sentinel in
-    λ rows held. row-joined s rows _ _ _ _ _ held (c.before.position.ensures (map (fresh_row s) rows) held) c.if1.true
+    λ rows held. row_joined s rows _ _ _ _ _ held (c.before.position.ensures (map (fresh_row s) rows) held) c.if1.true
 
 returns-2 : tie.Need-returns-2
 unfolding zero64 of_bits
@@ -49,7 +49,7 @@ returns-3 c =
     let start = to_start after-position in
     let s = start.args.sentinel in
     λ rows held.
-    row-full s rows _ _ _ _ _ held (after-position.position.ensures (map (fresh_row s) rows) held) _ _ _ _ _ else1.if1.left refl
+    row_full s rows _ _ _ _ _ held (after-position.position.ensures (map (fresh_row s) rows) held) _ _ _ _ _ else1.if1.left refl
     after-high.high.ensures (after-add-fixed-row.add-fixed-row.ensures (map (fresh_row s) rows) held) c.enum_told.given.1
 
 pub add-variable-row-spec : {M : Type 1} → statement M

@@ -5,7 +5,7 @@ use native.Mathlib.Nat.{zero-add}
 use native.Mathlib.Omega.{arith}
 use lib.ListN.{drop}
 use Rattle.build_row.specs.RowBuilder.{gathered}
-use Rattle.build_join.proofs.PositionLaws.{Passed, found, passed-next, none_equal}
+use Rattle.build_join.proofs.PositionLaws.{Passed, found, passed_next, none_equal}
 use borrow.Author.Rules.{rules}
 use Rattle.build_join.proofs.position.Statement.{statement}
 use Rattle.build_join.proofs.position.Tie as tie
@@ -37,7 +37,7 @@ returns c =
 
 loop-again : tie.Need-loop-preserved invariant-loop decreases-loop
 loop-again c =
-    (search rules, passed-next _ _ _ _ _ c.before.before.before.loop.invariant.1 _ c.before.same_row.ensures c.if1.false c.before.before.loop-test.true)
+    (search rules, passed_next _ _ _ _ _ c.before.before.before.loop.invariant.1 _ c.before.same_row.ensures c.if1.false c.before.before.loop-test.true)
 
 returns-2 : tie.Need-returns-2 invariant-loop decreases-loop
 returns-2 c =

@@ -5,9 +5,9 @@ use native.Mathlib.Nat.{sub-zero}
 use lib.ListN.{drop}
 use lib.Ieee.{ne}
 use borrow.Author.Tests.{not-true, not-false}
-use Rattle.pywr.specs.VariableRows.{sameRow}
+use Rattle.pywr.specs.VariableRows.{same_row}
 use Rattle.build_row.specs.RowBuilder.{gathered}
-use Rattle.build_join.proofs.PositionLaws.{sameFrom, columns-differ, values-differ, same_next, same_end}
+use Rattle.build_join.proofs.PositionLaws.{same_from, columns_differ, values_differ, same_next, same_end}
 use borrow.Author.Rules.{rules}
 use Rattle.build_join.proofs.same_elements.Statement.{statement}
 use Rattle.build_join.proofs.same_elements.Tie as tie
@@ -15,7 +15,7 @@ use Rattle.build_join.proofs.same_elements.Tie as tie
 abbrev invariant-loop : tie.invariant-loop
 invariant-loop words numbers columns n at from i₀ i =
     (i ≤ n)
-    × (sameRow (gathered (drop at words) (drop (2048 + at) numbers) n) (gathered columns (drop (2048 + from) numbers) n) ≡ sameFrom words columns numbers n at from i)
+    × (same_row (gathered (drop at words) (drop (2048 + at) numbers) n) (gathered columns (drop (2048 + from) numbers) n) ≡ same_from words columns numbers n at from i)
 
 abbrev decreases-loop : tie.decreases-loop
 decreases-loop words numbers columns n at from i₀ i = n - i
@@ -29,7 +29,7 @@ returns c =
     let in-loop = c.before.before.before in
     let at-loop = in-loop.before in
     let start = at-loop.before in
-    sym (at-loop.loop.invariant.1 ∙ columns-differ _ _ _ _ _ _ _ start.requires in-loop.loop-test.true c.if1.true)
+    sym (at-loop.loop.invariant.1 ∙ columns_differ _ _ _ _ _ _ _ start.requires in-loop.loop-test.true c.if1.true)
 
 returns-2 : tie.Need-returns-2 invariant-loop decreases-loop
 unfolding ne
@@ -39,7 +39,7 @@ returns-2 c =
     let at-loop = in-loop.before in
     let start = at-loop.before in
     let l = at-loop.loop in
-    sym (l.invariant.1 ∙ values-differ _ _ _ _ _ _ _ start.requires in-loop.loop-test.true else1.if1.false (not-true _ c.if2.true))
+    sym (l.invariant.1 ∙ values_differ _ _ _ _ _ _ _ start.requires in-loop.loop-test.true else1.if1.false (not-true _ c.if2.true))
 
 loop-again : tie.Need-loop-preserved invariant-loop decreases-loop
 unfolding ne

@@ -4,10 +4,10 @@ use Prim.Native.Nat.{◌+◌, ◌*◌}
 use native.Mathlib.Omega.{arith}
 use Rattle.pywr.specs.Numbers.{zero64}
 use lib.Ieee.{of_bits}
-use Rattle.build_append.proofs.RowsHeldLaws.{held-few}
-use Rattle.build_node_row.proofs.NodeColumns.{in-listed, out_listed}
-use Rattle.build_append.proofs.LentRow.{lent-room, lent-long}
-use Rattle.build_mass.proofs.MassRows.{no-mass-row, mass-row, row-dropped, row-added}
+use Rattle.build_append.proofs.RowsHeldLaws.{held_few}
+use Rattle.build_node_row.proofs.NodeColumns.{in_listed, out_listed}
+use Rattle.build_append.proofs.LentRow.{lent_room, lent_long}
+use Rattle.build_mass.proofs.MassRows.{no_mass_row_lem, mass_row_lem, row_dropped, row_added}
 use borrow.Author.Rules.{rules}
 use Rattle.build_mass.proofs.add_mass_row.Statement.{statement}
 use Rattle.build_mass.proofs.add_mass_row.Tie as tie
@@ -18,7 +18,7 @@ kind-requires c κs =
 
 returns : tie.Need-returns
 returns c =
-    no-mass-row _ _ _ (λ e. c.if1.true (c.before.kind.ensures ∙ e)) _ _ _
+    no_mass_row_lem _ _ _ (λ e. c.if1.true (c.before.kind.ensures ∙ e)) _ _ _
 
 -- from a place to an earlier one
 abbrev to_start : tie.After-kind → tie.Start
@@ -55,8 +55,8 @@ mass-row-requires : tie.Need-mass-row-requires
 mass-row-requires c κs =
     let after-wide16 = to-wide16 c in
     let start = to_start after-wide16.before.before in (
-      (lent-room _ _ _ start.pre.3 start.pre.2.numbers-room).1,
-      in-listed _ _ _ _ _ _ _ start.pre.0 after-wide16.wide16.result,
+      (lent_room _ _ _ start.pre.3 start.pre.2.numbers_room).1,
+      in_listed _ _ _ _ _ _ _ start.pre.0 after-wide16.wide16.result,
       out_listed _ _ _
           _ _ _ _ start.pre.0 after-wide16.wide16.result,
     )
@@ -66,7 +66,7 @@ part-row-end c =
     let after-mass-row = to-mass-row c in
     let after-wide16 = to-wide16 after-mass-row.before in
     let start = to_start after-wide16.before.before in
-    let g = mass-row _ _ _ _ _ _ _ start.pre.0 _ after-wide16.wide16.result after-wide16.wide16.ensures.0 _ _ _ after-mass-row.mass-row.ensures in
+    let g = mass_row_lem _ _ _ _ _ _ _ start.pre.0 _ after-wide16.wide16.result after-wide16.wide16.ensures.0 _ _ _ after-mass-row.mass_row_lem.ensures in
     omega (arith, g.few, c.run2.given.0)
 
 returns-2 : tie.Need-returns-2
@@ -77,22 +77,22 @@ returns-2 c =
     let else1 = after-wide16.before in
     let after-kind = else1.before in
     let start = to_start after-kind in
-    let room = lent-room _ _ _ start.pre.3 start.pre.2.numbers-room in
-    let g = mass-row _ _ _ _ _ _ _ start.pre.0 _ after-wide16.wide16.result after-wide16.wide16.ensures.0 _ _ _ after-mass-row.mass-row.ensures in
-    row-dropped _ _ _ _ _ _ _ start.pre.0 _ after-wide16.wide16.result after-wide16.wide16.ensures.0 _ _ _ g (sym after-kind.kind.ensures ∙ else1.if1.left)
-    (omega (arith, after-run2.run2.given.0)) (omega (arith, after-mass-row.mass-row.kept.1.1.1.1.1.1.0, room.1)) _ _ _ _ refl room.0 c.if2.true
+    let room = lent_room _ _ _ start.pre.3 start.pre.2.numbers_room in
+    let g = mass_row_lem _ _ _ _ _ _ _ start.pre.0 _ after-wide16.wide16.result after-wide16.wide16.ensures.0 _ _ _ after-mass-row.mass_row_lem.ensures in
+    row_dropped _ _ _ _ _ _ _ start.pre.0 _ after-wide16.wide16.result after-wide16.wide16.ensures.0 _ _ _ g (sym after-kind.kind.ensures ∙ else1.if1.left)
+    (omega (arith, after-run2.run2.given.0)) (omega (arith, after-mass-row.mass_row_lem.kept.1.1.1.1.1.1.0, room.1)) _ _ _ _ refl room.0 c.if2.true
 
 add-fixed-row-requires : tie.Need-add-fixed-row-requires
 add-fixed-row-requires c κs =
     let after-mass-row = to-mass-row (to-run2 c) in
     let after-wide16 = to-wide16 after-mass-row.before in
     let start = to_start after-wide16.before.before in
-    let g = mass-row _ _ _ _ _ _ _ start.pre.0 _ after-wide16.wide16.result after-wide16.wide16.ensures.0 _ _ _ after-mass-row.mass-row.ensures in
-    let few = held-few _ _ _ _ start.pre.3.held in (
+    let g = mass_row_lem _ _ _ _ _ _ _ start.pre.0 _ after-wide16.wide16.result after-wide16.wide16.ensures.0 _ _ _ after-mass-row.mass_row_lem.ensures in
+    let few = held_few _ _ _ _ start.pre.3.held in (
       record {
-        words-room = start.pre.2.words-room;
-        numbers-room = lent-long start.args.numbers.now after-mass-row.mass-row.last.1.1.1.1.1.1.0
-            (2048 + start.args.f.elements) after-mass-row.mass-row.kept.1.1.1.1.1.1.0 start.pre.2.numbers-room;
+        words_room = start.pre.2.words_room;
+        numbers_room = lent_long start.args.numbers.now after-mass-row.mass_row_lem.last.1.1.1.1.1.1.0
+            (2048 + start.args.f.elements) after-mass-row.mass_row_lem.kept.1.1.1.1.1.1.0 start.pre.2.numbers_room;
       },
       g.few,
       few.0,
@@ -111,10 +111,10 @@ returns-3 c =
     let else1 = after-wide16.before in
     let after-kind = else1.before in
     let start = to_start after-kind in
-    let room = lent-room _ _ _ start.pre.3 start.pre.2.numbers-room in
-    let g = mass-row _ _ _ _ _ _ _ start.pre.0 _ after-wide16.wide16.result after-wide16.wide16.ensures.0 _ _ _ after-mass-row.mass-row.ensures in
-    row-added _ _ _ _ _ _ _ start.pre.0 _ after-wide16.wide16.result after-wide16.wide16.ensures.0 _ _ _ g (sym after-kind.kind.ensures ∙ else1.if1.left)
-    (omega (arith, after-run2.run2.given.0)) (omega (arith, after-mass-row.mass-row.kept.1.1.1.1.1.1.0, room.1)) _ _ _ _ refl room.0 _ _ _ _ _
+    let room = lent_room _ _ _ start.pre.3 start.pre.2.numbers_room in
+    let g = mass_row_lem _ _ _ _ _ _ _ start.pre.0 _ after-wide16.wide16.result after-wide16.wide16.ensures.0 _ _ _ after-mass-row.mass_row_lem.ensures in
+    row_added _ _ _ _ _ _ _ start.pre.0 _ after-wide16.wide16.result after-wide16.wide16.ensures.0 _ _ _ g (sym after-kind.kind.ensures ∙ else1.if1.left)
+    (omega (arith, after-run2.run2.given.0)) (omega (arith, after-mass-row.mass_row_lem.kept.1.1.1.1.1.1.0, room.1)) _ _ _ _ refl room.0 _ _ _ _ _
     else2.if2.left refl refl after-add-fixed-row.add-fixed-row.ensures
 
 pub add-mass-row-spec : {M : Type 1} → statement M

@@ -4,17 +4,17 @@ use Prim.Native.Nat.{◌-◌, ◌≤◌}
 use native.Mathlib.Omega.{arith}
 use mathlib.Core.List.{List, ◌++◌}
 use lib.ListN.{length, drop}
-use Rattle.layout.specs.Layout.{shapeMadeAt, wordsLength}
-use Rattle.laws.proofs.Tails.{tail-kept, tail-length}
-use Rattle.pywr.specs.Rows.{columnMap}
-use Rattle.pywr.specs.FixedRows.{massRowsFrom}
-use Rattle.pywr.specs.Programme.{Row, Maker, byMass}
-use Rattle.pywr.specs.Makers.{massMakers}
-use Rattle.pywr.proofs.MakerLaws.{masses-in-turn}
-use Rattle.build_node_row.specs.Tables.{networkOf}
+use Rattle.layout.specs.Layout.{shape_made_at, words_length}
+use Rattle.laws.proofs.Tails.{tail_kept, tail_length}
+use Rattle.pywr.specs.Rows.{column_map}
+use Rattle.pywr.specs.FixedRows.{mass_rows_from}
+use Rattle.pywr.specs.Programme.{Row, Maker, by_mass}
+use Rattle.pywr.specs.Makers.{mass_makers}
+use Rattle.pywr.proofs.MakerLaws.{masses_in_turn}
+use Rattle.build_node_row.specs.Tables.{network_of}
 use Rattle.build_makers.specs.MadeRows.{MadeHeld}
-use Rattle.build_makers.proofs.Making.{Making, making-first, making-holding}
-use Rattle.build_makers.proofs.NodeMakers.{node-more, node_over, node-rise, nodes-done}
+use Rattle.build_makers.proofs.Making.{Making, making_first, making_holding}
+use Rattle.build_makers.proofs.NodeMakers.{node_more, node_over, node_rise, nodes_done_lem}
 use borrow.Author.Rules.{rules}
 use Rattle.build_mass.proofs.create_mass_balance_constraints.Statement.{statement}
 use Rattle.build_mass.proofs.create_mass_balance_constraints.Tie as tie
@@ -22,8 +22,8 @@ use Rattle.build_mass.proofs.create_mass_balance_constraints.Tie as tie
 abbrev invariant-loop : tie.invariant-loop
 invariant-loop s c first-in next-in first_out next-out edge-to-col words₀ numbers₀ columns₀ nodes filled₀ i₀ words numbers columns filled i =
     (i ≤ nodes) × ((rows : List Row) (makers : List Maker) → MadeHeld rows makers words₀ numbers₀ filled₀
-    → Making (rows ++ massRowsFrom (columnMap (networkOf s c)) 0 (networkOf s c).nodes) (massRowsFrom (columnMap (networkOf s c)) i (drop i (networkOf s c).nodes))
-    (makers ++ massMakers (columnMap (networkOf s c)) 0 (networkOf s c).nodes) (massMakers (columnMap (networkOf s c)) i (drop i (networkOf s c).nodes)) words₀ words numbers filled)
+    → Making (rows ++ mass_rows_from (column_map (network_of s c)) 0 (network_of s c).nodes) (mass_rows_from (column_map (network_of s c)) i (drop i (network_of s c).nodes))
+    (makers ++ mass_makers (column_map (network_of s c)) 0 (network_of s c).nodes) (mass_makers (column_map (network_of s c)) i (drop i (network_of s c).nodes)) words₀ words numbers filled)
     × (length words ≡ length words₀) × (length numbers ≡ length numbers₀)
 
 abbrev decreases-loop : tie.decreases-loop
@@ -60,11 +60,11 @@ to-known-told c =
 
 loop-holds : tie.Need-loop-init invariant-loop decreases-loop
 loop-holds c =
-    (search rules, (λ rows makers h. making-first rows _ makers _ _ _ _ h), refl, refl)
+    (search rules, (λ rows makers h. making_first rows _ makers _ _ _ _ h), refl, refl)
 
 narrow16-requires : tie.Need-narrow16-requires invariant-loop decreases-loop
 narrow16-requires c κs =
-    omega (arith, c.loop-test.true, (to_start c.before).pre.0.sections.few-nodes)
+    omega (arith, c.loop-test.true, (to_start c.before).pre.0.sections.few_nodes)
 
 add-mass-row-requires : tie.Need-add-mass-row-requires invariant-loop decreases-loop
 add-mass-row-requires c κs =
@@ -76,11 +76,11 @@ add-mass-row-requires c κs =
       start.pre.0,
       omega (arith, after-narrow16.narrow16.ensures, in-loop.loop-test.true),
       record {
-        words-room = omega (arith, l.2, start.pre.1.words-room);
-        numbers-room = omega
-            (arith, l.3, start.pre.1.numbers-room);
+        words_room = omega (arith, l.2, start.pre.1.words_room);
+        numbers_room = omega
+            (arith, l.3, start.pre.1.numbers_room);
       },
-      making-holding _ _ _ _ _ _ _ _ (l.1 start.pre.2.rows start.pre.2.makers start.pre.2.held),
+      making_holding _ _ _ _ _ _ _ _ (l.1 start.pre.2.rows start.pre.2.makers start.pre.2.held),
     )
 
 same_length : tie.Need-same-length invariant-loop decreases-loop
@@ -94,24 +94,24 @@ same-length-2 c =
     after-add-mass-row.add-mass-row.kept.1.1.1.1.1.1.1.1.1.0 ∙ (to-in-loop after-add-mass-row).before.loop.inv.3
 
 returns : tie.Need-returns invariant-loop decreases-loop
-unfolding massMakers
+unfolding mass_makers
 returns c =
     let after-add-mass-row = to-add-mass-row c.before.before in
     let after-narrow16 = to-narrow16 after-add-mass-row in
     let in-loop = after-narrow16.before in
     let at-loop = in-loop.before in
-    λ rows makers h. node_over byMass (massRowsFrom _) (masses-in-turn _) _ _ _ _ _ _ _ _ _ _ _ _ (at-loop.loop.inv.1 rows makers h)
+    λ rows makers h. node_over by_mass (mass_rows_from _) (masses_in_turn _) _ _ _ _ _ _ _ _ _ _ _ _ (at-loop.loop.inv.1 rows makers h)
     in-loop.loop-test.taken _ after-narrow16.narrow16.ensures _ _ _ after-add-mass-row.add-mass-row.ensures c.enum_told.given.1
 
 -- the words after the rows are long enough
-room : (c : tie.After-known-told invariant-loop decreases-loop) → wordsLength ≤ length (to-add-mass-row (to-slice-known4 c)).add-mass-row.last.1.1.1.1.1.1.1.1.0
+room : (c : tie.After-known-told invariant-loop decreases-loop) → words_length ≤ length (to-add-mass-row (to-slice-known4 c)).add-mass-row.last.1.1.1.1.1.1.1.1.0
 room c =
     let after-add-mass-row = to-add-mass-row (to-slice-known4 c) in
     let at-loop = (to-in-loop after-add-mass-row).before in
-    omega (arith, after-add-mass-row.add-mass-row.kept.1.1.1.1.1.1.1.1.0, at-loop.loop.inv.2, (to_start at-loop).pre.1.words-room)
+    omega (arith, after-add-mass-row.add-mass-row.kept.1.1.1.1.1.1.1.1.0, at-loop.loop.inv.2, (to_start at-loop).pre.1.words_room)
 
 put-makers-requires : tie.Need-put-makers-requires invariant-loop decreases-loop
-unfolding massMakers
+unfolding mass_makers
 put-makers-requires c κs =
     let after-known-told = c.before in
     let after-add-mass-row = to-add-mass-row (to-slice-known4 after-known-told) in
@@ -120,16 +120,16 @@ put-makers-requires c κs =
     let at-loop = in-loop.before in
     let start = to_start at-loop in
     let h = start.pre.2 in
-    let rise = node-rise byMass (massRowsFrom _) (masses-in-turn _) _ _ _ _ _ _ _ _ _ _ _ _ (at-loop.loop.inv.1 h.rows h.makers h.held)
+    let rise = node_rise by_mass (mass_rows_from _) (masses_in_turn _) _ _ _ _ _ _ _ _ _ _ _ _ (at-loop.loop.inv.1 h.rows h.makers h.held)
     in-loop.loop-test.taken _ after-narrow16.narrow16.ensures _ _ _ after-add-mass-row.add-mass-row.ensures _ after-known-told.before.r.given.1 in
-    (rise.0, rise.1, omega (arith, room after-known-told, tail-length shapeMadeAt after-add-mass-row.add-mass-row.last.1.1.1.1.1.1.1.1.0))
+    (rise.0, rise.1, omega (arith, room after-known-told, tail_length shape_made_at after-add-mass-row.add-mass-row.last.1.1.1.1.1.1.1.1.0))
 
 part-put-makers : tie.Need-slice-bounds-put-makers-start invariant-loop decreases-loop
 part-put-makers c =
     omega (arith, room c)
 
 loop-again : tie.Need-loop-preserved invariant-loop decreases-loop
-unfolding massMakers
+unfolding mass_makers
 loop-again c =
     let after-put-makers = c.before.before in
     let after-known-told = to-known-told c in
@@ -139,10 +139,10 @@ loop-again c =
     let at-loop = in-loop.before in
     let words₁ = after-add-mass-row.add-mass-row.last.1.1.1.1.1.1.1.1.0 in (
       omega (arith, in-loop.loop-test.taken),
-      (λ rows makers h. node-more byMass (massRowsFrom _) (masses-in-turn _) _ _ _ _ _ _ _ _ _ _ _ _ (at-loop.loop.inv.1 rows makers h)
+      (λ rows makers h. node_more by_mass (mass_rows_from _) (masses_in_turn _) _ _ _ _ _ _ _ _ _ _ _ _ (at-loop.loop.inv.1 rows makers h)
           in-loop.loop-test.taken _ after-narrow16.narrow16.ensures _ _ _ after-add-mass-row.add-mass-row.ensures _ after-known-told.before.r.given.1
           _ (room after-known-told) after-put-makers.put-makers.ensures),
-      tail-kept shapeMadeAt words₁ after-put-makers.put-makers.new.0 after-put-makers.put-makers.auto.0
+      tail_kept shape_made_at words₁ after-put-makers.put-makers.new.0 after-put-makers.put-makers.auto.0
           ∙ after-add-mass-row.add-mass-row.kept.1.1.1.1.1.1.1.1.0 ∙ at-loop.loop.inv.2,
       after-add-mass-row.add-mass-row.kept.1.1.1.1.1.1.1.1.1.0 ∙ at-loop.loop.inv.3,
     )
@@ -156,10 +156,10 @@ same-length-4 c =
     c.before.loop.invariant.3
 
 returns-2 : tie.Need-returns-2 invariant-loop decreases-loop
-unfolding massMakers
+unfolding mass_makers
 returns-2 c =
     let at-loop = c.before in
-    λ rows makers h. nodes-done byMass (massRowsFrom _) (masses-in-turn _) _ _ _ _ _ _ _ _ _ _ _ _ (at-loop.loop.invariant.1 rows makers h) c.loop-test.false
+    λ rows makers h. nodes_done_lem by_mass (mass_rows_from _) (masses_in_turn _) _ _ _ _ _ _ _ _ _ _ _ _ (at-loop.loop.invariant.1 rows makers h) c.loop-test.false
 
 pub create-mass-balance-constraints-spec : {M : Type 1} → statement M
 create-mass-balance-constraints-spec =

@@ -1,6 +1,6 @@
 -- `build_node_request::request_bounded_row` meets its contract. Assumes nothing.
 use native.Mathlib.Omega.{arith}
-use Rattle.build_node_table.proofs.Table.{rows-lent, request-lent}
+use Rattle.build_node_table.proofs.Table.{rows_lent, request_lent}
 use borrow.Author.Rules.{rules}
 use Rattle.build_node_request.proofs.request_bounded_row.Statement.{statement}
 use Rattle.build_node_request.proofs.request_bounded_row.Tie as tie
@@ -28,12 +28,12 @@ add-node-row-requires c κs =
     let start = to_start after-bounded-row in
     let h = start.pre.6 in
     let ys = after-bounded-row.bounded-row.last.1.1.1.1.1.1.1.1.1.1.1.1.0 in (
-      record { words-room = search rules; numbers-room = search rules },
+      record { words_room = search rules; numbers_room = search rules },
       after-bounded-row.bounded-row.ensures.few,
       after-bounded-row.bounded-row.ensures.rising,
-      record { asks = h.asks; held = rows-lent _ h.asks _ _ ys _ start.pre.5.numbers-room h.held },
+      record { asks = h.asks; held = rows_lent _ h.asks _ _ ys _ start.pre.5.numbers_room h.held },
       start.pre.7,
-      omega (arith, start.pre.0.sections.few-nodes, start.pre.1),
+      omega (arith, start.pre.0.sections.few_nodes, start.pre.1),
       start.pre.3,
       start.pre.4,
     )
@@ -44,9 +44,9 @@ returns c =
     let after-bounded-row = to-bounded-row after-add-node-row.before in
     let start = to_start after-bounded-row in
     let ys = after-bounded-row.bounded-row.last.1.1.1.1.1.1.1.1.1.1.1.1.0 in
-    let long = start.pre.5.numbers-room in
-    λ t et asks h. request-lent _ asks _ _ ys _ long h _ _ _ _ _ _ _ _ _ after-bounded-row.bounded-row.ensures.is
-    (after-add-node-row.add-node-row.ensures t et asks (rows-lent _ asks _ _ ys _ long h))
+    let long = start.pre.5.numbers_room in
+    λ t et asks h. request_lent _ asks _ _ ys _ long h _ _ _ _ _ _ _ _ _ after-bounded-row.bounded-row.ensures.is
+    (after-add-node-row.add-node-row.ensures t et asks (rows_lent _ asks _ _ ys _ long h))
 
 pub request-bounded-row-spec : {M : Type 1} → statement M
 request-bounded-row-spec =

@@ -3,17 +3,17 @@ use mathlib.Core.Path.{refl}
 use native.Mathlib.Omega.{arith}
 use lib.Ieee.{of_bits}
 use Rattle.pywr.specs.Numbers.{one64}
-use Rattle.pywr.specs.Misshapen.{columnsRise}
-use Rattle.pywr.specs.Written.{rowTypeWord}
+use Rattle.pywr.specs.Misshapen.{columns_rise}
+use Rattle.pywr.specs.Written.{row_type_word}
 use Rattle.pywr.specs.Programme.{continuous}
-use Rattle.build_node_table.proofs.Table.{rows-lent, request-lent}
-use Rattle.build_node_request.proofs.NodeGathered.{node-gathered}
+use Rattle.build_node_table.proofs.Table.{rows_lent, request_lent}
+use Rattle.build_node_request.proofs.NodeGathered.{node_gathered}
 use borrow.Author.Rules.{rules}
 use Rattle.build_node_request.proofs.request_node_row.Statement.{statement}
 use Rattle.build_node_request.proofs.request_node_row.Tie as tie
 
 add-node-requires : tie.Need-add-node-requires
-unfolding columnsRise
+unfolding columns_rise
 add-node-requires c κs =
     search rules
 
@@ -39,27 +39,27 @@ add-node-row-requires c κs =
     let after-add-node = to-add-node c in
     let start = to_start after-add-node in
     let h = start.pre.3 in
-    let ys = after-add-node.add-node.last.1.1.1.1.1.1.1.1.1.1.0 in (
-      record { words-room = search rules; numbers-room = search rules },
-      after-add-node.add-node.ensures.few,
-      after-add-node.add-node.ensures.rising,
-      record { asks = h.asks; held = rows-lent _ h.asks _ _ ys _ start.pre.2.numbers-room h.held },
+    let ys = after-add-node.add_node_lem.last.1.1.1.1.1.1.1.1.1.1.0 in (
+      record { words_room = search rules; numbers_room = search rules },
+      after-add-node.add_node_lem.ensures.few,
+      after-add-node.add_node_lem.ensures.rising,
+      record { asks = h.asks; held = rows_lent _ h.asks _ _ ys _ start.pre.2.numbers_room h.held },
       start.pre.4,
-      omega (arith, start.pre.0.sections.few-nodes, start.pre.1),
+      omega (arith, start.pre.0.sections.few_nodes, start.pre.1),
       omega arith,
       omega arith,
     )
 
 returns : tie.Need-returns
-unfolding one64 of_bits rowTypeWord
+unfolding one64 of_bits row_type_word
 returns c =
     let after-add-node-row = to-add-node-row c in
     let after-add-node = to-add-node after-add-node-row.before in
     let start = to_start after-add-node in
-    let ys = after-add-node.add-node.last.1.1.1.1.1.1.1.1.1.1.0 in
-    let long = start.pre.2.numbers-room in
-    λ asks h. request-lent _ asks _ _ ys _ long h _ _ _ _ _ _ _ _ _ (node-gathered _ _ _ _ _ _ _ _ _ refl after-add-node.add-node.ensures).is
-    (after-add-node-row.add-node-row.ensures continuous refl asks (rows-lent _ asks _ _ ys _ long h))
+    let ys = after-add-node.add_node_lem.last.1.1.1.1.1.1.1.1.1.1.0 in
+    let long = start.pre.2.numbers_room in
+    λ asks h. request_lent _ asks _ _ ys _ long h _ _ _ _ _ _ _ _ _ (node_gathered _ _ _ _ _ _ _ _ _ refl after-add-node.add_node_lem.ensures).is
+    (after-add-node-row.add-node-row.ensures continuous refl asks (rows_lent _ asks _ _ ys _ long h))
 
 pub request-node-row-spec : {M : Type 1} → statement M
 request-node-row-spec =

@@ -1,6 +1,6 @@
 -- `build_node_row::add_node` meets its contract. Assumes nothing.
 use native.Mathlib.Omega.{arith}
-use Rattle.build_node_row.proofs.NodeColumns.{in-listed, out_listed, output-added, outgoing-added, storage-added}
+use Rattle.build_node_row.proofs.NodeColumns.{in_listed, out_listed, output_added, outgoing_added, storage_added}
 use borrow.Author.Rules.{rules}
 use Rattle.build_node_row.proofs.add_node.Statement.{statement}
 use Rattle.build_node_row.proofs.add_node.Tie as tie
@@ -45,7 +45,7 @@ add-columns-requires : tie.Need-add-columns-requires
 add-columns-requires c κs =
     let after-wide16 = to-wide16-from-add-columns-arg3 c in
     let start = after-wide16.before.before.before in
-    (start.pre.2, start.pre.3, start.pre.4, in-listed _ _ _ _ _ _ _ start.pre.0 after-wide16.wide16.result)
+    (start.pre.2, start.pre.3, start.pre.4, in_listed _ _ _ _ _ _ _ start.pre.0 after-wide16.wide16.result)
 
 returns : tie.Need-returns
 returns c =
@@ -54,14 +54,14 @@ returns c =
     let after-kind = then1.before in
     let after-wide16 = after-kind.before in
     let start = after-wide16.before.before.before in
-    output-added _ _ _ _ _ _ _ start.pre.0 _ after-wide16.wide16.result after-wide16.wide16.ensures.0 start.pre.1 _ after-kind.kind.ensures _ _ _ _ _ _ _
+    output_added _ _ _ _ _ _ _ start.pre.0 _ after-wide16.wide16.result after-wide16.wide16.ensures.0 start.pre.1 _ after-kind.kind.ensures _ _ _ _ _ _ _
     then1.if1.taken after-add-columns.add-columns.ensures
 
 add-columns-requires-2 : tie.Need-add-columns-requires-2
 add-columns-requires-2 c κs =
     let after-wide16 = to-wide16-from-add-columns-arg6 c in
     let start = after-wide16.before.before.before in
-    (start.pre.2, start.pre.3, start.pre.4, in-listed _ _ _ _ _ _ _ start.pre.0 after-wide16.wide16.result)
+    (start.pre.2, start.pre.3, start.pre.4, in_listed _ _ _ _ _ _ _ start.pre.0 after-wide16.wide16.result)
 
 add-columns-requires-3 : tie.Need-add-columns-requires-3
 add-columns-requires-3 c κs =
@@ -82,7 +82,7 @@ returns-2 c =
     let after-kind = then2.before.before in
     let after-wide16 = after-kind.before in
     let start = after-wide16.before.before.before in
-    storage-added _ _ _ _ _ _ _ start.pre.0 _ after-wide16.wide16.result after-wide16.wide16.ensures.0 start.pre.1 _ after-kind.kind.ensures _ _ _ _ _ _ _ _ _ _
+    storage_added _ _ _ _ _ _ _ start.pre.0 _ after-wide16.wide16.result after-wide16.wide16.ensures.0 start.pre.1 _ after-kind.kind.ensures _ _ _ _ _ _ _ _ _ _
     then2.if2.taken after-add-columns2.add-columns2.ensures after-add-columns3.add-columns3.ensures
 
 add-columns-requires-4 : tie.Need-add-columns-requires-4
@@ -99,7 +99,7 @@ returns-3 c =
     let after-kind = else1.before in
     let after-wide16 = after-kind.before in
     let start = after-wide16.before.before.before in
-    outgoing-added _ _ _ _ _ _ _ start.pre.0 _ after-wide16.wide16.result after-wide16.wide16.ensures.0 start.pre.1 _ after-kind.kind.ensures _ _ _ _ _ _ _
+    outgoing_added _ _ _ _ _ _ _ start.pre.0 _ after-wide16.wide16.result after-wide16.wide16.ensures.0 start.pre.1 _ after-kind.kind.ensures _ _ _ _ _ _ _
     else1.if1.left else2.if2.left after-add-columns4.add-columns4.ensures
 
 pub add-node-spec : {M : Type 1} → statement M

@@ -1,15 +1,15 @@
 -- `build_node_row::bounded_row` meets its contract. Assumes nothing.
 use mathlib.Core.Path.{◌∙◌, ap}
-use Rattle.pywr.specs.Misshapen.{columnsRise}
-use Rattle.pywr.specs.Store.{elementsOf}
-use Rattle.pywr.specs.Rows.{addElement}
+use Rattle.pywr.specs.Misshapen.{columns_rise}
+use Rattle.pywr.specs.Store.{elements_of}
+use Rattle.pywr.specs.Rows.{add_element}
 use Rattle.build_row.specs.RowBuilder.{gathered}
 use borrow.Author.Rules.{rules}
 use Rattle.build_node_row.proofs.bounded_row.Statement.{statement}
 use Rattle.build_node_row.proofs.bounded_row.Tie as tie
 
 add-node-requires : tie.Need-add-node-requires
-unfolding columnsRise
+unfolding columns_rise
 add-node-requires c κs =
     search rules
 
@@ -20,15 +20,15 @@ to-add-node c =
     after-slice-known2.before.before
 
 returns : tie.Need-returns
-unfolding gathered elementsOf
+unfolding gathered elements_of
 returns c =
     let after-add-element = c.before.before in
     let after-add-node = to-add-node after-add-element in
     record {
-      is = after-add-element.add-element.ensures.row
-          ∙ ap (addElement _ _) after-add-node.add-node.ensures.row;
-      rising = after-add-element.add-element.ensures.rising;
-      few = after-add-element.add-element.ensures.few;
+      is = after-add-element.add_element_lem.ensures.row
+          ∙ ap (add_element _ _) after-add-node.add_node_lem.ensures.row;
+      rising = after-add-element.add_element_lem.ensures.rising;
+      few = after-add-element.add_element_lem.ensures.few;
     }
 
 pub bounded-row-spec : {M : Type 1} → statement M

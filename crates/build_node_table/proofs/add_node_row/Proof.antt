@@ -2,12 +2,12 @@
 use mathlib.Core.Path.{◌≡◌}
 use Prim.Native.Nat.{ℕ, ◌<◌}
 use native.Mathlib.Omega.{arith}
-use Rattle.layout.specs.Layout.{shapeMadeAt}
-use Rattle.laws.proofs.Tails.{tail-length}
+use Rattle.layout.specs.Layout.{shape_made_at}
+use Rattle.laws.proofs.Tails.{tail_length}
 use Rattle.build_append.specs.declared.Filled.{Filled}
 use Rattle.build_join.specs.declared.VariableRow.TheVariants.{At}
 use Rattle.build_node_table.specs.NodeTable.{joined}
-use Rattle.build_node_table.proofs.Table.{place-fits, row-full, row-placed}
+use Rattle.build_node_table.proofs.Table.{place_fits, row_full, row_placed}
 use borrow.Author.Rules.{rules}
 use Rattle.build_node_table.proofs.add_node_row.Statement.{statement}
 use Rattle.build_node_table.proofs.add_node_row.Tie as tie
@@ -32,7 +32,7 @@ to-slice-known4 c =
 row_under : (c : tie.After-add-variable-row) (k : ℕ) (g : Filled) → c.add-variable-row.result ≡ At k g → k < 1024
 row_under c k g e =
     let h = (to_start c).requires.3 in
-    place-fits _ (joined h.asks).rows _ _ _ _ _ (c.add-variable-row.ensures (joined h.asks).rows h.held.held) k g e
+    place_fits _ (joined h.asks).rows _ _ _ _ _ (c.add-variable-row.ensures (joined h.asks).rows h.held.held) k g e
 
 narrow16-requires : tie.Need-narrow16-requires
 narrow16-requires c κs =
@@ -44,7 +44,7 @@ put-node-row-requires c κs =
     let after-add-variable-row = to-add-variable-row (to-slice-known4 c.before) in
     let start = to_start after-add-variable-row in
     let under = row_under after-add-variable-row _ _ c.before.before.before.r.given.1 in (
-      omega (arith, tail-length shapeMadeAt after-add-variable-row.add-variable-row.last.0, after-add-variable-row.add-variable-row.kept.0, start.pre.0.words-room, start.pre.4),
+      omega (arith, tail_length shape_made_at after-add-variable-row.add-variable-row.last.0, after-add-variable-row.add-variable-row.kept.0, start.pre.0.words_room, start.pre.4),
       start.pre.5,
       start.pre.6,
       omega (arith, c.narrow16.ensures),
@@ -53,7 +53,7 @@ put-node-row-requires c κs =
 
 returns : tie.Need-returns
 returns c =
-    λ t et asks h. row-full _ asks _ _ _ _ _ _ _ h ((to-add-variable-row c.before.before).add-variable-row.ensures (joined asks).rows h.held) c.enum_told.given.1
+    λ t et asks h. row_full _ asks _ _ _ _ _ _ _ h ((to-add-variable-row c.before.before).add-variable-row.ensures (joined asks).rows h.held) c.enum_told.given.1
 
 returns-2 : tie.Need-returns-2
 returns-2 c =
@@ -63,10 +63,10 @@ returns-2 c =
     let after-add-variable-row = to-add-variable-row after-r.before.before in
     let start = to_start after-add-variable-row in
     let room = start.pre.4 in
-    let long = start.pre.0.words-room in
+    let long = start.pre.0.words_room in
     let kept = after-add-variable-row.add-variable-row.kept.0 in
     λ t et asks h.
-    row-placed _ asks _ _ _ _ _ _ _ h (after-add-variable-row.add-variable-row.ensures (joined asks).rows h.held) _ _ after-r.r.given.1 _ _ _
+    row_placed _ asks _ _ _ _ _ _ _ h (after-add-variable-row.add-variable-row.ensures (joined asks).rows h.held) _ _ after-r.r.given.1 _ _ _
     after-narrow16.narrow16.ensures et start.pre.5 (omega arith) after-put-node-row.put-node-row.ensures
 
 pub add-node-row-spec : {M : Type 1} → statement M

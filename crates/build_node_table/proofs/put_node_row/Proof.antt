@@ -2,8 +2,8 @@
 use Prim.Native.Nat.{◌+◌, ◌*◌}
 use native.Mathlib.Omega.{arith}
 use lib.ListN.{length-set}
-use Rattle.layout.specs.Layout.{nodeRowsAt}
-use Rattle.build_node_table.proofs.Table.{two-words}
+use Rattle.layout.specs.Layout.{node_rows_at}
+use Rattle.build_node_table.proofs.Table.{two_words}
 use borrow.Author.Rules.{rules}
 use Rattle.build_node_table.proofs.put_node_row.Statement.{statement}
 use Rattle.build_node_table.proofs.put_node_row.Tie as tie
@@ -15,7 +15,7 @@ slice-write-shape-2 c =
 returns : tie.Need-returns
 returns c =
     let a = c.before.args in
-    two-words a.shape.now (nodeRowsAt + 2 * a.i) (a.node.0 + 256 * a.set) (a.row + 1024 * a.row_type)
+    two_words a.shape.now (node_rows_at + 2 * a.i) (a.node.0 + 256 * a.set) (a.row + 1024 * a.row_type)
 
 pub put-node-row-spec : {M : Type 1} → statement M
 put-node-row-spec =

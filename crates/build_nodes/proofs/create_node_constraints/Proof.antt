@@ -3,20 +3,20 @@ use mathlib.Core.Path.{◌≡◌, refl, ◌∙◌}
 use Prim.Native.Nat.{◌+◌, ◌-◌}
 use native.Mathlib.Omega.{arith}
 use lib.ListN.{length}
-use Rattle.pywr.specs.Rows.{columnMap}
-use Rattle.build_node_row.specs.Tables.{networkOf}
-use Rattle.build_node_table.specs.NodeTable.{NodeRowsHeld, requestsBefore}
-use Rattle.build_nodes.proofs.NodeOrder.{node-under, order-first, order-full, order-done}
+use Rattle.pywr.specs.Rows.{column_map}
+use Rattle.build_node_row.specs.Tables.{network_of}
+use Rattle.build_node_table.specs.NodeTable.{NodeRowsHeld, requests_before}
+use Rattle.build_nodes.proofs.NodeOrder.{node_under, order_first, order_full, order_done}
 use borrow.Author.Rules.{rules}
 use Rattle.build_nodes.proofs.create_node_constraints.Statement.{statement}
 use Rattle.build_nodes.proofs.create_node_constraints.Tie as tie
 
 abbrev invariant-loop : tie.invariant-loop
-invariant-loop s c first-in next-in first_out next-out edge-to-col edge-columns first-membership next-membership sentinel words₀ numbers₀ columns₀ nodes rows₀ i₀ words numbers columns rows i =
-    NodeRowsHeld sentinel (requestsBefore (columnMap (networkOf s c)) i) words numbers rows × (length words ≡ length words₀) × (length numbers ≡ length numbers₀)
+invariant-loop s c first-in next-in first_out next-out edge-to-col edge_columns_lem first-membership next-membership sentinel words₀ numbers₀ columns₀ nodes rows₀ i₀ words numbers columns rows i =
+    NodeRowsHeld sentinel (requests_before (column_map (network_of s c)) i) words numbers rows × (length words ≡ length words₀) × (length numbers ≡ length numbers₀)
 
 abbrev decreases-loop : tie.decreases-loop
-decreases-loop s c first-in next-in first_out next-out edge-to-col edge-columns first-membership next-membership sentinel words₀ numbers₀ columns₀ nodes rows₀ i₀ words numbers columns rows i = nodes - i
+decreases-loop s c first-in next-in first_out next-out edge-to-col edge_columns_lem first-membership next-membership sentinel words₀ numbers₀ columns₀ nodes rows₀ i₀ words numbers columns rows i = nodes - i
 
 -- from a place to an earlier one
 abbrev to_start : tie.At-loop invariant-loop decreases-loop → tie.Start invariant-loop decreases-loop
@@ -42,11 +42,11 @@ to-loop c =
 
 loop-holds : tie.Need-loop-init invariant-loop decreases-loop
 loop-holds c =
-    (order-first _ _ _ _ _ _ _ c.before.before.before.requires.0 _ _ _ _ c.before.before.before.requires.4, refl, refl)
+    (order_first _ _ _ _ _ _ _ c.before.before.before.requires.0 _ _ _ _ c.before.before.before.requires.4, refl, refl)
 
 narrow16-requires : tie.Need-narrow16-requires invariant-loop decreases-loop
 narrow16-requires c κs =
-    let under = node-under _ _ _ _ _ _ _ (to_start c.before).pre.0 _ c.loop-test.true in
+    let under = node_under _ _ _ _ _ _ _ (to_start c.before).pre.0 _ c.loop-test.true in
     omega arith
 
 request-rows-requires : tie.Need-request-rows-requires invariant-loop decreases-loop
@@ -62,7 +62,7 @@ request-rows-requires c κs =
       omega (arith, c.before.before.before.narrow16.ensures, in-loop.loop-test.true),
       p.1,
       p.2,
-      record { words-room = omega (arith, p.3.words-room, l.1); numbers-room = omega (arith, p.3.numbers-room, l.2) },
+      record { words_room = omega (arith, p.3.words_room, l.1); numbers_room = omega (arith, p.3.numbers_room, l.2) },
       rw c.before.before.before.narrow16.ensures l.0,
     )
 
@@ -79,7 +79,7 @@ returns c =
     let after-request-rows = to-request-rows c in
     let after-narrow16 = to-narrow16 after-request-rows in
     let start = to_start after-narrow16.before.before in
-    order-full _ _ _ _ _ _ _ start.pre.0 _ _ _ (after-narrow16.narrow16.result + 1) _ after-request-rows.request-rows.ensures c.enum_told.given.1
+    order_full _ _ _ _ _ _ _ start.pre.0 _ _ _ (after-narrow16.narrow16.result + 1) _ after-request-rows.request-rows.ensures c.enum_told.given.1
 
 loop-again : tie.Need-loop-preserved invariant-loop decreases-loop
 loop-again c =
@@ -105,7 +105,7 @@ same-length-4 c =
 
 returns-2 : tie.Need-returns-2 invariant-loop decreases-loop
 returns-2 c =
-    order-done _ _ _ _ _ _ _ (to_start c.before).pre.0 _ _ _ _ _ c.loop-test.false c.before.loop.invariant.0
+    order_done _ _ _ _ _ _ _ (to_start c.before).pre.0 _ _ _ _ _ c.loop-test.false c.before.loop.invariant.0
 
 pub create-node-constraints-spec : {M : Type 1} → statement M
 create-node-constraints-spec =

@@ -1,13 +1,13 @@
 -- `build_nodes::request_rows` meets its contract: `NodeOrder.antt` has what a node asks for. Assumes nothing.
 use native.Mathlib.Omega.{arith}
-use Rattle.build_nodes.proofs.NodeOrder.{node-within, node-under, constant-after, own_room, own-after, listed-room, listed-after}
+use Rattle.build_nodes.proofs.NodeOrder.{node_within, node_under, constant_after, own_room, own_after, listed_room, listed_after}
 use borrow.Author.Rules.{rules}
 use Rattle.build_nodes.proofs.request_rows.Statement.{statement}
 use Rattle.build_nodes.proofs.request_rows.Tie as tie
 
 is-constant-requires : tie.Need-is-constant-requires
 is-constant-requires c κs =
-    node-within _ _ _ _ _ _ _ c.before.before.before.requires.0 _ c.before.before.before.requires.1
+    node_within _ _ _ _ _ _ _ c.before.before.before.requires.0 _ c.before.before.before.requires.1
 
 -- from a place to an earlier one
 abbrev to_start : tie.After-is-constant → tie.Start
@@ -38,12 +38,12 @@ to-request-node-row c =
 returns : tie.Need-returns
 returns c =
     let p = (to_start c.before).requires in
-    constant-after _ _ _ _ _ _ _ p.0 _ p.1 _ c.before.is-constant.ensures c.if1.true _ _ _ _ p.5
+    constant_after _ _ _ _ _ _ _ p.0 _ p.1 _ c.before.is-constant.ensures c.if1.true _ _ _ _ p.5
 
 element-copy-out-if2 : tie.Need-element-copy-out-if2
 element-copy-out-if2 c =
     let start = to_start c.before.before in
-    let under = node-under _ _ _ _ _ _ _ start.pre.0 _ start.pre.1 in
+    let under = node_under _ _ _ _ _ _ _ start.pre.0 _ start.pre.1 in
     omega (arith, c.wide16.ensures.0)
 
 request-node-row-requires : tie.Need-request-node-row-requires
@@ -71,7 +71,7 @@ returns-2 c =
     let after-is-constant = else1.before in
     let start = to_start after-is-constant in
     let p = start.pre in
-    own-after _ _ _ _ _ _ _ p.0 _ _ p.3 _ _ after-wide16.wide16.ensures.0 p.1 _ after-is-constant.is-constant.ensures else1.if1.left
+    own_after _ _ _ _ _ _ _ p.0 _ _ p.3 _ _ after-wide16.wide16.ensures.0 p.1 _ after-is-constant.is-constant.ensures else1.if1.left
     then2.if2.taken _ _ _ _ (after-request-node-row.request-node-row.ensures _ p.5)
 
 request-exclusive-rows-requires : tie.Need-request-exclusive-rows-requires
@@ -88,7 +88,7 @@ request-exclusive-rows-requires c κs =
       p.3,
       p.4,
       p.5,
-      listed-room _ _ _ _ _ _ _ p.0 _ _ p.3 _ _ after-wide16.wide16.ensures.0 p.1 _
+      listed_room _ _ _ _ _ _ _ p.0 _ _ p.3 _ _ after-wide16.wide16.ensures.0 p.1 _
           after-is-constant.is-constant.ensures else1.if1.false else2.if2.false,
     )
 
@@ -101,7 +101,7 @@ returns-3 c =
     let after-is-constant = else1.before in
     let start = to_start after-is-constant in
     let p = start.pre in
-    listed-after _ _ _ _ _ _ _ p.0 _ _ p.3 _ _ after-wide16.wide16.ensures.0 p.1 _ after-is-constant.is-constant.ensures else1.if1.left
+    listed_after _ _ _ _ _ _ _ p.0 _ _ p.3 _ _ after-wide16.wide16.ensures.0 p.1 _ after-is-constant.is-constant.ensures else1.if1.left
     else2.if2.left _ _ _ _ after-request-exclusive-rows.request-exclusive-rows.ensures
 
 pub request-rows-spec : {M : Type 1} → statement M

@@ -1,7 +1,7 @@
 -- `build_programme::assemble_columns` meets its contract. Assumes nothing.
 use native.Mathlib.Omega.{arith}
-use Rattle.build_incident_edges.proofs.PassedEdges.{from-under, to-under}
-use Rattle.build_programme.proofs.Columns.{mapped-so}
+use Rattle.build_incident_edges.proofs.PassedEdges.{from_under, to_under}
+use Rattle.build_programme.proofs.Columns.{mapped_so}
 use borrow.Author.Rules.{rules}
 use Rattle.build_programme.proofs.assemble_columns.Statement.{statement}
 use Rattle.build_programme.proofs.assemble_columns.Tie as tie
@@ -26,12 +26,12 @@ to-map-edges c =
 list-edges-requires : tie.Need-list-edges-requires
 list-edges-requires c κs =
     let s = (to_start c).requires.1 in
-    (s.few-nodes, s.few-edges, omega (arith, s.fixed, s.inside), λ e h. to-under _ _ _ s.edges-pass e h)
+    (s.few_nodes, s.few_edges, omega (arith, s.fixed, s.inside), λ e h. to_under _ _ _ s.edges_pass e h)
 
 list-edges-requires-2 : tie.Need-list-edges-requires-2
 list-edges-requires-2 c κs =
     let s = (to_start c.before.before.before).requires.1 in
-    (s.few-nodes, s.few-edges, omega (arith, s.fixed, s.inside), λ e h. from-under _ _ _ s.edges-pass e h)
+    (s.few_nodes, s.few_edges, omega (arith, s.fixed, s.inside), λ e h. from_under _ _ _ s.edges_pass e h)
 
 map-edges-requires : tie.Need-map-edges-requires
 map-edges-requires c κs =
@@ -39,7 +39,7 @@ map-edges-requires c κs =
     let after-list-edges = after-list-edges2.before.before.before in
     let start = to_start after-list-edges.before in
     let s = start.pre.1 in
-    (s.few-nodes, s.few-edges, omega (arith, s.fixed, s.inside), (λ e h. from-under _ _ _ s.edges-pass e h), after-list-edges.list-edges.ensures, after-list-edges2.list-edges2.ensures)
+    (s.few_nodes, s.few_edges, omega (arith, s.fixed, s.inside), (λ e h. from_under _ _ _ s.edges_pass e h), after-list-edges.list-edges.ensures, after-list-edges2.list-edges2.ensures)
 
 assemble-rows-requires : tie.Need-assemble-rows-requires
 assemble-rows-requires c κs =
@@ -54,9 +54,9 @@ assemble-rows-requires c κs =
         sections = start.pre.1;
         into = after-list-edges.list-edges.ensures;
         out_of = after-list-edges2.list-edges2.ensures;
-        mapped = mapped-so _ _ _ m;
+        mapped = mapped_so _ _ _ m;
       },
-      m.count-is,
+      m.count_is,
       start.pre.2,
     )
 

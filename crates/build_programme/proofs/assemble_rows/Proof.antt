@@ -1,6 +1,6 @@
 -- `build_programme::assemble_rows` meets its contract. Assumes nothing.
 use mathlib.Core.Path.{◌≡◌, refl, ◌∙◌}
-use Rattle.build_rows.proofs.Finish.{sets-refused}
+use Rattle.build_rows.proofs.Finish.{sets_refused}
 use borrow.Author.Rules.{rules}
 use Rattle.build_programme.proofs.assemble_rows.Statement.{statement}
 use Rattle.build_programme.proofs.assemble_rows.Tie as tie
@@ -43,7 +43,7 @@ returns : tie.Need-returns
 returns c =
     let after-collect-sets = c.before.before in
     let start = to_start after-collect-sets in
-    sets-refused start.args.sentinel _ start.args.c _ _ _ _ _ start.pre.0 _ _ (after-collect-sets.collect-sets.ensures.over c.enum_told.given.1)
+    sets_refused start.args.sentinel _ start.args.c _ _ _ _ _ start.pre.0 _ _ (after-collect-sets.collect-sets.ensures.over c.enum_told.given.1)
 
 pub assemble-rows-spec : {M : Type 1} → statement M
 assemble-rows-spec =

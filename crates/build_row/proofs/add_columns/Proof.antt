@@ -3,7 +3,7 @@ use mathlib.Core.Path.{◌≡◌, refl, ◌∙◌}
 use native.Mathlib.Omega.{arith}
 use lib.ListN.{length}
 use Rattle.build_row.specs.RowBuilder.{gathered}
-use Rattle.build_row.proofs.Walk.{Walk, Ahead, ahead, above, above-falls, walk_first, walk-next, walk-done}
+use Rattle.build_row.proofs.Walk.{Walk, Ahead, ahead, above, above_falls, walk_first, walk_next, walk_done}
 use borrow.Author.Rules.{rules}
 use Rattle.build_row.proofs.add_columns.Statement.{statement}
 use Rattle.build_row.proofs.add_columns.Tie as tie
@@ -74,17 +74,17 @@ element-copy-out-link c =
 loop-less : tie.Need-loop-smaller invariant-loop decreases-loop
 loop-less c =
     let h = here (to-wide16 c.before) in
-    above-falls _ _ (to-in-loop c).loop-test.true (omega arith) h.higher
+    above_falls _ _ (to-in-loop c).loop-test.true (omega arith) h.higher
 
 loop-again : tie.Need-loop-preserved invariant-loop decreases-loop
 loop-again c =
     let w = (to-loop (to-t13 c)).loop.inv in
-    (walk-next _ _ _ _ _ _ _ _ _ w.0 _ (here (to-wide16 c.before)) _ _ _ c.before.before.before.add-element.ensures, c.before.before.before.add-element.auto.1.0 ∙ w.1)
+    (walk_next _ _ _ _ _ _ _ _ _ w.0 _ (here (to-wide16 c.before)) _ _ _ c.before.before.before.add_element_lem.ensures, c.before.before.before.add_element_lem.auto.1.0 ∙ w.1)
 
 returns : tie.Need-returns invariant-loop decreases-loop
 returns c =
     let w = c.before.loop.invariant.0 in
-    record { row = walk-done _ _ _ _ _ _ _ _ _ w c.loop-test.false; rising = w.rising; few = w.few }
+    record { row = walk_done _ _ _ _ _ _ _ _ _ w c.loop-test.false; rising = w.rising; few = w.few }
 
 pub add-columns-spec : {M : Type 1} → statement M
 add-columns-spec =

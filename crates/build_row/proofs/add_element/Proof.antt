@@ -4,7 +4,7 @@ use mathlib.Core.Path.{◌≡◌}
 use mathlib.Core.Logic.{⊎_elim}
 use native.Mathlib.Omega.{arith}
 use lib.ListN.{length}
-use Rattle.build_row.proofs.Added.{Absent, place-free, element-added, element-inserted}
+use Rattle.build_row.proofs.Added.{Absent, place_free, element_added, element_inserted}
 use borrow.Author.Rules.{rules}
 use Rattle.build_row.proofs.add_element.Statement.{statement}
 use Rattle.build_row.proofs.add_element.Tie as tie
@@ -31,13 +31,13 @@ free : (c : tie.Joined1) → (to_start c.before).args.n < 640
 free c =
     let s = to_start c.before in
     let long : length s.args.columns.now ≡ 640 = omega arith in
-    place-free _ _ _ _ long s.pre.0 s.pre.2 s.pre.3 c.before.place_of.ensures (absent c)
+    place_free _ _ _ _ long s.pre.0 s.pre.2 s.pre.3 c.before.place_of.ensures (absent c)
 
 returns : tie.Need-returns
 returns c =
     let s = to_start (to-place-of c) in
     let long : length s.args.columns.now ≡ 640 = omega arith in
-    element-added _ _ _ _ long s.pre.0 s.pre.2 s.pre.3 (to-place-of c).place_of.ensures _ _ s.pre.1 c.before.before.before.if1.true c.before.if2.true
+    element_added _ _ _ _ long s.pre.0 s.pre.2 s.pre.3 (to-place-of c).place_of.ensures _ _ s.pre.1 c.before.before.before.if1.true c.before.if2.true
 
 insert-column-requires : tie.Need-insert-column-requires
 insert-column-requires c κs =
@@ -58,7 +58,7 @@ returns-2 c =
     let after-insert-column = after-insert-element.before.before in
     let joined1 = after-insert-column.before.before in
     rw (after-insert-column.insert-column.ensures, after-insert-element.insert-element.ensures)
-    (element-inserted _ _ _ _ long s.requires.0 s.requires.2 s.requires.3 joined1.before.place_of.ensures _ _ s.requires.1 (absent joined1))
+    (element_inserted _ _ _ _ long s.requires.0 s.requires.2 s.requires.3 joined1.before.place_of.ensures _ _ s.requires.1 (absent joined1))
 
 pub add-element-spec : {M : Type 1} → statement M
 add-element-spec =

@@ -1,7 +1,7 @@
 -- `build_row::place_of` meets its contract: `Search.antt` has the turns of the loop. Assumes nothing.
 use Prim.Native.Nat.{◌-◌}
 use native.Mathlib.Omega.{arith}
-use Rattle.build_row.proofs.Search.{Search, place_none, place-last, search-first, search-up, search-down, search-done}
+use Rattle.build_row.proofs.Search.{Search, place_none, place_last, search_first, search_up, search_down, search_done}
 use borrow.Author.Rules.{rules}
 use Rattle.build_row.proofs.place_of.Statement.{statement}
 use Rattle.build_row.proofs.place_of.Tie as tie
@@ -25,29 +25,29 @@ returns c =
 returns-2 : tie.Need-returns-2 invariant-loop decreases-loop
 returns-2 c =
     let start = c.before.before.before in
-    place-last _ _ _ start.requires.0 start.requires.1 (omega arith) c.if2.true
+    place_last _ _ _ start.requires.0 start.requires.1 (omega arith) c.if2.true
 
 loop-holds : tie.Need-loop-init invariant-loop decreases-loop
 loop-holds c =
     let start = c.before.before.before in
-    search-first _ _ _ start.requires.0 start.requires.1 (omega arith) c.if2.false
+    search_first _ _ _ start.requires.0 start.requires.1 (omega arith) c.if2.false
 
 loop-again : tie.Need-loop-preserved invariant-loop decreases-loop
 loop-again c =
     let at-loop = c.before.before.before in
     let start = to_start at-loop in
-    search-up _ _ _ start.pre.0 start.pre.1 _ _ at-loop.loop.invariant _ (omega arith) c.if3.true
+    search_up _ _ _ start.pre.0 start.pre.1 _ _ at-loop.loop.invariant _ (omega arith) c.if3.true
 
 loop-again-2 : tie.Need-loop-preserved-2 invariant-loop decreases-loop
 loop-again-2 c =
     let at-loop = c.before.before.before in
     let start = to_start at-loop in
-    search-down _ _ _ start.pre.0 start.pre.1 _ _ at-loop.loop.invariant _ (omega arith) (omega arith) c.if3.false
+    search_down _ _ _ start.pre.0 start.pre.1 _ _ at-loop.loop.invariant _ (omega arith) (omega arith) c.if3.false
 
 returns-3 : tie.Need-returns-3 invariant-loop decreases-loop
 returns-3 c =
     let start = to_start c.before in
-    search-done _ _ _ start.pre.0 start.pre.1 _ _ c.before.loop.invariant c.loop-test.false
+    search_done _ _ _ start.pre.0 start.pre.1 _ _ c.before.loop.invariant c.loop-test.false
 
 pub place-of-spec : {M : Type 1} → statement M
 place-of-spec =

@@ -1,16 +1,16 @@
 -- `build_shape::sentinel_word` meets its contract. Assumes nothing.
-use Rattle.pywr.specs.Written.{sentinelWord}
+use Rattle.pywr.specs.Written.{sentinel_word}
 use borrow.Author.Rules.{rules}
 use Rattle.build_shape.proofs.sentinel_word.Statement.{statement}
 use Rattle.build_shape.proofs.sentinel_word.Tie as tie
 
 returns : tie.Need-returns
-unfolding sentinelWord
+unfolding sentinel_word
 returns c =
     rw c.enum_told.given.1
 
 returns-2 : tie.Need-returns-2
-unfolding sentinelWord
+unfolding sentinel_word
 returns-2 c =
     rw c.enum-told2.given.1
 

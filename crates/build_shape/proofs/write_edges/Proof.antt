@@ -4,7 +4,7 @@ use Prim.Native.Nat.{ℕ, ◌-◌, ◌+◌, ◌*◌, ◌≤◌}
 use native.Mathlib.Omega.{arith}
 use lib.ListN.{length-set}
 use Rattle.network_edge.specs.Edge.{edge_at}
-use Rattle.build_shape.proofs.Table.{EdgesWritten, edges_none, edges_more, edges-all}
+use Rattle.build_shape.proofs.Table.{EdgesWritten, edges_none, edges_more, edges_all}
 use borrow.Author.Rules.{rules}
 use Rattle.build_shape.proofs.write_edges.Statement.{statement}
 use Rattle.build_shape.proofs.write_edges.Tie as tie
@@ -85,7 +85,7 @@ same_length c =
 
 returns : tie.Need-returns invariant-loop decreases-loop
 returns c =
-    edges-all _ _ _ _ _ _ _ c.loop-test.false c.before.loop.invariant
+    edges_all _ _ _ _ _ _ _ c.loop-test.false c.before.loop.invariant
 
 pub write-edges-spec : {M : Type 1} → statement M
 write-edges-spec =

@@ -4,8 +4,8 @@ use Prim.Native.Nat.{ℕ, ◌-◌, ◌+◌, ◌*◌, ◌≤◌}
 use mathlib.Core.Bool.{Bool}
 use native.Mathlib.Omega.{arith}
 use lib.ListN.{length-set}
-use Rattle.network_node.specs.Node.{nodeAt}
-use Rattle.build_shape.proofs.Table.{NodesWritten, nodes-none, nodes-more, nodes-all, flag-yes, flag-no}
+use Rattle.network_node.specs.Node.{node_at}
+use Rattle.build_shape.proofs.Table.{NodesWritten, nodes_none, nodes_more, nodes_all, flag_yes, flag_no}
 use borrow.Author.Rules.{rules}
 use Rattle.build_shape.proofs.write_nodes.Statement.{statement}
 use Rattle.build_shape.proofs.write_nodes.Tie as tie
@@ -29,7 +29,7 @@ to-loop c =
 
 loop-holds : tie.Need-loop-init invariant-loop decreases-loop
 loop-holds c =
-    nodes-none _ _ _
+    nodes_none _ _ _
 
 kind-requires : tie.Need-kind-requires invariant-loop decreases-loop
 kind-requires c κs =
@@ -61,9 +61,9 @@ loop-again c =
     let at-loop = in-loop.before in
     let start = at-loop.before.before.before in
     let e = after-narrow16.narrow16.ensures in
-    nodes-more _ _ _ _ _ _ _ in-loop.loop-test.true
-    (after-byte-to-u16.byte-to-u16.ensures.0 ∙ after-kind.kind.ensures ∙ ap (λ (k : ℕ). (nodeAt start.args.s.now (20 * k)).kind) e)
-    (flag-yes _ (sym (after-is-constant.is-constant.ensures ∙ ap (λ (k : ℕ). (nodeAt start.args.s.now (20 * k)).constant) e) ∙ c.if1.true)) at-loop.loop.invariant
+    nodes_more _ _ _ _ _ _ _ in-loop.loop-test.true
+    (after-byte-to-u16.byte-to-u16.ensures.0 ∙ after-kind.kind.ensures ∙ ap (λ (k : ℕ). (node_at start.args.s.now (20 * k)).kind) e)
+    (flag_yes _ (sym (after-is-constant.is-constant.ensures ∙ ap (λ (k : ℕ). (node_at start.args.s.now (20 * k)).constant) e) ∙ c.if1.true)) at-loop.loop.invariant
 
 slice-write-shape-3 : tie.Need-slice-write-shape-3 invariant-loop decreases-loop
 slice-write-shape-3 c =
@@ -82,9 +82,9 @@ loop-again-2 c =
     let at-loop = in-loop.before in
     let start = at-loop.before.before.before in
     let e = after-narrow16.narrow16.ensures in
-    nodes-more _ _ _ _ _ _ _ in-loop.loop-test.true
-    (after-byte-to-u16.byte-to-u16.ensures.0 ∙ after-kind.kind.ensures ∙ ap (λ (k : ℕ). (nodeAt start.args.s.now (20 * k)).kind) e)
-    (flag-no _ (sym (after-is-constant.is-constant.ensures ∙ ap (λ (k : ℕ). (nodeAt start.args.s.now (20 * k)).constant) e) ∙ c.if1.false)) at-loop.loop.invariant
+    nodes_more _ _ _ _ _ _ _ in-loop.loop-test.true
+    (after-byte-to-u16.byte-to-u16.ensures.0 ∙ after-kind.kind.ensures ∙ ap (λ (k : ℕ). (node_at start.args.s.now (20 * k)).kind) e)
+    (flag_no _ (sym (after-is-constant.is-constant.ensures ∙ ap (λ (k : ℕ). (node_at start.args.s.now (20 * k)).constant) e) ∙ c.if1.false)) at-loop.loop.invariant
 
 same_length : tie.Need-same-length invariant-loop decreases-loop
 same_length c =
@@ -92,7 +92,7 @@ same_length c =
 
 returns : tie.Need-returns invariant-loop decreases-loop
 returns c =
-    nodes-all _ _ _ _ _ c.loop-test.false c.before.loop.invariant
+    nodes_all _ _ _ _ _ c.loop-test.false c.before.loop.invariant
 
 pub write-nodes-spec : {M : Type 1} → statement M
 write-nodes-spec =

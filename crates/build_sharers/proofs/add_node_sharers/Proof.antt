@@ -3,16 +3,16 @@ use mathlib.Core.Path.{◌≡◌, ap, ◌∙◌}
 use Prim.Native.Nat.{ℕ, ◌+◌, ◌*◌, ◌%◌, ◌-◌}
 use native.Mathlib.Omega.{arith}
 use lib.ListN.{get_or}
-use Rattle.layout.specs.Layout.{nodeRowsAt}
-use Rattle.pywr.specs.Programme.{byNode}
-use Rattle.build_sharers.specs.Sharers.{nodeAsker}
-use Rattle.build_sharers.proofs.Walk.{Walked, walked_none, walked_more, walked_all, next_under, next-room, word_kept}
+use Rattle.layout.specs.Layout.{node_rows_at}
+use Rattle.pywr.specs.Programme.{by_node}
+use Rattle.build_sharers.specs.Sharers.{node_asker}
+use Rattle.build_sharers.proofs.Walk.{Walked, walked_none, walked_more, walked_all, next_under, next_room, word_kept}
 use borrow.Author.Rules.{rules}
 use Rattle.build_sharers.proofs.add_node_sharers.Statement.{statement}
 use Rattle.build_sharers.proofs.add_node_sharers.Tie as tie
 
 abbrev invariant-loop : tie.invariant-loop
-invariant-loop shape₀ count i₀ shape i = Walked shape₀ (nodeAsker shape₀) count shape i
+invariant-loop shape₀ count i₀ shape i = Walked shape₀ (node_asker shape₀) count shape i
 
 abbrev decreases-loop : tie.decreases-loop
 decreases-loop shape₀ count i₀ shape i = count - i
@@ -51,12 +51,12 @@ slice-read-wide16 c =
 -- the row of node row i is read as it stood
 row_is : (c : tie.After-wide16 invariant-loop decreases-loop)
     → let at-loop : tie.At-loop invariant-loop decreases-loop = to-loop c.before.before in
-    get_or at-loop.loop.shape (nodeRowsAt + 2 * at-loop.loop.i + 1) 0 % 1024 ≡ (nodeAsker (to_start at-loop).args.shape.now at-loop.loop.i).row
+    get_or at-loop.loop.shape (node_rows_at + 2 * at-loop.loop.i + 1) 0 % 1024 ≡ (node_asker (to_start at-loop).args.shape.now at-loop.loop.i).row
 row_is c =
     let at-loop = to-loop c.before.before in
     let start = to_start at-loop in
     ap (λ (w : ℕ). w % 1024)
-    (word_kept start.args.shape.now at-loop.loop.shape (nodeRowsAt + 2 * at-loop.loop.i + 1)
+    (word_kept start.args.shape.now at-loop.loop.shape (node_rows_at + 2 * at-loop.loop.i + 1)
     (omega (arith, c.before.before.before.loop-test.true, start.pre.0)) at-loop.loop.inv.counted.kept)
 
 add-sharer-requires : tie.Need-add-sharer-requires invariant-loop decreases-loop
@@ -68,7 +68,7 @@ add-sharer-requires c κs =
     let row = after-wide16.wide16.ensures.0 ∙ row_is after-wide16 in (
       rw row (next_under _ _ _ start.pre.2 _ _ in-loop.loop-test.true at-loop.loop.invariant),
       omega (arith, start.pre.1, at-loop.loop.invariant.long),
-      rw row (next-room _ _ _ start.pre.2 _ _ in-loop.loop-test.true at-loop.loop.invariant),
+      rw row (next_room _ _ _ start.pre.2 _ _ in-loop.loop-test.true at-loop.loop.invariant),
     )
 
 loop-again : tie.Need-loop-preserved invariant-loop decreases-loop
@@ -79,10 +79,10 @@ loop-again c =
     let at-loop = in-loop.before in
     let start = to_start at-loop in
     let node = ap (λ (w : ℕ). w % 256)
-    (word_kept start.args.shape.now at-loop.loop.shape (nodeRowsAt + 2 * at-loop.loop.i)
+    (word_kept start.args.shape.now at-loop.loop.shape (node_rows_at + 2 * at-loop.loop.i)
     (omega (arith, in-loop.loop-test.true, start.pre.0)) at-loop.loop.invariant.counted.kept) in
     walked_more _ _ _ start.pre.2 _ _ in-loop.loop-test.true at-loop.loop.invariant start.pre.1 _
-    (λ j. record { kind = byNode; index = node j; row = (after-wide16.wide16.ensures.0 ∙ row_is after-wide16) j }) _ after-add-sharer.add-sharer.ensures
+    (λ j. record { kind = by_node; index = node j; row = (after-wide16.wide16.ensures.0 ∙ row_is after-wide16) j }) _ after-add-sharer.add-sharer.ensures
 
 same_length : tie.Need-same-length invariant-loop decreases-loop
 same_length c =

@@ -4,21 +4,21 @@ use Prim.Native.Nat.{ℕ, suc, ◌+◌, ◌*◌, ◌-◌, ◌<◌, ◌≤◌}
 use native.Mathlib.Nat.{mul-le-mul_left, mul-suc}
 use native.Mathlib.Omega.{arith}
 use lib.ListN.{get_or}
-use Rattle.layout.specs.Layout.{makersPackedAt}
-use Rattle.build_sharers.specs.Sharers.{entryAsker}
-use Rattle.build_sharers.proofs.Walk.{Walked, walked_none, walked_more, walked_all, next_under, next-room, word_kept}
+use Rattle.layout.specs.Layout.{makers_packed_at}
+use Rattle.build_sharers.specs.Sharers.{entry_asker}
+use Rattle.build_sharers.proofs.Walk.{Walked, walked_none, walked_more, walked_all, next_under, next_room, word_kept}
 use borrow.Author.Rules.{rules}
 use Rattle.build_sharers.proofs.add_sharers.Statement.{statement}
 use Rattle.build_sharers.proofs.add_sharers.Tie as tie
 
 abbrev invariant-loop : tie.invariant-loop
-invariant-loop shape₀ at width count kind i₀ shape i = Walked shape₀ (entryAsker shape₀ at width kind) count shape i
+invariant-loop shape₀ at width count kind i₀ shape i = Walked shape₀ (entry_asker shape₀ at width kind) count shape i
 
 abbrev decreases-loop : tie.decreases-loop
 decreases-loop shape₀ at width count kind i₀ shape i = count - i
 
 -- an entry of the table lies in it
-inside : (at width count i : ℕ) → i < count → 1 ≤ width → at + width * count ≤ makersPackedAt → at + width * i < makersPackedAt
+inside : (at width count i : ℕ) → i < count → 1 ≤ width → at + width * count ≤ makers_packed_at → at + width * i < makers_packed_at
 inside at width count i h w r =
     let more : width * suc i ≤ width * count = mul-le-mul_left width h in
     omega (arith, more, mul-suc width i)
@@ -33,7 +33,7 @@ to_start c =
     c.before.before
 
 entry-inside : (c : tie.In-loop invariant-loop decreases-loop) → let start : tie.Start invariant-loop decreases-loop = to_start c.before in
-    start.args.at + start.args.width * c.before.loop.i < makersPackedAt
+    start.args.at + start.args.width * c.before.loop.i < makers_packed_at
 entry-inside c =
     let start = to_start c.before in
     inside _ _ _ _ c.loop-test.true start.pre.2 start.pre.0
@@ -84,7 +84,7 @@ add-sharer-requires c κs =
     let row = after-wide16.wide16.ensures.0 ∙ row_is after-wide16 in (
       rw row (next_under _ _ _ start.pre.4 _ _ in-loop.loop-test.true at-loop.loop.invariant),
       omega (arith, start.pre.3, at-loop.loop.invariant.long),
-      rw row (next-room _ _ _ start.pre.4 _ _ in-loop.loop-test.true at-loop.loop.invariant),
+      rw row (next_room _ _ _ start.pre.4 _ _ in-loop.loop-test.true at-loop.loop.invariant),
     )
 
 loop-again : tie.Need-loop-preserved invariant-loop decreases-loop

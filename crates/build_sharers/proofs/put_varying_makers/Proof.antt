@@ -1,7 +1,7 @@
 -- `build_sharers::put_varying_makers` meets its contract. Assumes nothing.
 use native.Mathlib.Omega.{arith}
 use mathlib.Core.Path.{◌∙◌}
-use Rattle.build_sharers.proofs.Table.{nodes-ready, aggregates-ready, virtual-storages-ready, all-counted}
+use Rattle.build_sharers.proofs.Table.{nodes_ready, aggregates_ready, virtual_storages_ready, all_counted}
 use borrow.Author.Rules.{rules}
 use Rattle.build_sharers.proofs.put_varying_makers.Statement.{statement}
 use Rattle.build_sharers.proofs.put_varying_makers.Tie as tie
@@ -30,7 +30,7 @@ add-node-sharers-requires c κs =
     let p = start.pre in (
       p.1,
       omega (arith, p.4, after-put-makers.put-makers.kept.0),
-      nodes-ready _ _ _ _ _ p.0 p.1 p.2 p.3 p.4 p.5 _ after-put-makers.put-makers.ensures,
+      nodes_ready _ _ _ _ _ p.0 p.1 p.2 p.3 p.4 p.5 _ after-put-makers.put-makers.ensures,
     )
 
 add-sharers-requires : tie.Need-add-sharers-requires
@@ -43,7 +43,7 @@ add-sharers-requires c κs =
       p.2,
       omega arith,
       omega (arith, p.4, after-put-makers.put-makers.kept.0, after-add-node-sharers.add-node-sharers.kept.0),
-      aggregates-ready _ _ _ _ _ p.0 p.1 p.2 p.3 p.4 p.5 _ after-put-makers.put-makers.ensures _
+      aggregates_ready _ _ _ _ _ p.0 p.1 p.2 p.3 p.4 p.5 _ after-put-makers.put-makers.ensures _
           after-add-node-sharers.add-node-sharers.ensures,
     )
 
@@ -64,7 +64,7 @@ add-sharers-requires-2 c κs =
         after-add-node-sharers.add-node-sharers.kept.0,
         after-add-sharers.add-sharers.kept.0,
       ),
-      virtual-storages-ready _ _ _ _ _ p.0 p.1 p.2 p.3 p.4 p.5 _ after-put-makers.put-makers.ensures _
+      virtual_storages_ready _ _ _ _ _ p.0 p.1 p.2 p.3 p.4 p.5 _ after-put-makers.put-makers.ensures _
           after-add-node-sharers.add-node-sharers.ensures _ after-add-sharers.add-sharers.ensures,
     )
 
@@ -84,7 +84,7 @@ returns c =
     let after-put-makers = to-put-makers after-add-node-sharers.before in
     let start = to_start after-put-makers in
     let p = start.pre in
-    all-counted _ _ _ _ _ p.0 p.1 p.2 p.3 p.4 p.5 _ after-put-makers.put-makers.ensures _
+    all_counted _ _ _ _ _ p.0 p.1 p.2 p.3 p.4 p.5 _ after-put-makers.put-makers.ensures _
     after-add-node-sharers.add-node-sharers.ensures _ after-add-sharers.add-sharers.ensures _ after-add-sharers2.add-sharers2.ensures
 
 pub put-varying-makers-spec : {M : Type 1} → statement M

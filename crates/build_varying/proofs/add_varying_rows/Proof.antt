@@ -1,9 +1,9 @@
 -- `build_varying::add_varying_rows` meets its contract. Assumes nothing.
 use mathlib.Core.Path.{◌≡◌, refl, sym, ◌∙◌, ap}
 use native.Mathlib.Omega.{arith}
-use Rattle.network_laws.proofs.Index.{aggregate-count, virtual-storage-count}
-use Rattle.build_node_row.specs.Tables.{networkOf}
-use Rattle.build_varying.proofs.Varying.{rows₁, rows₂, nodes-full, aggregates-full, virtual-storages-full, full-only, nodes-holding, aggregates-holding, all_laid, asks-few}
+use Rattle.network_laws.proofs.Index.{aggregate_count_lem, virtual_storage_count_lem}
+use Rattle.build_node_row.specs.Tables.{network_of}
+use Rattle.build_varying.proofs.Varying.{rows₁, rows₂, nodes_full, aggregates_full, virtual_storages_full, full_only, nodes_holding, aggregates_holding, all_laid, asks_few}
 use borrow.Author.Rules.{rules}
 use Rattle.build_varying.proofs.add_varying_rows.Statement.{statement}
 use Rattle.build_varying.proofs.add_varying_rows.Tie as tie
@@ -58,15 +58,15 @@ create-aggregated-node-constraints-requires c κs =
     let h = after-create-node-constraints.create-node-constraints.ensures.done _ after-n.n.given.1 in (
       start.pre.0,
       record {
-        words-room = omega
-            (arith, after-create-node-constraints.create-node-constraints.kept.1.1.1.1.1.1.1.1.1.1.1.0, start.pre.3.words-room);
-        numbers-room = omega (
+        words_room = omega
+            (arith, after-create-node-constraints.create-node-constraints.kept.1.1.1.1.1.1.1.1.1.1.1.0, start.pre.3.words_room);
+        numbers_room = omega (
           arith,
           after-create-node-constraints.create-node-constraints.kept.1.1.1.1.1.1.1.1.1.1.1.1.0,
-          start.pre.3.numbers-room,
+          start.pre.3.numbers_room,
         );
       },
-      nodes-holding start.args.sentinel (networkOf start.args.s.now start.args.c) _ _ _ h,
+      nodes_holding start.args.sentinel (network_of start.args.s.now start.args.c) _ _ _ h,
     )
 
 create-virtual-storage-constraints-requires : tie.Need-create-virtual-storage-constraints-requires
@@ -77,23 +77,23 @@ create-virtual-storage-constraints-requires c κs =
     let after-create-node-constraints = to-create-node-constraints after-n.before.before in
     let start = to_start after-create-node-constraints in
     let h = after-create-node-constraints.create-node-constraints.ensures.done _ after-n.n.given.1 in
-    let g = after-create-aggregated-node-constraints.create-aggregated-node-constraints.ensures (rows₁ start.args.sentinel (networkOf start.args.s.now start.args.c)) h.held in (
+    let g = after-create-aggregated-node-constraints.create-aggregated-node-constraints.ensures (rows₁ start.args.sentinel (network_of start.args.s.now start.args.c)) h.held in (
       start.pre.0,
       record {
-        words-room = omega (
+        words_room = omega (
           arith,
           after-create-node-constraints.create-node-constraints.kept.1.1.1.1.1.1.1.1.1.1.1.0,
           after-create-aggregated-node-constraints.create-aggregated-node-constraints.kept.1.1.1.1.1.1.1.1.0,
-          start.pre.3.words-room,
+          start.pre.3.words_room,
         );
-        numbers-room = omega (
+        numbers_room = omega (
           arith,
           after-create-node-constraints.create-node-constraints.kept.1.1.1.1.1.1.1.1.1.1.1.1.0,
           after-create-aggregated-node-constraints.create-aggregated-node-constraints.kept.1.1.1.1.1.1.1.1.1.0,
-          start.pre.3.numbers-room,
+          start.pre.3.numbers_room,
         );
       },
-      aggregates-holding start.args.sentinel (networkOf start.args.s.now start.args.c) _ _ _ _ _ g _ after-a.a.given.1,
+      aggregates_holding start.args.sentinel (network_of start.args.s.now start.args.c) _ _ _ _ _ g _ after-a.a.given.1,
     )
 
 same_length : tie.Need-same-length
@@ -106,7 +106,7 @@ same-length-2 c =
 
 returns : tie.Need-returns
 returns c =
-    full-only _ _ _ _ (nodes-full _ _ ((to-create-node-constraints c.before.before).create-node-constraints.ensures.full c.enum_told.given.1))
+    full_only _ _ _ _ (nodes_full _ _ ((to-create-node-constraints c.before.before).create-node-constraints.ensures.full c.enum_told.given.1))
 
 same-length-3 : tie.Need-same-length-3
 same-length-3 c =
@@ -129,9 +129,9 @@ returns-2 c =
     let after-create-node-constraints = to-create-node-constraints after-n.before.before in
     let start = to_start after-create-node-constraints in
     let h = after-create-node-constraints.create-node-constraints.ensures.done _ after-n.n.given.1 in
-    full-only _ _ _ _ (aggregates-full start.args.sentinel (networkOf start.args.s.now start.args.c)
+    full_only _ _ _ _ (aggregates_full start.args.sentinel (network_of start.args.s.now start.args.c)
     ((after-create-aggregated-node-constraints.create-aggregated-node-constraints.ensures
-    (rows₁ start.args.sentinel (networkOf start.args.s.now start.args.c)) h.held).full c.enum-told2.given.1))
+    (rows₁ start.args.sentinel (network_of start.args.s.now start.args.c)) h.held).full c.enum-told2.given.1))
 
 same-length-5 : tie.Need-same-length-5
 same-length-5 c =
@@ -160,10 +160,10 @@ returns-3 c =
     let after-create-node-constraints = to-create-node-constraints after-n.before.before in
     let start = to_start after-create-node-constraints in
     let h = after-create-node-constraints.create-node-constraints.ensures.done _ after-n.n.given.1 in
-    let g = after-create-aggregated-node-constraints.create-aggregated-node-constraints.ensures (rows₁ start.args.sentinel (networkOf start.args.s.now start.args.c)) h.held in
-    full-only _ _ _ _ (virtual-storages-full start.args.sentinel (networkOf start.args.s.now start.args.c)
+    let g = after-create-aggregated-node-constraints.create-aggregated-node-constraints.ensures (rows₁ start.args.sentinel (network_of start.args.s.now start.args.c)) h.held in
+    full_only _ _ _ _ (virtual_storages_full start.args.sentinel (network_of start.args.s.now start.args.c)
     ((after-create-virtual-storage-constraints.create-virtual-storage-constraints.ensures
-    (rows₂ start.args.sentinel (networkOf start.args.s.now start.args.c)) (g.held _ after-a.a.given.1)).full c.enum-told3.given.1))
+    (rows₂ start.args.sentinel (network_of start.args.s.now start.args.c)) (g.held _ after-a.a.given.1)).full c.enum-told3.given.1))
 
 same-length-7 : tie.Need-same-length-7
 same-length-7 c =
@@ -194,26 +194,26 @@ returns-4 c =
     let start = to_start after-create-node-constraints in
     let c₀ = start.args.c in
     let h = after-create-node-constraints.create-node-constraints.ensures.done _ after-n.n.given.1 in
-    let g = after-create-aggregated-node-constraints.create-aggregated-node-constraints.ensures (rows₁ start.args.sentinel (networkOf start.args.s.now start.args.c)) h.held in
+    let g = after-create-aggregated-node-constraints.create-aggregated-node-constraints.ensures (rows₁ start.args.sentinel (network_of start.args.s.now start.args.c)) h.held in
     let v = after-create-virtual-storage-constraints.create-virtual-storage-constraints.ensures
-    (rows₂ start.args.sentinel (networkOf start.args.s.now start.args.c)) (g.held _ after-a.a.given.1) in
-    all_laid start.args.sentinel (networkOf start.args.s.now start.args.c) c₀.aggregates c₀.virtual_storages
-    (sym (aggregate-count _ c₀.nodes c₀.edges c₀.aggregates c₀.virtual_storages))
-    (sym (virtual-storage-count _ c₀.nodes c₀.edges c₀.aggregates c₀.virtual_storages)) _ _ _ _ _ _ _ _ _ _ _
-    (omega (arith, h.counted, asks-few _ _ _ _ _ _ _ _ _ start.pre.0 start.pre.1))
-    (omega (arith, after-create-node-constraints.create-node-constraints.kept.1.1.1.1.1.1.1.1.1.1.1.0, start.pre.3.words-room))
+    (rows₂ start.args.sentinel (network_of start.args.s.now start.args.c)) (g.held _ after-a.a.given.1) in
+    all_laid start.args.sentinel (network_of start.args.s.now start.args.c) c₀.aggregates c₀.virtual_storages
+    (sym (aggregate_count_lem _ c₀.nodes c₀.edges c₀.aggregates c₀.virtual_storages))
+    (sym (virtual_storage_count_lem _ c₀.nodes c₀.edges c₀.aggregates c₀.virtual_storages)) _ _ _ _ _ _ _ _ _ _ _
+    (omega (arith, h.counted, asks_few _ _ _ _ _ _ _ _ _ start.pre.0 start.pre.1))
+    (omega (arith, after-create-node-constraints.create-node-constraints.kept.1.1.1.1.1.1.1.1.1.1.1.0, start.pre.3.words_room))
     (omega (
       arith,
       after-create-node-constraints.create-node-constraints.kept.1.1.1.1.1.1.1.1.1.1.1.0,
       after-create-aggregated-node-constraints.create-aggregated-node-constraints.kept.1.1.1.1.1.1.1.1.0,
-      start.pre.3.words-room,
+      start.pre.3.words_room,
     )) (omega (
       arith,
       after-create-node-constraints.create-node-constraints.kept.1.1.1.1.1.1.1.1.1.1.1.0,
       after-create-aggregated-node-constraints.create-aggregated-node-constraints.kept.1.1.1.1.1.1.1.1.0,
       after-create-virtual-storage-constraints.create-virtual-storage-constraints.kept.1.1.1.1.1.1.1.1.0,
-      start.pre.3.words-room,
-    )) start.pre.0.sections.few-aggregates h g after-a.a.given.1 v after-v.v.given.1
+      start.pre.3.words_room,
+    )) start.pre.0.sections.few_aggregates_lem h g after-a.a.given.1 v after-v.v.given.1
 
 pub add-varying-rows-spec : {M : Type 1} → statement M
 add-varying-rows-spec =

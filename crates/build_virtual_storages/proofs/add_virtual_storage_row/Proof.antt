@@ -1,5 +1,5 @@
 -- `build_virtual_storages::add_virtual_storage_row` meets its contract. Assumes nothing.
-use Rattle.build_join.proofs.GatherLaws.{holding-lent, asked-lent}
+use Rattle.build_join.proofs.GatherLaws.{holding_lent, asked_lent}
 use borrow.Author.Rules.{rules}
 use Rattle.build_virtual_storages.proofs.add_virtual_storage_row.Statement.{statement}
 use Rattle.build_virtual_storages.proofs.add_virtual_storage_row.Tie as tie
@@ -25,10 +25,10 @@ add-variable-row-requires : tie.Need-add-variable-row-requires
 add-variable-row-requires c κs =
     let after-virtual-storage-row = to-virtual-storage-row c in
     let start = to_start after-virtual-storage-row in (
-      record { words-room = search rules; numbers-room = search rules },
-      after-virtual-storage-row.virtual-storage-row.ensures.few,
-      after-virtual-storage-row.virtual-storage-row.ensures.rising,
-      holding-lent _ _ _ start.pre.2.numbers-room start.pre.3 _ _ _ _ after-virtual-storage-row.virtual-storage-row.ensures,
+      record { words_room = search rules; numbers_room = search rules },
+      after-virtual-storage-row.virtual_storage_row_lem.ensures.few,
+      after-virtual-storage-row.virtual_storage_row_lem.ensures.rising,
+      holding_lent _ _ _ start.pre.2.numbers_room start.pre.3 _ _ _ _ after-virtual-storage-row.virtual_storage_row_lem.ensures,
     )
 
 returns : tie.Need-returns
@@ -36,7 +36,7 @@ returns c =
     let after-add-variable-row = to-add-variable-row c in
     let after-virtual-storage-row = to-virtual-storage-row after-add-variable-row.before in
     let start = to_start after-virtual-storage-row in
-    λ rows held. asked-lent _ _ _ start.pre.2.numbers-room start.pre.3 _ _ _ _ after-virtual-storage-row.virtual-storage-row.ensures _ _ _ _
+    λ rows held. asked_lent _ _ _ start.pre.2.numbers_room start.pre.3 _ _ _ _ after-virtual-storage-row.virtual_storage_row_lem.ensures _ _ _ _
     after-add-variable-row.add-variable-row.ensures rows held
 
 pub add-virtual-storage-row-spec : {M : Type 1} → statement M

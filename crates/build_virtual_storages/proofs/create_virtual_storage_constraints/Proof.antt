@@ -4,18 +4,18 @@ use Prim.Native.Nat.{◌+◌, ◌*◌, ◌-◌, ◌≤◌}
 use native.Mathlib.Omega.{arith}
 use mathlib.Core.List.{List, map}
 use lib.ListN.{length}
-use Rattle.layout.specs.Layout.{shapeMadeAt, virtualStoragesPackedAt, virtualStoragesMadeAt}
-use Rattle.laws.proofs.Tails.{tail-length, tail-kept}
+use Rattle.layout.specs.Layout.{shape_made_at, virtual_storages_packed_at, virtual_storages_made_at}
+use Rattle.laws.proofs.Tails.{tail_length, tail_kept}
 use Rattle.pywr.specs.Rows.{Element}
 use Rattle.pywr.specs.VaryingRows.{fresh_row}
-use Rattle.pywr.proofs.StoreLaws.{virtual-storage-wide}
-use Rattle.fields.specs.Records.{recordsEnd}
-use Rattle.network_virtual_storage.specs.VirtualStorage.{virtualStorageEnd}
+use Rattle.pywr.proofs.StoreLaws.{virtual_storage_wide}
+use Rattle.fields.specs.Records.{records_end}
+use Rattle.network_virtual_storage.specs.VirtualStorage.{virtual_storage_end}
 use Rattle.build_append.specs.LpBuilder.{RowsHeld}
-use Rattle.build_node_row.specs.Tables.{networkOf}
-use Rattle.build_join.proofs.JoinedLaws.{Asked, asked-none, asked-more, asked-full, asked-all, place-fits}
-use Rattle.build_virtual_storages.specs.VirtualStorageRows.{virtualStorageRows, virtualStorageTable}
-use Rattle.build_virtual_storages.proofs.VirtualStorageLaws.{asked-count, asked-under, asked-row, table_none, table_more, entry-same, virtual-storage-check, fields_within, virtual-storage-next}
+use Rattle.build_node_row.specs.Tables.{network_of}
+use Rattle.build_join.proofs.JoinedLaws.{Asked, asked_none, asked_more, asked_full, asked_all, place_fits}
+use Rattle.build_virtual_storages.specs.VirtualStorageRows.{virtual_storage_rows, virtual_storage_table}
+use Rattle.build_virtual_storages.proofs.VirtualStorageLaws.{asked_count, asked_under, asked_row, table_none, table_more, entry_same, virtual_storage_check, fields_within, virtual_storage_next}
 use borrow.Author.Rules.{rules}
 use Rattle.build_virtual_storages.proofs.create_virtual_storage_constraints.Statement.{statement}
 use Rattle.build_virtual_storages.proofs.create_virtual_storage_constraints.Tie as tie
@@ -23,8 +23,8 @@ use Rattle.build_virtual_storages.proofs.create_virtual_storage_constraints.Tie 
 abbrev invariant-loop : tie.invariant-loop
 invariant-loop s c first-in next-in first_out next-out edge-to-col sentinel words₀ numbers₀ columns₀ at₀ filled₀ i₀ words numbers columns at filled i =
     ((rows : List (List Element)) → RowsHeld (map (fresh_row sentinel) rows) words₀ numbers₀ filled₀
-    → Asked sentinel (virtualStorageRows (networkOf s c)) virtualStoragesMadeAt 6 (virtualStorageTable (networkOf s c)) rows words₀ i words numbers filled)
-    × (at ≡ recordsEnd (virtualStorageEnd s) i c.virtual_storages_at)
+    → Asked sentinel (virtual_storage_rows (network_of s c)) virtual_storages_made_at 6 (virtual_storage_table (network_of s c)) rows words₀ i words numbers filled)
+    × (at ≡ records_end (virtual_storage_end s) i c.virtual_storages_at)
     × (i ≤ c.virtual_storages)
     × (length words ≡ length words₀)
     × (length numbers ≡ length numbers₀)
@@ -69,10 +69,10 @@ to-put-virtual-storage-arg c =
     after-narrow16.before
 
 loop-holds : tie.Need-loop-init invariant-loop decreases-loop
-unfolding recordsEnd
+unfolding records_end
 loop-holds c =
     let t = c.before.before.before in
-    ((λ rows held. asked-none _ _ _ _ _ rows _ _ _ (table_none _ t.args.c t.requires.0.sections) held), refl, omega arith, refl, refl)
+    ((λ rows held. asked_none _ _ _ _ _ rows _ _ _ (table_none _ t.args.c t.requires.0.sections) held), refl, omega arith, refl, refl)
 
 add-virtual-storage-row-requires : tie.Need-add-virtual-storage-row-requires invariant-loop decreases-loop
 add-virtual-storage-row-requires c κs =
@@ -81,8 +81,8 @@ add-virtual-storage-row-requires c κs =
     let lt = c.before.before.before.if1.true in
     let a = l.inv.0 t.pre.2.rows t.pre.2.held in (
       t.pre.0,
-      virtual-storage-check _ t.args.c t.pre.0.sections _ _ lt l.inv.1,
-      record { words-room = omega (arith, l.inv.3, t.pre.1.words-room); numbers-room = omega (arith, l.inv.4, t.pre.1.numbers-room) },
+      virtual_storage_check _ t.args.c t.pre.0.sections _ _ lt l.inv.1,
+      record { words_room = omega (arith, l.inv.3, t.pre.1.words_room); numbers_room = omega (arith, l.inv.4, t.pre.1.numbers_room) },
       record { rows = _; held = a.held },
     )
 
@@ -105,22 +105,22 @@ returns c =
     let lt = then1.if1.taken in
     λ rows held.
     let a = l.inv.0 rows held in
-    asked-full _ _ _ _ _ _ _ (omega arith) _ _ _ _ _ _ _ _ (asked-under _ t.args.c t.pre.0.sections _ _ lt l.inv.1)
-    (asked-row _ t.args.c t.pre.0.sections _ _ lt l.inv.1) a (after-add-virtual-storage-row.add-virtual-storage-row.ensures _ a.held) _ c.enum_told.given.1
+    asked_full _ _ _ _ _ _ _ (omega arith) _ _ _ _ _ _ _ _ (asked_under _ t.args.c t.pre.0.sections _ _ lt l.inv.1)
+    (asked_row _ t.args.c t.pre.0.sections _ _ lt l.inv.1) a (after-add-virtual-storage-row.add-virtual-storage-row.ensures _ a.held) _ c.enum_told.given.1
 
 active-period-requires : tie.Need-active-period-requires invariant-loop decreases-loop
 active-period-requires c κs =
     let t = to_start (to-loop (to-add-virtual-storage-row-arg3 c.before.before.before)) in
     let l = (to-loop (to-add-virtual-storage-row-arg3 c.before.before.before)).loop in
     let lt = (to-then1 (to-add-virtual-storage-row c.before.before.before)).if1.taken in
-    fields_within _ _ _ (virtual-storage-check _ t.args.c t.pre.0.sections _ _ lt l.inv.1)
+    fields_within _ _ _ (virtual_storage_check _ t.args.c t.pre.0.sections _ _ lt l.inv.1)
 
 sub-put-virtual-storage : tie.Need-overflow-sub-put-virtual-storage invariant-loop decreases-loop
 sub-put-virtual-storage c =
     let after-r = c.before.before in
     let call = (to-add-virtual-storage-row after-r.before.before).add-virtual-storage-row in
     let at-loop = to-loop (to-add-virtual-storage-row-arg3 after-r.before.before) in
-    omega (arith, call.kept.1.1.1.1.1.1.1.1.1.0, at-loop.loop.inv.3, (to_start at-loop).pre.1.words-room)
+    omega (arith, call.kept.1.1.1.1.1.1.1.1.1.0, at-loop.loop.inv.3, (to_start at-loop).pre.1.words_room)
 
 narrow16-requires : tie.Need-narrow16-requires invariant-loop decreases-loop
 narrow16-requires c κs =
@@ -133,8 +133,8 @@ narrow16-requires c κs =
     let l = at-loop.loop in
     let lt = then1.if1.taken in
     let a = l.inv.0 t.pre.2.rows t.pre.2.held in
-    place-fits _ _ _ _ _ _ _ (omega arith) _ _ _ _ _ _ _ _ (asked-under _ t.args.c t.pre.0.sections _ _ lt l.inv.1)
-    (asked-row _ t.args.c t.pre.0.sections _ _ lt l.inv.1) a (after-add-virtual-storage-row.add-virtual-storage-row.ensures _ a.held) _ _ after-r.r.given.1
+    place_fits _ _ _ _ _ _ _ (omega arith) _ _ _ _ _ _ _ _ (asked_under _ t.args.c t.pre.0.sections _ _ lt l.inv.1)
+    (asked_row _ t.args.c t.pre.0.sections _ _ lt l.inv.1) a (after-add-virtual-storage-row.add-virtual-storage-row.ensures _ a.held) _ _ after-r.r.given.1
 
 put-virtual-storage-requires : tie.Need-put-virtual-storage-requires invariant-loop decreases-loop
 put-virtual-storage-requires c κs =
@@ -144,11 +144,11 @@ put-virtual-storage-requires c κs =
     let call = (to-add-virtual-storage-row (to-slice-known4 c.before)).add-virtual-storage-row in
     omega (
       arith,
-      tail-length shapeMadeAt call.last.1.1.1.1.1.1.1.1.1.0,
+      tail_length shape_made_at call.last.1.1.1.1.1.1.1.1.1.0,
       call.kept.1.1.1.1.1.1.1.1.1.0,
       l.inv.3,
-      t.pre.1.words-room,
-      t.pre.0.sections.few-virtual-storages,
+      t.pre.1.words_room,
+      t.pre.0.sections.few_virtual_storages_lem,
       lt,
     )
 
@@ -157,11 +157,11 @@ virtual-storage-end-requires c κs =
     let t = to_start (to-loop (to-add-virtual-storage-row-arg3 (to-slice-known4 (to-put-virtual-storage-arg c)))) in
     let l = (to-loop (to-add-virtual-storage-row-arg3 (to-slice-known4 (to-put-virtual-storage-arg c)))).loop in
     let lt = (to-then1 (to-add-virtual-storage-row (to-slice-known4 (to-put-virtual-storage-arg c)))).if1.taken in
-    fields_within _ _ _ (virtual-storage-check _ t.args.c t.pre.0.sections _ _ lt l.inv.1)
+    fields_within _ _ _ (virtual_storage_check _ t.args.c t.pre.0.sections _ _ lt l.inv.1)
 
 add-i : tie.Need-overflow-add-i invariant-loop decreases-loop
 add-i c =
-    let few = (to_start (to-loop (to-add-virtual-storage-row-arg3 (to-slice-known4 (to-put-virtual-storage-arg c.before))))).pre.0.sections.few-virtual-storages in
+    let few = (to_start (to-loop (to-add-virtual-storage-row-arg3 (to-slice-known4 (to-put-virtual-storage-arg c.before))))).pre.0.sections.few_virtual_storages_lem in
     let lt = (to-then1 (to-add-virtual-storage-row (to-slice-known4 (to-put-virtual-storage-arg c.before)))).if1.taken in
     search rules
 
@@ -185,15 +185,15 @@ loop-again c =
     let call = after-add-virtual-storage-row.add-virtual-storage-row in (
       (λ rows held.
           let a = l.inv.0 rows held in
-          asked-more _ _ _ _ _ _ _ (omega arith) _ _ _ _ _ _ _ _ (asked-under _ t.args.c t.pre.0.sections _ _ lt l.inv.1)
-          (asked-row _ t.args.c t.pre.0.sections _ _ lt l.inv.1) a (call.ensures _ a.held) _ _ after-r.r.given.1
-          (virtualStoragesPackedAt + 6 * l.i) _ _ (omega arith) (virtual-storage-wide _)
-          (omega (arith, call.kept.1.1.1.1.1.1.1.1.1.0, l.inv.3, t.pre.1.words-room, t.pre.0.sections.few-virtual-storages, lt))
+          asked_more _ _ _ _ _ _ _ (omega arith) _ _ _ _ _ _ _ _ (asked_under _ t.args.c t.pre.0.sections _ _ lt l.inv.1)
+          (asked_row _ t.args.c t.pre.0.sections _ _ lt l.inv.1) a (call.ensures _ a.held) _ _ after-r.r.given.1
+          (virtual_storages_packed_at + 6 * l.i) _ _ (omega arith) (virtual_storage_wide _)
+          (omega (arith, call.kept.1.1.1.1.1.1.1.1.1.0, l.inv.3, t.pre.1.words_room, t.pre.0.sections.few_virtual_storages_lem, lt))
           (table_more _ t.args.c t.pre.0.sections _ _ lt l.inv.1 _)
-          (entry-same _ _ _ _ _ _ _ after-put-virtual-storage.put-virtual-storage.ensures after-narrow16.narrow16.ensures after-active-period.active-period.ensures)),
-      virtual-storage-next _ t.args.c t.pre.0.sections _ _ lt l.inv.1 _ c.virtual-storage-end.ensures,
+          (entry_same _ _ _ _ _ _ _ after-put-virtual-storage.put-virtual-storage.ensures after-narrow16.narrow16.ensures after-active-period.active-period.ensures)),
+      virtual_storage_next _ t.args.c t.pre.0.sections _ _ lt l.inv.1 _ c.virtual_storage_end_lem.ensures,
       omega arith,
-      tail-kept shapeMadeAt call.last.1.1.1.1.1.1.1.1.1.0 after-put-virtual-storage.put-virtual-storage.new.0
+      tail_kept shape_made_at call.last.1.1.1.1.1.1.1.1.1.0 after-put-virtual-storage.put-virtual-storage.new.0
           after-put-virtual-storage.put-virtual-storage.auto.0 ∙ call.kept.1.1.1.1.1.1.1.1.1.0 ∙ l.inv.3,
       call.kept.1.1.1.1.1.1.1.1.1.1.0 ∙ l.inv.4,
     )
@@ -210,7 +210,7 @@ returns-2 : tie.Need-returns-2 invariant-loop decreases-loop
 returns-2 c =
     let t = to_start c.before.before in
     let l = c.before.before.loop in
-    λ rows held. asked-all _ _ _ _ _ _ _ _ _ _ _ _ (omega (arith, asked-count _ t.args.c t.pre.0.sections, c.if1.false)) (omega (arith, l.invariant.2, c.if1.false)) (l.invariant.0 rows held)
+    λ rows held. asked_all _ _ _ _ _ _ _ _ _ _ _ _ (omega (arith, asked_count _ t.args.c t.pre.0.sections, c.if1.false)) (omega (arith, l.invariant.2, c.if1.false)) (l.invariant.0 rows held)
 
 pub create-virtual-storage-constraints-spec : {M : Type 1} → statement M
 create-virtual-storage-constraints-spec =

@@ -1,16 +1,16 @@
 -- `build_virtual_storages::period_word` meets its contract. Assumes nothing.
-use Rattle.pywr.specs.Written.{flagWord}
+use Rattle.pywr.specs.Written.{flag_word}
 use borrow.Author.Rules.{rules}
 use Rattle.build_virtual_storages.proofs.period_word.Statement.{statement}
 use Rattle.build_virtual_storages.proofs.period_word.Tie as tie
 
 returns : tie.Need-returns
-unfolding flagWord
+unfolding flag_word
 returns c =
     search rules
 
 returns-2 : tie.Need-returns-2
-unfolding flagWord
+unfolding flag_word
 returns-2 c =
     search rules
 

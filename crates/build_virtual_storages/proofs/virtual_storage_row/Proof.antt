@@ -4,7 +4,7 @@ use Prim.Native.Nat.{◌+◌, ◌-◌, ◌<◌}
 use native.Mathlib.Omega.{arith}
 use lib.ListN.{length}
 use Rattle.pywr.specs.Bytes.{byte}
-use Rattle.build_virtual_storages.proofs.VirtualStorageLaws.{AddingParts, parts_none, parts_more, parts_all, virtual-storage-within, fields_within, part-told}
+use Rattle.build_virtual_storages.proofs.VirtualStorageLaws.{AddingParts, parts_none, parts_more, parts_all, virtual_storage_within, fields_within, part_told}
 use borrow.Author.Rules.{rules}
 use Rattle.build_virtual_storages.proofs.virtual_storage_row.Statement.{statement}
 use Rattle.build_virtual_storages.proofs.virtual_storage_row.Tie as tie
@@ -47,21 +47,21 @@ loop-holds c =
 
 part-node-requires : tie.Need-part-node-requires invariant-loop decreases-loop
 part-node-requires c κs =
-    (virtual-storage-within _ _ _ (to_start c.before).pre.1, omega (arith, c.before.before.part_count.ensures.0, c.loop-test.true))
+    (virtual_storage_within _ _ _ (to_start c.before).pre.1, omega (arith, c.before.before.part_count.ensures.0, c.loop-test.true))
 
 part-factor-requires : tie.Need-part-factor-requires invariant-loop decreases-loop
 part-factor-requires c κs =
     let t = to_start c.before.before in
     let l = c.before.before.loop in
     let lt : l.k < byte t.args.s.now (t.args.at + 7) = omega (arith, c.before.before.before.part_count.ensures.0, c.before.loop-test.true) in
-    (virtual-storage-within _ _ _ t.pre.1, lt, (part-told _ _ _ t.pre.1 _ lt).factor)
+    (virtual_storage_within _ _ _ t.pre.1, lt, (part_told _ _ _ t.pre.1 _ lt).factor)
 
 add-node-requires : tie.Need-add-node-requires invariant-loop decreases-loop
 add-node-requires c κs =
     let t = to_start (to-loop c) in
     let l = (to-loop c).loop in
     let lt : l.k < byte t.args.s.now (t.args.at + 7) = omega (arith, (to-part-count c).part_count.ensures.0, (to-in-loop c).loop-test.true) in
-    (t.pre.0, omega (arith, c.before.before.before.part-node.ensures, (part-told _ _ _ t.pre.1 _ lt).node), l.inv.0.few, omega (arith, l.inv.1, t.pre.2), l.inv.0.rising)
+    (t.pre.0, omega (arith, c.before.before.before.part-node.ensures, (part_told _ _ _ t.pre.1 _ lt).node), l.inv.0.few, omega (arith, l.inv.1, t.pre.2), l.inv.0.rising)
 
 loop-again : tie.Need-loop-preserved invariant-loop decreases-loop
 loop-again c =
@@ -75,9 +75,9 @@ loop-again c =
     let t = start in
     let l = at-loop.loop in
     let lt : l.k < byte t.args.s.now (t.args.at + 7) = omega (arith, after-part-count.part_count.ensures.0, in-loop.loop-test.true) in (
-      parts_more _ t.args.c _ _ _ _ _ l.invariant.0 _ _ _ _ _ lt after-part-node.part-node.ensures after-part-factor.part-factor.ensures
-          after-add-node.add-node.ensures,
-      after-add-node.add-node.auto.1.1.1.1.1.1.1.1.1.1.0 ∙ l.invariant.1,
+      parts_more _ t.args.c _ _ _ _ _ l.invariant.0 _ _ _ _ _ lt after-part-node.part-node.ensures after-part-factor.part_factor.ensures
+          after-add-node.add_node_lem.ensures,
+      after-add-node.add_node_lem.auto.1.1.1.1.1.1.1.1.1.1.0 ∙ l.invariant.1,
     )
 
 same_length : tie.Need-same-length invariant-loop decreases-loop

@@ -1,5 +1,5 @@
 -- `build_write::write_columns` meets its contract. Assumes nothing.
-use Rattle.build_write.proofs.Filled.{lowers-are, uppers-are, costs-are}
+use Rattle.build_write.proofs.Filled.{lowers_are, uppers_are, costs_are}
 use borrow.Author.Rules.{rules}
 use Rattle.build_write.proofs.write_columns.Statement.{statement}
 use Rattle.build_write.proofs.write_columns.Tie as tie
@@ -34,9 +34,9 @@ returns c =
     let after-fill-f64 = to-fill-f64 after-high in
     let start = to_start after-fill-f64 in
     record {
-      lowers = lowers-are start.args.sentinel start.args.z _ _ after-fill-f64.fill-f64.ensures;
-      uppers = uppers-are start.args.sentinel start.args.z _ _ _ _ after-high.high.ensures after-fill-f642.fill-f642.ensures after-fill-f643.fill-f643.ensures;
-      costs = costs-are start.args.sentinel start.args.z _ _ after-fill-f644.fill-f644.ensures;
+      lowers = lowers_are start.args.sentinel start.args.z _ _ after-fill-f64.fill-f64.ensures;
+      uppers = uppers_are start.args.sentinel start.args.z _ _ _ _ after-high.high.ensures after-fill-f642.fill-f642.ensures after-fill-f643.fill-f643.ensures;
+      costs = costs_are start.args.sentinel start.args.z _ _ after-fill-f644.fill-f644.ensures;
     }
 
 pub write-columns-spec : {M : Type 1} → statement M

@@ -23,7 +23,7 @@ sub_row c =
     let c5 = c2.before.before.before in
     let c8 = c5.before.before.before in
     let p = c8.before.requires in
-    (row_fits c8.before.args.z _ p.1 _ _ _ c5.loop.r _ _ p.0 p.2.numbers-room p.3 c2.before.before.loop-test.true
+    (row_fits c8.before.args.z _ p.1 _ _ _ c5.loop.r _ _ p.0 p.2.numbers_room p.3 c2.before.before.loop-test.true
     c2.wide16.ensures.0 c.wide162.ensures.0 c5.loop.invariant).rises
 
 part-row-end : tie.Need-slice-bounds-row-end invariant-loop decreases-loop
@@ -32,7 +32,7 @@ part-row-end c =
     let c5 = c2.before.before.before in
     let c8 = c5.before.before.before in
     let p = c8.before.requires in
-    (row_fits c8.before.args.z _ p.1 _ _ _ c5.loop.r _ _ p.0 p.2.numbers-room p.3 c2.before.before.loop-test.true
+    (row_fits c8.before.args.z _ p.1 _ _ _ c5.loop.r _ _ p.0 p.2.numbers_room p.3 c2.before.before.loop-test.true
     c2.wide16.ensures.0 c.wide162.ensures.0 c5.loop.invariant).held
 
 sub-write-row : tie.Need-overflow-sub-write-row invariant-loop decreases-loop
@@ -41,7 +41,7 @@ sub-write-row c =
     let c6 = c3.before.before.before in
     let c9 = c6.before.before.before in
     let p = c9.before.requires in
-    let fits = row_fits c9.before.args.z _ p.1 _ _ _ c6.loop.r _ _ p.0 p.2.numbers-room p.3 c3.before.before.loop-test.true
+    let fits = row_fits c9.before.args.z _ p.1 _ _ _ c6.loop.r _ _ p.0 p.2.numbers_room p.3 c3.before.before.loop-test.true
     c3.wide16.ensures.0 c.before.wide162.ensures.0 c6.loop.invariant in
     omega (arith, fits.within)
 
@@ -52,7 +52,7 @@ write-row-requires c κs =
     let c7 = c4.before.before.before in
     let c10 = c7.before.before.before in
     let p = c10.before.requires in
-    (row_fits c10.before.args.z _ p.1 _ _ _ c7.loop.r _ _ p.0 p.2.numbers-room p.3 c4.before.before.loop-test.true
+    (row_fits c10.before.args.z _ p.1 _ _ _ c7.loop.r _ _ p.0 p.2.numbers_room p.3 c4.before.before.loop-test.true
     c4.wide16.ensures.0 c2.wide162.ensures.0 c7.loop.invariant).room _ (omega arith)
 
 loop-again : tie.Need-loop-preserved invariant-loop decreases-loop
@@ -63,7 +63,7 @@ loop-again c =
     let c10 = c7.before.before.before in
     let c13 = c10.before.before.before in
     let p = c13.before.requires in
-    more c13.before.args.z _ p.1 _ _ _ _ c10.loop.r _ _ p.0 p.2.numbers-room p.3 c7.before.before.loop-test.true
+    more c13.before.args.z _ p.1 _ _ _ _ c10.loop.r _ _ p.0 p.2.numbers_room p.3 c7.before.before.loop-test.true
     c7.wide16.ensures.0 c5.wide162.ensures.0 c2.write-row.ensures c2.write-row.auto.0 c10.loop.invariant
 
 returns : tie.Need-returns invariant-loop decreases-loop

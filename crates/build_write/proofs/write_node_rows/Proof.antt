@@ -3,8 +3,8 @@ use mathlib.Core.Path.{refl}
 use Prim.Native.Nat.{◌+◌, ◌*◌, ◌-◌, ◌≤◌}
 use native.Mathlib.Omega.{arith}
 use lib.ListN.{length, length-set}
-use Rattle.layout.specs.Layout.{nodeRowsAt}
-use Rattle.build_write.proofs.NodeRowsWritten.{NodeRowsTo, none_written, node-row-written, node-rows-written}
+use Rattle.layout.specs.Layout.{node_rows_at}
+use Rattle.build_write.proofs.NodeRowsWritten.{NodeRowsTo, none_written, node_row_written, node_rows_written}
 use borrow.Author.Rules.{rules}
 use Rattle.build_write.proofs.write_node_rows.Statement.{statement}
 use Rattle.build_write.proofs.write_node_rows.Tie as tie
@@ -21,7 +21,7 @@ to-in-loop c =
     c.before.before
 
 -- the entry of node row i has room
-room : (c : tie.After-shared-slice-known2 invariant-loop decreases-loop) → nodeRowsAt + 4 * (to-in-loop c).before.loop.i + 4 ≤ length (to-in-loop c).before.loop.shape
+room : (c : tie.After-shared-slice-known2 invariant-loop decreases-loop) → node_rows_at + 4 * (to-in-loop c).before.loop.i + 4 ≤ length (to-in-loop c).before.loop.shape
 room c =
     let in-loop = to-in-loop c in
     let start = in-loop.before.before in
@@ -51,12 +51,12 @@ loop-again : tie.Need-loop-preserved invariant-loop decreases-loop
 loop-again c =
     let in-loop = to-in-loop c in
     let start = in-loop.before.before in
-    node-row-written _ _ _ start.pre.2 start.pre.1 _ _ (omega (arith, in-loop.loop-test.taken)) in-loop.before.loop.inv _ _ _ _ refl refl refl refl
+    node_row_written _ _ _ start.pre.2 start.pre.1 _ _ (omega (arith, in-loop.loop-test.taken)) in-loop.before.loop.inv _ _ _ _ refl refl refl refl
 
 returns : tie.Need-returns invariant-loop decreases-loop
 returns c =
     let start = c.before.before in
-    node-rows-written _ _ _ start.requires.2 start.requires.1 _ _ (omega (arith, c.loop-test.false)) c.before.loop.invariant
+    node_rows_written _ _ _ start.requires.2 start.requires.1 _ _ (omega (arith, c.loop-test.false)) c.before.loop.invariant
 
 pub write-node-rows-spec : {M : Type 1} → statement M
 write-node-rows-spec =

@@ -1,7 +1,7 @@
 -- `build_write::write_shape` meets its contract. Assumes nothing.
 use mathlib.Core.Path.{◌∙◌}
 use native.Mathlib.Omega.{arith}
-use Rattle.build_write.proofs.ShapeLaws.{made-room, last_written}
+use Rattle.build_write.proofs.ShapeLaws.{made_room, last_written}
 use borrow.Author.Rules.{rules}
 use Rattle.build_write.proofs.write_shape.Statement.{statement}
 use Rattle.build_write.proofs.write_shape.Tie as tie
@@ -30,7 +30,7 @@ copy-u16-requires c κs =
     let after-write-tables = to-write-tables c in
     let start = to_start after-write-tables in (
       omega (arith, after-write-tables.write-tables.kept.1.1.0, start.pre.0.rows, start.pre.2),
-      made-room start.args.words.now _ start.pre.1 (omega (arith, start.pre.0.rows)),
+      made_room start.args.words.now _ start.pre.1 (omega (arith, start.pre.0.rows)),
     )
 
 copy-u16-requires-2 : tie.Need-copy-u16-requires-2
@@ -39,7 +39,7 @@ copy-u16-requires-2 c κs =
     let after-write-tables = to-write-tables after-copy-u16.before in
     let start = to_start after-write-tables in (
       omega (arith, after-copy-u16.copy-u16.kept.0, after-write-tables.write-tables.kept.1.1.0, start.pre.0.edges, start.pre.2),
-      made-room start.args.words.now _ start.pre.1 (omega (arith, start.pre.0.edges)),
+      made_room start.args.words.now _ start.pre.1 (omega (arith, start.pre.0.edges)),
     )
 
 same_length : tie.Need-same-length

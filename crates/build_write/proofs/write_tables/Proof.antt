@@ -1,7 +1,7 @@
 -- `build_write::write_tables` meets its contract. Assumes nothing.
 use mathlib.Core.Path.{◌∙◌}
 use native.Mathlib.Omega.{arith}
-use Rattle.build_write.proofs.ShapeLaws.{node-rows-room, aggregates-room, virtual-storages-room, made-room, written}
+use Rattle.build_write.proofs.ShapeLaws.{node_rows_room, aggregates_room, virtual_storages_room, made_room, written}
 use borrow.Author.Rules.{rules}
 use Rattle.build_write.proofs.write_tables.Statement.{statement}
 use Rattle.build_write.proofs.write_tables.Tie as tie
@@ -41,14 +41,14 @@ copy-u16-requires : tie.Need-copy-u16-requires
 copy-u16-requires c κs =
     let after-slice-known = c.before.before in
     let start = after-slice-known.before.before in
-    (omega (arith, start.requires.2), made-room start.args.words.now _ start.requires.1 (omega arith))
+    (omega (arith, start.requires.2), made_room start.args.words.now _ start.requires.1 (omega arith))
 
 copy-u16-requires-2 : tie.Need-copy-u16-requires-2
 copy-u16-requires-2 c κs =
     let after-shape = c.before.before.before in
     let after-copy-u16 = after-shape.before in
     let start = to_start after-copy-u16 in
-    (omega (arith, after-copy-u16.copy-u16.auto.0, start.pre.0.nodes, start.pre.2), made-room start.args.words.now _ start.pre.1 (omega (arith, start.pre.0.nodes)))
+    (omega (arith, after-copy-u16.copy-u16.auto.0, start.pre.0.nodes, start.pre.2), made_room start.args.words.now _ start.pre.1 (omega (arith, start.pre.0.nodes)))
 
 copy-u16-requires-3 : tie.Need-copy-u16-requires-3
 copy-u16-requires-3 c κs =
@@ -57,7 +57,7 @@ copy-u16-requires-3 c κs =
     let after-copy-u16 = to-copy-u16 after-copy-u162 in
     let start = to_start after-copy-u16 in (
       omega (arith, after-copy-u162.copy-u162.auto.0, after-copy-u16.copy-u16.kept.0, start.pre.0.edges, start.pre.2),
-      made-room
+      made_room
           start.args.words.now _ start.pre.1 (omega (arith, start.pre.0.edges)),
     )
 
@@ -67,9 +67,9 @@ write-node-rows-requires c κs =
     let after-copy-u162 = to-copy-u162 after-copy-u163 in
     let after-copy-u16 = to-copy-u16 after-copy-u162 in
     let start = to_start after-copy-u16 in (
-      node-rows-room _ _ _ _ after-copy-u163.copy-u163.auto.0 after-copy-u162.copy-u162.kept.0 after-copy-u16.copy-u16.kept.0 start.pre.2,
-      made-room start.args.words.now _ start.pre.1 (omega arith),
-      start.pre.0.nodeRows,
+      node_rows_room _ _ _ _ after-copy-u163.copy-u163.auto.0 after-copy-u162.copy-u162.kept.0 after-copy-u16.copy-u16.kept.0 start.pre.2,
+      made_room start.args.words.now _ start.pre.1 (omega arith),
+      start.pre.0.node_rows,
     )
 
 copy-u16-requires-4 : tie.Need-copy-u16-requires-4
@@ -79,16 +79,16 @@ copy-u16-requires-4 c κs =
     let after-copy-u162 = to-copy-u162 after-copy-u163 in
     let after-copy-u16 = to-copy-u16 after-copy-u162 in
     let start = to_start after-copy-u16 in (
-      aggregates-room _ _ _ _ _ _ after-write-node-rows.write-node-rows.auto.0 after-copy-u163.copy-u163.kept.0 after-copy-u162.copy-u162.kept.0
+      aggregates_room _ _ _ _ _ _ after-write-node-rows.write-node-rows.auto.0 after-copy-u163.copy-u163.kept.0 after-copy-u162.copy-u162.kept.0
           after-copy-u16.copy-u16.kept.0 start.pre.0.aggregates start.pre.2,
-      made-room start.args.words.now _ start.pre.1 (omega (arith, start.pre.0.aggregates)),
+      made_room start.args.words.now _ start.pre.1 (omega (arith, start.pre.0.aggregates)),
     )
 
 mul-copy-u16-3 : tie.Need-overflow-mul-copy-u16-3
 mul-copy-u16-3 c =
     let after-copy-u163 = to-copy-u163 (to-write-node-rows (to-copy-u164 c)) in
     let start = to_start (to-copy-u16 (to-copy-u162 after-copy-u163)) in
-    record { fits = omega (arith, start.pre.0.virtualStorages) }
+    record { fits = omega (arith, start.pre.0.virtual_storages) }
 
 copy-u16-requires-5 : tie.Need-copy-u16-requires-5
 copy-u16-requires-5 c κs =
@@ -98,10 +98,10 @@ copy-u16-requires-5 c κs =
     let after-copy-u162 = to-copy-u162 after-copy-u163 in
     let after-copy-u16 = to-copy-u16 after-copy-u162 in
     let start = to_start after-copy-u16 in (
-      virtual-storages-room _ _ _ _ _ _ _ after-copy-u164.copy-u164.kept.0 after-write-node-rows.write-node-rows.kept.0 after-copy-u163.copy-u163.kept.0
-          after-copy-u162.copy-u162.kept.0 after-copy-u16.copy-u16.kept.0 start.pre.0.virtualStorages start.pre.2,
-      made-room
-          start.args.words.now _ start.pre.1 (omega (arith, start.pre.0.virtualStorages)),
+      virtual_storages_room _ _ _ _ _ _ _ after-copy-u164.copy-u164.kept.0 after-write-node-rows.write-node-rows.kept.0 after-copy-u163.copy-u163.kept.0
+          after-copy-u162.copy-u162.kept.0 after-copy-u16.copy-u16.kept.0 start.pre.0.virtual_storages start.pre.2,
+      made_room
+          start.args.words.now _ start.pre.1 (omega (arith, start.pre.0.virtual_storages)),
     )
 
 same_length : tie.Need-same-length

@@ -4,10 +4,10 @@ use mathlib.Core.Bool.{true}
 use native.Mathlib.Omega.{arith}
 use borrow.Author.Tests.{not-true, not-false}
 use Rattle.pywr.specs.Store.{Store}
-use Rattle.pywr.specs.Calls.{buildRoom}
+use Rattle.pywr.specs.Calls.{build_room}
 use Rattle.store.proofs.Passed.{lengths}
 use Rattle.builder.proofs.Finish.{Room, room, short, refuse, finish}
-use Rattle.builder.proofs.Starts.{row-starts}
+use Rattle.builder.proofs.Starts.{row_starts_lem}
 use borrow.Author.Rules.{rules}
 use Rattle.builder.proofs.build.Statement.{statement}
 use Rattle.builder.proofs.build.Tie as tie
@@ -91,24 +91,24 @@ abbrev lent : tie.Start → Store
 lent c =
     let a = c.args in
     record {
-      colLower = a.col-lower.now;
-      colUpper = a.col-upper.now;
-      colObjCoef = a.col-obj-coef.now;
-      rowLower = a.row-lower.now;
-      rowUpper = a.row-upper.now;
+      col_lower = a.col-lower.now;
+      col_upper = a.col-upper.now;
+      col_obj_coef = a.col-obj-coef.now;
+      row_lower = a.row_lower_lem.now;
+      row_upper = a.row_upper_lem.now;
       elements = a.elements.now;
       columns = a.columns.now;
-      rowStarts = a.row-starts.now;
+      row_starts = a.row_starts_lem.now;
       shape = a.shape.now;
     }
 
 -- what the test of the lengths told
-told : (c : tie.After-build-has-room) → let s = to_start c in c.build-has-room.result ≡ buildRoom (lent s) s.args.words.now s.args.numbers.now
+told : (c : tie.After-build-has-room) → let s = to_start c in c.build-has-room.result ≡ build_room (lent s) s.args.words.now s.args.numbers.now
 told c =
     let s = to_start c in
     c.build-has-room.ensures (lent s) s.args.words.now s.args.numbers.now (lengths (lent s)) refl refl
 
-enough-room : (c : tie.Else1) → let s = to_start c.before in buildRoom (lent s) s.args.words.now s.args.numbers.now ≡ true
+enough-room : (c : tie.Else1) → let s = to_start c.before in build_room (lent s) s.args.words.now s.args.numbers.now ≡ true
 enough-room c = sym (told c.before) ∙ not-false c.before.build-has-room.result c.if1.false
 
 roomy : (c : tie.Else1) → let s = to_start c.before in Room (lent s) s.args.words.now s.args.numbers.now
@@ -132,7 +132,7 @@ write-columns-requires c κs =
     let made = to-assembled after-a in
     let h = (roomy (to_room made)).store in
     let few = (made.assemble.ensures.made _ after-a.a.given.1).laid.few in
-    (few, h.colLower, h.colUpper, h.colObjCoef)
+    (few, h.col_lower, h.col_upper, h.col_obj_coef)
 
 write-rows-requires : tie.Need-write-rows-requires
 write-rows-requires c κs =
@@ -140,7 +140,7 @@ write-rows-requires c κs =
     let made = to-assembled after-a in
     let h = roomy (to_room made) in
     let few = (made.assemble.ensures.made _ after-a.a.given.1).laid.few in
-    (few, omega (arith, made.assemble.kept.1.1.1.0, h.work.numbers-room), h.store.rowLower, h.store.rowUpper)
+    (few, omega (arith, made.assemble.kept.1.1.1.0, h.work.numbers_room), h.store.row_lower, h.store.row_upper)
 
 write-matrix-requires : tie.Need-write-matrix-requires
 write-matrix-requires c κs =
@@ -149,15 +149,15 @@ write-matrix-requires c κs =
     let h = roomy (to_room made) in
     let laid = (made.assemble.ensures.made _ after-a.a.given.1).laid in (
       laid.few,
-      row-starts _ _ _ _ _ laid,
+      row_starts_lem _ _ _ _ _ laid,
       record {
-        words-room = omega (arith, made.assemble.kept.1.1.0, h.work.words-room);
-        numbers-room = omega
-            (arith, made.assemble.kept.1.1.1.0, h.work.numbers-room);
+        words_room = omega (arith, made.assemble.kept.1.1.0, h.work.words_room);
+        numbers_room = omega
+            (arith, made.assemble.kept.1.1.1.0, h.work.numbers_room);
       },
       h.store.elements,
       h.store.columns,
-      h.store.rowStarts,
+      h.store.row_starts,
     )
 
 write-shape-requires : tie.Need-write-shape-requires
@@ -166,7 +166,7 @@ write-shape-requires c κs =
     let made = to-assembled after-a in
     let h = roomy (to_room made) in
     let few = (made.assemble.ensures.made _ after-a.a.given.1).laid.few in
-    (few, omega (arith, made.assemble.kept.1.1.0, h.work.words-room), h.store.shape)
+    (few, omega (arith, made.assemble.kept.1.1.0, h.work.words_room), h.store.shape)
 
 clear-requires-2 : tie.Need-clear-requires-2
 clear-requires-2 c κs = search rules

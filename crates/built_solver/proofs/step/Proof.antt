@@ -5,13 +5,13 @@ use native.Mathlib.Omega.{arith}
 use borrow.Author.Rules.{rules}
 use borrow.Author.Tests.{not-true, not-false}
 use Rattle.pywr.specs.Store.{Store}
-use Rattle.pywr.specs.Calls.{stepRoom}
+use Rattle.pywr.specs.Calls.{step_room}
 use Rattle.store.proofs.Passed.{lengths, shaped}
-use Rattle.pywr.proofs.RunLaws.{answer-read}
+use Rattle.pywr.proofs.RunLaws.{answer_read}
 use Rattle.step_rows.specs.ConstraintBounds as rows
-use Rattle.step_costs.proofs.CostLaws.{costs-are-numbers}
-use Rattle.step_checks.proofs.JudgeLaws.{room_store, room-work}
-use Rattle.built_solver.proofs.FinishLaws.{store_of, edges_fit, order-fits, short, refuse, finish}
+use Rattle.step_costs.proofs.CostLaws.{costs_are_numbers}
+use Rattle.step_checks.proofs.JudgeLaws.{room_store, room_work}
+use Rattle.built_solver.proofs.FinishLaws.{store_of, edges_fit, order_fits, short, refuse, finish}
 use Rattle.built_solver.proofs.step.Statement.{statement}
 use Rattle.built_solver.proofs.step.Tie as tie
 
@@ -19,7 +19,7 @@ use Rattle.built_solver.proofs.step.Tie as tie
 abbrev lent : tie.Start → Store
 lent c =
     let a = c.args in
-    store_of a.col-lower.now a.col-upper.now a.col-obj-coef.now a.row-lower.now a.row-upper.now a.elements.now a.columns.now a.row-starts.now a.shape.now
+    store_of a.col-lower.now a.col-upper.now a.col-obj-coef.now a.row_lower_lem.now a.row_upper_lem.now a.elements.now a.columns.now a.row_starts_lem.now a.shape.now
 
 abbrev start : tie.After-has-room → tie.Start
 start c =
@@ -45,7 +45,7 @@ updated c =
     let after-slice-known8 = after-row-upper.before.before.before in
     after-slice-known8.before.before
 
-enough-room : (c : tie.Else1) → stepRoom (lent (start c.before)) (start c.before).args.work.now ≡ true
+enough-room : (c : tie.Else1) → step_room (lent (start c.before)) (start c.before).args.work.now ≡ true
 enough-room c =
     let call = c.before.has_room in
     let s = start c.before in
@@ -64,7 +64,7 @@ judge-requires : tie.Need-judge-requires
 judge-requires c κs =
     let s = start c.before.before in
     let ok = enough-room c.before in
-    let h = room_store (lent s) s.args.work.now ok in (h.columns, h.rowStarts, h.shape, room-work (lent s) s.args.work.now ok)
+    let h = room_store (lent s) s.args.work.now ok in (h.columns, h.row_starts, h.shape, room_work (lent s) s.args.work.now ok)
 
 enum-known-answer : tie.Need-enum-known-answer
 enum-known-answer c = search rules
@@ -86,28 +86,28 @@ update-requires c κs =
     let answered = judge.judge.ensures (lent s) refl refl refl in
     let ready = answered.ready told.enum_told.given.1 in
     let n = shaped (lent s) ready.shaped in
-    let r = rows.store_of a.row-lower.now a.row-upper.now a.elements.now a.columns.now a.row-starts.now a.shape.now in (
+    let r = rows.store_of a.row_lower_lem.now a.row_upper_lem.now a.elements.now a.columns.now a.row_starts_lem.now a.shape.now in (
       (
         h.shape,
-        h.colObjCoef,
+        h.col_obj_coef,
         n.counts.nodes,
         n.counts.edges,
-        n.counts.edge-columns,
+        n.counts.edge_columns_lem,
         n.counts.sets,
         (λ t e. edges_fit t (lent s) e n.edges),
-        (λ t e. order-fits t (lent s) e n.flow-order),
+        (λ t e. order_fits t (lent s) e n.flow_order_lem),
         omega (arith, ready.long),
-        costs-are-numbers (lent s) a.file.now _ _ (answer-read (lent s) a.file.now a.work.now _ (answered.read a.work.now ok told.enum_told.given.1)),
+        costs_are_numbers (lent s) a.file.now _ _ (answer_read (lent s) a.file.now a.work.now _ (answered.read a.work.now ok told.enum_told.given.1)),
       ),
       record {
-        row-lower-long = h.rowLower;
-        row-upper-long = h.rowUpper;
-        elements-long = h.elements;
-        columns-long = h.columns;
-        row-starts-long = h.rowStarts;
-        shape-long = h.shape;
-        work-long = omega (arith, judge.judge.kept.1.1.1.1.0, room-work (lent s) a.work.now ok);
-        well-shaped = ((judge.judge.ensures r refl refl refl).ready told.enum_told.given.1).shaped;
+        row_lower_long = h.row_lower;
+        row_upper_long = h.row_upper;
+        elements_long = h.elements;
+        columns_long = h.columns;
+        row_starts_long = h.row_starts;
+        shape_long = h.shape;
+        work_long = omega (arith, judge.judge.kept.1.1.1.1.0, room_work (lent s) a.work.now ok);
+        well_shaped_lem = ((judge.judge.ensures r refl refl refl).ready told.enum_told.given.1).shaped;
       },
     )
 
@@ -153,7 +153,7 @@ returns-3 c =
     finish s.args.file.now (lent s) s.args.work.now (enough-room judge.before.before) judge.judge.result _ j _
     (c.before.before.zero-f64.ensures ∙ rw call.kept.1.1.1.1.1.1.1.1.0) judge.judge.kept.1.1.1.1.0 yes
     (call.ensures.0 (lent s) _ _ refl)
-    (call.ensures.1 (lent s) _ (record { row-lower = refl; row-upper = refl; elements-are = refl; columns-are = refl; row-starts = refl; shape_is = refl }) (j.ready yes).held)
+    (call.ensures.1 (lent s) _ (record { row_lower_lem = refl; row_upper_lem = refl; elements_are = refl; columns_are = refl; row_starts_lem = refl; shape_is = refl }) (j.ready yes).held)
 
 pub step_spec : {M : Type 1} → statement M
 step_spec =

@@ -1,7 +1,7 @@
 -- `fields::active_fits` meets its contract: at each return, the tests that led there. Assumes nothing.
 use Rattle.std.proofs.Common.{◌≡◌, Bool, true, false, ◌&&◌, eqb, refl, eq-eqb, ne_eqb, le-leb}
 use borrow.Author.Tests.{lt-leb}
-use Rattle.pywr.specs.NetworkFile.{activeFits}
+use Rattle.pywr.specs.NetworkFile.{active_fits}
 use Rattle.fields.proofs.active_fits.Statement.{statement}
 use Rattle.fields.proofs.active_fits.Tie as tie
 
@@ -14,17 +14,17 @@ and-true true = refl
 and-true false = refl
 
 returns : tie.Need-returns
-unfolding activeFits
+unfolding active_fits
 returns c =
     rw (lt-leb _ _ c.if1.true, and-false)
 
 returns-2 : tie.Need-returns-2
-unfolding activeFits
+unfolding active_fits
 returns-2 c =
     rw (le-leb _ _ c.before.if1.false, eq-eqb _ _ c.if2.true)
 
 returns-3 : tie.Need-returns-3
-unfolding activeFits
+unfolding active_fits
 returns-3 c =
     rw (le-leb _ _ c.before.if1.false, ne_eqb _ _ c.if2.false) (and-true (eqb c.before.before.args.n 0))
 

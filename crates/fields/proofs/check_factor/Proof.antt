@@ -1,6 +1,6 @@
 -- `fields::check_factor` meets its contract: at each return, the tests that led there. Assumes nothing.
 use Rattle.std.proofs.Common.{◌+◌, length, sym, ◌∙◌, arith, rules, leb-true}
-use Rattle.fields.specs.Field.{checkFactor}
+use Rattle.fields.specs.Field.{check_factor}
 use Rattle.fields.proofs.check_factor.Statement.{statement}
 use Rattle.fields.proofs.check_factor.Tie as tie
 
@@ -16,21 +16,21 @@ add-t7 c =
     omega (arith, leb-true (start.args.at + 8) (length start.args.s.now) (sym after-is-within.is_Within.ensures ∙ then1.if1.true))
 
 returns : tie.Need-returns
-unfolding checkFactor
+unfolding check_factor
 returns c =
     let then1 = c.before.before.before in
     let after-is-within = then1.before in
     rw (← after-is-within.is_Within.ensures, c.before.before.before.if1.true, ← c.before.before.u64-at.ensures, ← c.before.is-small.ensures, c.if2.true)
 
 returns-2 : tie.Need-returns-2
-unfolding checkFactor
+unfolding check_factor
 returns-2 c =
     let then1 = c.before.before.before in
     let after-is-within = then1.before in
     rw (← after-is-within.is_Within.ensures, c.before.before.before.if1.true, ← c.before.before.u64-at.ensures, ← c.before.is-small.ensures, c.if2.false)
 
 returns-3 : tie.Need-returns-3
-unfolding checkFactor
+unfolding check_factor
 returns-3 c =
     rw (← c.before.is_Within.ensures, c.if1.false)
 

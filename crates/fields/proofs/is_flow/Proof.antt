@@ -1,16 +1,16 @@
 -- `fields::is_flow` meets its contract: the pattern without its sign, against that of infinity. Assumes nothing.
-use Rattle.pywr.specs.Numbers.{isFlow}
+use Rattle.pywr.specs.Numbers.{is_flow}
 use Rattle.fields.proofs.Nan.{is_nan, no_nan}
 use Rattle.fields.proofs.is_flow.Statement.{statement}
 use Rattle.fields.proofs.is_flow.Tie as tie
 
 returns : tie.Need-returns
-unfolding isFlow
+unfolding is_flow
 returns c =
     rw (is_nan _ c.if1.true)
 
 returns-2 : tie.Need-returns-2
-unfolding isFlow
+unfolding is_flow
 returns-2 c =
     rw (no_nan _ c.if1.false)
 

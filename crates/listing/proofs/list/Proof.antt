@@ -3,7 +3,7 @@ use mathlib.Core.Path.{refl}
 use native.Mathlib.Omega.{arith}
 use borrow.Author.Rules.{rules}
 use Rattle.pywr.specs.Store.{Store}
-use Rattle.listing.proofs.ListingLaws.{listing-bytes}
+use Rattle.listing.proofs.ListingLaws.{listing_bytes}
 use Rattle.listing.proofs.list.Statement.{statement}
 use Rattle.listing.proofs.list.Tie as tie
 
@@ -21,20 +21,20 @@ returns c =
     let start = c23.before.before.before in
     let a = start.args in
     let s : Store = record {
-      colLower = a.col-lower.now;
-      colUpper = a.col-upper.now;
-      colObjCoef = a.col-obj-coef.now;
-      rowLower = a.row-lower.now;
-      rowUpper = a.row-upper.now;
+      col_lower = a.col-lower.now;
+      col_upper = a.col-upper.now;
+      col_obj_coef = a.col-obj-coef.now;
+      row_lower = a.row_lower_lem.now;
+      row_upper = a.row_upper_lem.now;
       elements = a.elements.now;
       columns = a.columns.now;
-      rowStarts = a.row-starts.now;
+      row_starts = a.row_starts_lem.now;
       shape = a.shape.now;
     } in
     let counted = (counts.put-counts.ensures.0 s refl).next in
     let columned = columns.list-columns.ensures.0 s refl refl refl refl in
     let rowed = rows.list-rows.ensures.0 s refl refl refl refl refl refl in
-    omega (arith, listing-bytes s, counted, columned, rowed)
+    omega (arith, listing_bytes s, counted, columned, rowed)
 
 pub list-spec : {M : Type 1} → statement M
 list-spec =

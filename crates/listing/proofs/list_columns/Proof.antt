@@ -6,9 +6,9 @@ use native.Mathlib.Omega.{arith}
 use lib.ListN.{length}
 use borrow.Author.Rules.{rules}
 use Rattle.pywr.specs.Store.{Store}
-use Rattle.listing_lines.specs.Lines.{lineRoom}
-use Rattle.listing.specs.Listing.{columnsText}
-use Rattle.listing.proofs.ListingLaws.{columns-none, columns-more, columns-listed}
+use Rattle.listing_lines.specs.Lines.{line_room}
+use Rattle.listing.specs.Listing.{columns_text}
+use Rattle.listing.proofs.ListingLaws.{columns_none, columns_more, columns_listed}
 use Rattle.listing.proofs.list_columns.Statement.{statement}
 use Rattle.listing.proofs.list_columns.Tie as tie
 
@@ -17,8 +17,8 @@ invariant-loop out₀ from col-lower col-upper col-obj-coef shape end at₀ writ
     (at ≤ length out)
     × (length out ≡ length out₀)
     × (i ≤ end)
-    × (bytes ≤ lineRoom * i)
-    × ((s : Store) → s.colLower ≡ col-lower → s.colUpper ≡ col-upper → s.colObjCoef ≡ col-obj-coef → s.shape ≡ shape → bytes ≡ length (columnsText s i))
+    × (bytes ≤ line_room * i)
+    × ((s : Store) → s.col_lower ≡ col-lower → s.col_upper ≡ col-upper → s.col_obj_coef ≡ col-obj-coef → s.shape ≡ shape → bytes ≡ length (columns_text s i))
 
 abbrev decreases-loop : tie.decreases-loop
 decreases-loop out₀ from col-lower col-upper col-obj-coef shape end at₀ written₀ bytes₀ i₀ out at written bytes i = end - i
@@ -29,7 +29,7 @@ start c =
     c3.before.before.before
 
 loop-holds : tie.Need-loop-init invariant-loop decreases-loop
-loop-holds c = (search rules, search rules, search rules, search rules, λ s el eu ec eh. columns-none s)
+loop-holds c = (search rules, search rules, search rules, search rules, λ s el eu ec eh. columns_none s)
 
 -- there is a store with these runs
 sub-bytes : tie.Need-overflow-sub-bytes invariant-loop decreases-loop
@@ -39,14 +39,14 @@ sub-bytes c =
     let loop = c4.before.before.before in
     let a = (start loop.before).args in
     let s : Store = record {
-      colLower = a.col-lower.now;
-      colUpper = a.col-upper.now;
-      colObjCoef = a.col-obj-coef.now;
-      rowLower = [];
-      rowUpper = [];
+      col_lower = a.col-lower.now;
+      col_upper = a.col-upper.now;
+      col_obj_coef = a.col-obj-coef.now;
+      row_lower = [];
+      row_upper = [];
       elements = [];
       columns = [];
-      rowStarts = [];
+      row_starts = [];
       shape = a.shape.now;
     } in
     omega (arith, (put.put-stored-column.ensures.0 s refl refl refl refl).next)
@@ -61,7 +61,7 @@ loop-again c =
       search rules,
       search rules,
       search rules,
-      λ s el eu ec eh. omega (arith, columns-more s loop.i, loop.invariant.4 s el eu ec eh, (put.put-stored-column.ensures.0 s el eu ec eh).next),
+      λ s el eu ec eh. omega (arith, columns_more s loop.i, loop.invariant.4 s el eu ec eh, (put.put-stored-column.ensures.0 s el eu ec eh).next),
     )
 
 returns : tie.Need-returns invariant-loop decreases-loop
@@ -71,7 +71,7 @@ returns c =
     let inv = c.before.loop.invariant in
     let e : c.before.loop.i ≡ columns.result = omega (arith, inv.2, c.loop-test.false) in (
       λ s el eu ec eh.
-          let n = columns-listed s a.col-lower.now a.col-upper.now a.col-obj-coef.now a.shape.now columns.result columns.ensures.0 el eu ec eh in
+          let n = columns_listed s a.col-lower.now a.col-upper.now a.col-obj-coef.now a.shape.now columns.result columns.ensures.0 el eu ec eh in
           rw (← n, ← e) (inv.4 s el eu ec eh),
       search rules,
       omega (arith, inv.2, inv.3, columns.ensures.4),

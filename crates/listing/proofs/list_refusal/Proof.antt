@@ -3,7 +3,7 @@ use mathlib.Core.Path.{ap}
 use Prim.Native.Nat.{ℕ}
 use native.Mathlib.Omega.{arith}
 use lib.ListN.{length}
-use Rattle.listing_lines.specs.Lines.{refusalLine}
+use Rattle.listing_lines.specs.Lines.{refusal_line}
 use borrow.Author.Rules.{rules}
 use Rattle.listing.proofs.list_refusal.Statement.{statement}
 use Rattle.listing.proofs.list_refusal.Tie as tie
@@ -15,7 +15,7 @@ returns : tie.Need-returns
 returns c =
     let after-write-refusal = c.before in
     let after-wide8 = after-write-refusal.before in
-    let e = ap (λ (n : ℕ). length (refusalLine n (to_start after-wide8).args.place)) after-wide8.wide8.ensures.0 in
+    let e = ap (λ (n : ℕ). length (refusal_line n (to_start after-wide8).args.place)) after-wide8.wide8.ensures.0 in
     omega (arith, after-write-refusal.write-refusal.ensures.put.next, e)
 
 pub list-refusal-spec : {M : Type 1} → statement M

@@ -1,12 +1,12 @@
 -- `listing_fields::bits` meets its contract. Assumes nothing.
-use Rattle.listing_fields.proofs.FieldLaws.{a-number, no_number}
+use Rattle.listing_fields.proofs.FieldLaws.{a_number, no_number}
 use borrow.Author.Rules.{rules}
 use Rattle.listing_fields.proofs.bits.Statement.{statement}
 use Rattle.listing_fields.proofs.bits.Tie as tie
 
 float-to-bits-result : tie.Need-float-to-bits-result
 float-to-bits-result c =
-    a-number _ c.if1.true
+    a_number _ c.if1.true
 
 returns-2 : tie.Need-returns-2
 returns-2 c =

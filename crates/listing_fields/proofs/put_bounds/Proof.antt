@@ -1,7 +1,7 @@
 -- `listing_fields::put_bounds` meets its contract. Assumes nothing.
 use native.Mathlib.Omega.{arith}
 use Rattle.listing_fields.proofs.FieldLaws.{put_then}
-use Rattle.listing_fields.specs.Fields.{boundsFields}
+use Rattle.listing_fields.specs.Fields.{bounds_fields}
 use borrow.Author.Rules.{rules}
 use Rattle.listing_fields.proofs.put_bounds.Statement.{statement}
 use Rattle.listing_fields.proofs.put_bounds.Tie as tie
@@ -13,7 +13,7 @@ to-put-double c =
     after-out.before
 
 returns : tie.Need-returns
-unfolding boundsFields
+unfolding bounds_fields
 returns c =
     let after-put-double2 = c.before.before in
     let after-put-double = to-put-double after-put-double2 in

@@ -1,7 +1,7 @@
 -- `listing_fields::put_double` meets its contract. Assumes nothing.
 use native.Mathlib.Omega.{arith}
-use Rattle.listing_fields.proofs.FieldLaws.{put_then, put-sixteen}
-use Rattle.listing_fields.specs.Fields.{doubleField}
+use Rattle.listing_fields.proofs.FieldLaws.{put_then, put_sixteen}
+use Rattle.listing_fields.specs.Fields.{double_field}
 use borrow.Author.Rules.{rules}
 use Rattle.listing_fields.proofs.put_double.Statement.{statement}
 use Rattle.listing_fields.proofs.put_double.Tie as tie
@@ -14,10 +14,10 @@ to-put c =
     after-out.before
 
 returns : tie.Need-returns
-unfolding doubleField
+unfolding double_field
 returns c =
     let after-put = to-put c in
-    let d = put-sixteen _ _ c.before.before.before.bits.ensures c.before.before.put-hex.ensures in
+    let d = put_sixteen _ _ c.before.before.before.bits.ensures c.before.before.put-hex.ensures in
     record { put = put_then after-put.put.ensures d.put; end = omega (arith, after-put.put.ensures.next, d.end) }
 
 pub put-double-spec : {M : Type 1} → statement M

@@ -1,7 +1,7 @@
 -- `listing_fields::put_head` meets its contract. Assumes nothing.
 use native.Mathlib.Omega.{arith}
 use Rattle.listing_fields.proofs.FieldLaws.{put_then}
-use Rattle.listing_fields.specs.Fields.{headFields}
+use Rattle.listing_fields.specs.Fields.{head_fields}
 use borrow.Author.Rules.{rules}
 use Rattle.listing_fields.proofs.put_head.Statement.{statement}
 use Rattle.listing_fields.proofs.put_head.Tie as tie
@@ -13,7 +13,7 @@ to-put c =
     after-out.before
 
 returns : tie.Need-returns
-unfolding headFields
+unfolding head_fields
 returns c =
     let after-put-number = c.before.before in
     let after-put = to-put after-put-number in

@@ -1,7 +1,7 @@
 -- `listing_fields::put_letter` meets its contract. Assumes nothing.
 use native.Mathlib.Omega.{arith}
 use Rattle.listing_fields.proofs.FieldLaws.{put_then}
-use Rattle.listing_fields.specs.Fields.{letterField}
+use Rattle.listing_fields.specs.Fields.{letter_field}
 use borrow.Author.Rules.{rules}
 use Rattle.listing_fields.proofs.put_letter.Statement.{statement}
 use Rattle.listing_fields.proofs.put_letter.Tie as tie
@@ -13,7 +13,7 @@ to-put c =
     after-out.before
 
 returns : tie.Need-returns
-unfolding letterField
+unfolding letter_field
 returns c =
     let after-put2 = c.before.before in
     let after-put = to-put after-put2 in

@@ -1,7 +1,7 @@
 -- `listing_fields::put_number` meets its contract. Assumes nothing.
 use native.Mathlib.Omega.{arith}
-use Rattle.listing_fields.proofs.FieldLaws.{put_then, put-decimal}
-use Rattle.listing_fields.specs.Fields.{numberField}
+use Rattle.listing_fields.proofs.FieldLaws.{put_then, put_decimal}
+use Rattle.listing_fields.specs.Fields.{number_field}
 use borrow.Author.Rules.{rules}
 use Rattle.listing_fields.proofs.put_number.Statement.{statement}
 use Rattle.listing_fields.proofs.put_number.Tie as tie
@@ -14,10 +14,10 @@ to-put c =
     after-out.before
 
 returns : tie.Need-returns
-unfolding numberField
+unfolding number_field
 returns c =
     let after-put = to-put c in
-    let d = put-decimal (rw c.before.before.before.usize-to-u64.ensures at c.before.before.put-decimal.ensures) in
+    let d = put_decimal (rw c.before.before.before.usize-to-u64.ensures at c.before.before.put_decimal.ensures) in
     record { put = put_then after-put.put.ensures d.put; end = omega (arith, after-put.put.ensures.next, d.end) }
 
 pub put-number-spec : {M : Type 1} → statement M

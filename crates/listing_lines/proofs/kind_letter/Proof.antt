@@ -1,15 +1,15 @@
 -- `listing_lines::kind_letter` meets its contract. Assumes nothing.
-use Rattle.listing_lines.specs.Lines.{kindLetter}
+use Rattle.listing_lines.specs.Lines.{kind_letter}
 use Rattle.listing_lines.proofs.kind_letter.Statement.{statement}
 use Rattle.listing_lines.proofs.kind_letter.Tie as tie
 
 returns : tie.Need-returns
-unfolding kindLetter
+unfolding kind_letter
 returns c =
     rw c.if1.true
 
 returns-2 : tie.Need-returns-2
-unfolding kindLetter
+unfolding kind_letter
 returns-2 c =
     rw c.if1.false
 

@@ -1,13 +1,13 @@
 -- `listing_lines::put_column` meets its contract. Assumes nothing.
 use native.Mathlib.Omega.{arith}
 use Rattle.listing_fields.proofs.FieldLaws.{put_then}
-use Rattle.listing_lines.specs.Lines.{columnLine}
+use Rattle.listing_lines.specs.Lines.{column_line}
 use borrow.Author.Rules.{rules}
 use Rattle.listing_lines.proofs.put_column.Statement.{statement}
 use Rattle.listing_lines.proofs.put_column.Tie as tie
 
 returns : tie.Need-returns
-unfolding columnLine
+unfolding column_line
 returns c =
     let after-put = c.before.before in
     let after-out4 = after-put.before.before.before in

@@ -1,7 +1,7 @@
 -- `listing_lines::put_element` meets its contract. Assumes nothing.
 use native.Mathlib.Omega.{arith}
 use Rattle.listing_fields.proofs.FieldLaws.{put_then}
-use Rattle.listing_lines.specs.Lines.{elementLine}
+use Rattle.listing_lines.specs.Lines.{element_line}
 use borrow.Author.Rules.{rules}
 use Rattle.listing_lines.proofs.put_element.Statement.{statement}
 use Rattle.listing_lines.proofs.put_element.Tie as tie
@@ -19,7 +19,7 @@ to-put-head c =
     after-out.before
 
 returns : tie.Need-returns
-unfolding elementLine
+unfolding element_line
 returns c =
     let after-put-double = to-put-double c in
     let after-put-head = to-put-head c in

@@ -1,7 +1,7 @@
 -- `listing_lines::put_maker_fields` meets its contract. Assumes nothing.
 use native.Mathlib.Omega.{arith}
 use Rattle.listing_fields.proofs.FieldLaws.{put_then}
-use Rattle.listing_lines.specs.Lines.{makerFields}
+use Rattle.listing_lines.specs.Lines.{maker_fields}
 use borrow.Author.Rules.{rules}
 use Rattle.listing_lines.proofs.put_maker_fields.Statement.{statement}
 use Rattle.listing_lines.proofs.put_maker_fields.Tie as tie
@@ -18,7 +18,7 @@ to-put-number2 c =
     after-out2.before
 
 returns : tie.Need-returns
-unfolding makerFields
+unfolding maker_fields
 returns c =
     let after-put-number3 = c.before.before in
     let after-put-number2 = to-put-number2 after-put-number3 in

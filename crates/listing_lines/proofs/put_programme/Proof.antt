@@ -1,7 +1,7 @@
 -- `listing_lines::put_programme` meets its contract. Assumes nothing.
 use native.Mathlib.Omega.{arith}
 use Rattle.listing_fields.proofs.FieldLaws.{put_then}
-use Rattle.listing_lines.specs.Lines.{programmeLine}
+use Rattle.listing_lines.specs.Lines.{programme_line}
 use borrow.Author.Rules.{rules}
 use Rattle.listing_lines.proofs.put_programme.Statement.{statement}
 use Rattle.listing_lines.proofs.put_programme.Tie as tie
@@ -28,7 +28,7 @@ to-put-number3 c =
     after-out4.before
 
 returns : tie.Need-returns
-unfolding programmeLine
+unfolding programme_line
 returns c =
     let after-put = c.before.before in
     let after-put-number3 = to-put-number3 after-put in

@@ -1,7 +1,7 @@
 -- `listing_lines::put_refusal` meets its contract. Assumes nothing.
 use native.Mathlib.Omega.{arith}
 use Rattle.listing_fields.proofs.FieldLaws.{put_then}
-use Rattle.listing_lines.specs.Lines.{refusalLine}
+use Rattle.listing_lines.specs.Lines.{refusal_line}
 use borrow.Author.Rules.{rules}
 use Rattle.listing_lines.proofs.put_refusal.Statement.{statement}
 use Rattle.listing_lines.proofs.put_refusal.Tie as tie
@@ -19,7 +19,7 @@ to-put-head c =
     after-out.before
 
 returns : tie.Need-returns
-unfolding refusalLine
+unfolding refusal_line
 returns c =
     let after-put-number = to-put-number c in
     let after-put-head = to-put-head c in

@@ -1,7 +1,7 @@
 -- `listing_lines::put_step` meets its contract. Assumes nothing.
 use native.Mathlib.Omega.{arith}
 use Rattle.listing_fields.proofs.FieldLaws.{put_then}
-use Rattle.listing_lines.specs.Lines.{stepLine}
+use Rattle.listing_lines.specs.Lines.{step_line}
 use borrow.Author.Rules.{rules}
 use Rattle.listing_lines.proofs.put_step.Statement.{statement}
 use Rattle.listing_lines.proofs.put_step.Tie as tie
@@ -13,7 +13,7 @@ to-put-head c =
     after-put-arg.before.before.before
 
 returns : tie.Need-returns
-unfolding stepLine
+unfolding step_line
 returns c =
     let after-put-head = to-put-head c in
     record {

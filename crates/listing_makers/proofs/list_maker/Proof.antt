@@ -4,8 +4,8 @@ use mathlib.Core.Path.{◌∙◌, ap}
 use native.Mathlib.Omega.{arith}
 use lib.ListN.{length}
 use borrow.Author.Rules.{rules}
-use Rattle.pywr.specs.Store.{rowCount}
-use Rattle.listing_makers.proofs.MakerLineLaws.{rows-counted, there, not_there}
+use Rattle.pywr.specs.Store.{row_count}
+use Rattle.listing_makers.proofs.MakerLineLaws.{rows_counted, there, not_there}
 use Rattle.listing_makers.proofs.list_maker.Statement.{statement}
 use Rattle.listing_makers.proofs.list_maker.Tie as tie
 
@@ -20,8 +20,8 @@ returns c =
     let after-row-count = then1.before in
     let a = (to_start after-row-count).args in
     λ s e.
-    let n = rows-counted s a.shape.now after-row-count.row_count.result after-row-count.row_count.ensures.0 e in
-    let h : a.row < rowCount s = omega (arith, then1.if1.true) in
+    let n = rows_counted s a.shape.now after-row-count.row_count.result after-row-count.row_count.ensures.0 e in
+    let h : a.row < row_count s = omega (arith, then1.if1.true) in
     omega (arith, (after-write-maker.write-maker.ensures s e).next, ap length (there s a.row h))
 
 returns-2 : tie.Need-returns-2
@@ -30,8 +30,8 @@ returns-2 c =
     let after-row-count = else1.before in
     let a = (to_start after-row-count).args in
     λ s e.
-    let n = rows-counted s a.shape.now after-row-count.row_count.result after-row-count.row_count.ensures.0 e in
-    let h : rowCount s ≤ a.row = omega (arith, else1.if1.false) in
+    let n = rows_counted s a.shape.now after-row-count.row_count.result after-row-count.row_count.ensures.0 e in
+    let h : row_count s ≤ a.row = omega (arith, else1.if1.false) in
     c.list-refusal.ensures ∙ ap length (not_there s a.row h)
 
 pub list-maker-spec : {M : Type 1} → statement M

@@ -2,7 +2,7 @@
 use native.Mathlib.Omega.{arith}
 use borrow.Author.Rules.{rules}
 use Rattle.listing_fields.proofs.FieldLaws.{put_then}
-use Rattle.listing_makers.specs.Makers.{makerLine}
+use Rattle.listing_makers.specs.Makers.{maker_line}
 use Rattle.listing_makers.proofs.put_maker.Statement.{statement}
 use Rattle.listing_makers.proofs.put_maker.Tie as tie
 
@@ -38,7 +38,7 @@ to-put-all c =
     after-out.before
 
 returns : tie.Need-returns
-unfolding makerLine
+unfolding maker_line
 returns c =
     let after-put = c.before.before in
     let after-put-shared = to-put-shared after-put in

@@ -3,12 +3,12 @@ use native.Mathlib.Omega.{arith}
 use borrow.Author.Rules.{rules}
 use Rattle.text.proofs.Placed.{put_as}
 use Rattle.listing_fields.proofs.FieldLaws.{put_then}
-use Rattle.listing_makers.proofs.MakerLineLaws.{put-nothing, one-maker, more-makers}
+use Rattle.listing_makers.proofs.MakerLineLaws.{put_nothing, one_maker, more_makers}
 use Rattle.listing_makers.proofs.put_shared.Statement.{statement}
 use Rattle.listing_makers.proofs.put_shared.Tie as tie
 
 returns : tie.Need-returns
-returns c = put-nothing (one-maker _ c.if1.true)
+returns c = put_nothing (one_maker _ c.if1.true)
 
 -- from a place to an earlier one
 abbrev to-put-all : tie.After-put-number → tie.After-put-all
@@ -22,7 +22,7 @@ returns-2 c =
     let after-put-all = to-put-all after-put-number in
     let else1 = after-put-all.before.before.before in
     record {
-      put = put_as (more-makers _ else1.if1.left) (put_then after-put-all.put_all.ensures after-put-number.put-number.ensures.put);
+      put = put_as (more_makers _ else1.if1.left) (put_then after-put-all.put_all.ensures after-put-number.put-number.ensures.put);
       end = omega (arith, after-put-all.put_all.ensures.next, after-put-number.put-number.ensures.end);
     }
 

@@ -3,7 +3,7 @@ use mathlib.Core.Path.{ap}
 use borrow.Author.Rules.{rules}
 use Rattle.pywr.specs.Programme.{Maker}
 use Rattle.text.proofs.Placed.{put_as}
-use Rattle.listing_makers.specs.Makers.{makerLine}
+use Rattle.listing_makers.specs.Makers.{maker_line}
 use Rattle.listing_makers.proofs.write_maker.Statement.{statement}
 use Rattle.listing_makers.proofs.write_maker.Tie as tie
 
@@ -23,7 +23,7 @@ returns c =
     let after-put-maker = to-put-maker c in
     let after-row-maker = after-put-maker.before in
     let row = (to_start after-row-maker).args.row in
-    λ s e. put_as (ap (λ (m : Maker). makerLine row m) (after-row-maker.row-maker.ensures s e)) after-put-maker.put-maker.ensures.put
+    λ s e. put_as (ap (λ (m : Maker). maker_line row m) (after-row-maker.row-maker.ensures s e)) after-put-maker.put-maker.ensures.put
 
 pub write-maker-spec : {M : Type 1} → statement M
 write-maker-spec =

@@ -5,15 +5,15 @@ use Prim.Native.Nat.{◌+◌, ◌*◌, ◌-◌, ◌≤◌}
 use native.Mathlib.Omega.{arith}
 use lib.ListN.{length}
 use borrow.Author.Rules.{rules}
-use Rattle.listing_lines.specs.Lines.{lineRoom}
-use Rattle.listing_rows.proofs.ElementLaws.{bytesFrom, bytes-none, bytes-more}
+use Rattle.listing_lines.specs.Lines.{line_room}
+use Rattle.listing_rows.proofs.ElementLaws.{bytes_from, bytes_none, bytes_more}
 use Rattle.listing_rows.proofs.list_elements.Statement.{statement}
 use Rattle.listing_rows.proofs.list_elements.Tie as tie
 
 abbrev invariant-loop : tie.invariant-loop
 invariant-loop out₀ from so_far columns elements first end at₀ written₀ bytes₀ i₀ out at written bytes i =
-    (at ≤ length out) × (length out ≡ length out₀) × (first ≤ i) × (i ≤ end) × (bytes ≤ lineRoom * (i - first))
-    × (bytes + bytesFrom columns elements i end ≡ bytesFrom columns elements first end) × (so_far ≡ false → written ≡ false)
+    (at ≤ length out) × (length out ≡ length out₀) × (first ≤ i) × (i ≤ end) × (bytes ≤ line_room * (i - first))
+    × (bytes + bytes_from columns elements i end ≡ bytes_from columns elements first end) × (so_far ≡ false → written ≡ false)
 
 abbrev decreases-loop : tie.decreases-loop
 decreases-loop out₀ from so_far columns elements first end at₀ written₀ bytes₀ i₀ out at written bytes i = end - i
@@ -26,7 +26,7 @@ loop-again c =
     let loop = spare.before.before.before in
     let known = loop.before.before.before in
     let a = known.before.args in
-    let e = bytes-more a.columns.now a.elements.now loop.loop.i a.end wide16.wide16.result (search rules) (search rules) (search rules) wide16.wide16.ensures.0 in (
+    let e = bytes_more a.columns.now a.elements.now loop.loop.i a.end wide16.wide16.result (search rules) (search rules) (search rules) wide16.wide16.ensures.0 in (
       search rules,
       search rules,
       search rules,
@@ -42,7 +42,7 @@ returns c =
     let known = loop.before.before.before in
     let a = known.before.args in
     let e : loop.loop.i ≡ a.end = omega arith in
-    let n = bytes-none a.columns.now a.elements.now a.end in
+    let n = bytes_none a.columns.now a.elements.now a.end in
     let inv = rw e at loop.loop.invariant.5 in
     (omega arith, omega arith, omega arith, loop.loop.invariant.6)
 

@@ -4,7 +4,7 @@ use mathlib.Core.List.{[]}
 use native.Mathlib.Omega.{arith}
 use borrow.Author.Rules.{rules}
 use Rattle.pywr.specs.Store.{Store}
-use Rattle.listing_rows.proofs.RowLaws.{row-bytes}
+use Rattle.listing_rows.proofs.RowLaws.{row_bytes}
 use Rattle.listing_rows.proofs.list_row.Statement.{statement}
 use Rattle.listing_rows.proofs.list_row.Tie as tie
 
@@ -22,14 +22,14 @@ sub-t16 c =
     let first = row.before.before in
     let a = (start first.before.before).args in
     let s : Store = record {
-      colLower = [];
-      colUpper = [];
-      colObjCoef = [];
-      rowLower = a.row-lower.now;
-      rowUpper = a.row-upper.now;
+      col_lower = [];
+      col_upper = [];
+      col_obj_coef = [];
+      row_lower = a.row_lower_lem.now;
+      row_upper = a.row_upper_lem.now;
       elements = [];
       columns = [];
-      rowStarts = [];
+      row_starts = [];
       shape = a.shape.now;
     } in
     omega (arith, (row.put-stored-row.ensures.0 s refl refl refl).next)
@@ -49,7 +49,7 @@ returns c =
     let row = after-put-stored-row.put-stored-row in
     let listed = after-list-elements.list-elements in (
       λ s el eu ex ec es eh.
-          let e = row-bytes s a.elements.now a.columns.now a.row-starts.now a.row known.result last.result first.result
+          let e = row_bytes s a.elements.now a.columns.now a.row_starts_lem.now a.row known.result last.result first.result
           known.ensures.0 last.ensures.0 first.ensures.0 ex ec es in
           omega (arith, (row.ensures.0 s el eu eh).next, listed.ensures.0),
       omega (arith, listed.ensures.1),

@@ -6,25 +6,25 @@ use native.Mathlib.Omega.{arith}
 use lib.ListN.{length}
 use borrow.Author.Rules.{rules}
 use Rattle.pywr.specs.Store.{Store}
-use Rattle.listing_rows.specs.Rows.{rowsText}
-use Rattle.listing_rows.proofs.RowLaws.{rows_none, rows_more, rows-listed}
+use Rattle.listing_rows.specs.Rows.{rows_text}
+use Rattle.listing_rows.proofs.RowLaws.{rows_none, rows_more, rows_listed}
 use Rattle.listing_rows.proofs.list_rows.Statement.{statement}
 use Rattle.listing_rows.proofs.list_rows.Tie as tie
 
 abbrev invariant-loop : tie.invariant-loop
-invariant-loop out₀ from so_far row-lower row-upper elements columns row-starts shape end at₀ written₀ bytes₀ i₀ out at written bytes i =
+invariant-loop out₀ from so_far row_lower_lem row_upper_lem elements columns row_starts_lem shape end at₀ written₀ bytes₀ i₀ out at written bytes i =
     (at ≤ length out)
     × (length out ≡ length out₀)
     × (i ≤ end)
     × (bytes ≤ 1099511627776 * i)
     × (
-    (s : Store) → s.rowLower ≡ row-lower → s.rowUpper ≡ row-upper → s.elements ≡ elements → s.columns ≡ columns → s.rowStarts ≡ row-starts → s.shape ≡ shape
-    → bytes ≡ length (rowsText s i)
+    (s : Store) → s.row_lower ≡ row_lower_lem → s.row_upper ≡ row_upper_lem → s.elements ≡ elements → s.columns ≡ columns → s.row_starts ≡ row_starts_lem → s.shape ≡ shape
+    → bytes ≡ length (rows_text s i)
     )
     × (so_far ≡ false → written ≡ false)
 
 abbrev decreases-loop : tie.decreases-loop
-decreases-loop out₀ from so_far row-lower row-upper elements columns row-starts shape end at₀ written₀ bytes₀ i₀ out at written bytes i = end - i
+decreases-loop out₀ from so_far row_lower_lem row_upper_lem elements columns row_starts_lem shape end at₀ written₀ bytes₀ i₀ out at written bytes i = end - i
 
 loop-holds : tie.Need-loop-init invariant-loop decreases-loop
 loop-holds c = (search rules, search rules, search rules, search rules, λ s el eu ex ec es eh. rows_none s, λ f. f)
@@ -57,7 +57,7 @@ returns c =
     let inv = loop.invariant in
     let e : loop.i ≡ rows.result = omega (arith, inv.2, c.loop-test.false) in (
       λ s el eu ex ec es eh.
-          let n = rows-listed s a.row-lower.now a.row-upper.now a.row-starts.now a.shape.now rows.result rows.ensures.0 el eu es eh in
+          let n = rows_listed s a.row_lower_lem.now a.row_upper_lem.now a.row_starts_lem.now a.shape.now rows.result rows.ensures.0 el eu es eh in
           rw (← n, ← e) (inv.4 s el eu ex ec es eh),
       search rules,
       omega (arith, inv.2, inv.3, rows.ensures.4),

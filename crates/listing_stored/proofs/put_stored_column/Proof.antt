@@ -1,6 +1,6 @@
 -- `listing_stored::put_stored_column` meets its contract. Assumes nothing.
 use Rattle.text.proofs.Placed.{put_as}
-use Rattle.listing_stored.proofs.StoredLaws.{column-text}
+use Rattle.listing_stored.proofs.StoredLaws.{column_text_lem}
 use borrow.Author.Rules.{rules}
 use Rattle.listing_stored.proofs.put_stored_column.Statement.{statement}
 use Rattle.listing_stored.proofs.put_stored_column.Tie as tie
@@ -23,7 +23,7 @@ returns c =
     let after-word = to_word c in
     let start = to_start c in (
       λ s el eu ec es. put_as
-          (column-text s start.args.col-lower.now start.args.col-upper.now start.args.col-obj-coef.now start.args.shape.now start.args.c after-word.word.result
+          (column_text_lem s start.args.col-lower.now start.args.col-upper.now start.args.col-obj-coef.now start.args.shape.now start.args.c after-word.word.result
           start.pre.1 start.pre.2 start.pre.3 after-word.word.ensures.0 el eu ec es) c.before.before.put-column.ensures.put,
       c.before.before.put-column.ensures.end,
     )

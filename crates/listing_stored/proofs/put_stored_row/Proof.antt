@@ -1,6 +1,6 @@
 -- `listing_stored::put_stored_row` meets its contract. Assumes nothing.
 use Rattle.text.proofs.Placed.{put_as}
-use Rattle.listing_stored.proofs.StoredLaws.{row-text}
+use Rattle.listing_stored.proofs.StoredLaws.{row_text_lem}
 use borrow.Author.Rules.{rules}
 use Rattle.listing_stored.proofs.put_stored_row.Statement.{statement}
 use Rattle.listing_stored.proofs.put_stored_row.Tie as tie
@@ -22,7 +22,7 @@ returns c =
     let after-word = after-row-maker.before in
     let start = to_start after-word in (
       λ s el eu es. put_as
-          (row-text s start.args.row-lower.now start.args.row-upper.now start.args.shape.now start.args.row after-word.word.result start.args.elements
+          (row_text_lem s start.args.row_lower_lem.now start.args.row_upper_lem.now start.args.shape.now start.args.row after-word.word.result start.args.elements
           after-row-maker.row-maker.result start.pre.1 start.pre.2 after-word.word.ensures.0 (after-row-maker.row-maker.ensures s es) el eu es)
           c.before.before.put-row.ensures.put,
       c.before.before.put-row.ensures.end,

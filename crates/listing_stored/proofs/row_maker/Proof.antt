@@ -1,5 +1,5 @@
 -- `listing_stored::row_maker` meets its contract. Assumes nothing.
-use Rattle.listing_stored.proofs.StoredLaws.{maker-read}
+use Rattle.listing_stored.proofs.StoredLaws.{maker_read}
 use borrow.Author.Rules.{rules}
 use Rattle.listing_stored.proofs.row_maker.Statement.{statement}
 use Rattle.listing_stored.proofs.row_maker.Tie as tie
@@ -13,7 +13,7 @@ returns c =
     let after-word2 = c.before in
     let after-word = after-word2.before in
     let a = (to_start after-word).args in
-    λ s e. maker-read s a.shape.now a.row after-word.word.result after-word2.word2.result c.word3.result
+    λ s e. maker_read s a.shape.now a.row after-word.word.result after-word2.word2.result c.word3.result
     after-word.word.ensures.0 after-word2.word2.ensures.0 c.word3.ensures.0 e
 
 pub row-maker-spec : {M : Type 1} → statement M

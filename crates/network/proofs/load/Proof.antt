@@ -1,6 +1,6 @@
 -- `network::load` meets its contract: what the records and the checks answered. Assumes nothing.
 use Rattle.pywr.specs.Result.{◌>>=◌}
-use Rattle.pywr.specs.NetworkFile.{parseNetwork}
+use Rattle.pywr.specs.NetworkFile.{parse_network}
 use borrow.Author.Rules.{rules}
 use Rattle.network.proofs.load.Statement.{statement}
 use Rattle.network.proofs.load.Tie as tie
@@ -10,12 +10,12 @@ check-network-requires c κs =
     rw c.before.r2.given.1 at c.before.before.before.scan.ensures.1
 
 returns : tie.Need-returns
-unfolding parseNetwork ◌>>=◌
+unfolding parse_network ◌>>=◌
 returns c =
     (rw (c.before.before.before.scan.ensures.0, c.before.r.given.1), tt)
 
 returns-2 : tie.Need-returns-2
-unfolding parseNetwork ◌>>=◌
+unfolding parse_network ◌>>=◌
 returns-2 c =
     let after-check-network = c.before.before.before in
     let after-r2 = after-check-network.before.before in
@@ -23,7 +23,7 @@ returns-2 c =
     (rw (after-scan.scan.ensures.0, after-r2.r2.given.1, c.before.before.before.check-network.ensures, c.before.f.given.1), tt)
 
 returns-3 : tie.Need-returns-3
-unfolding parseNetwork ◌>>=◌
+unfolding parse_network ◌>>=◌
 returns-3 c =
     let after-check-network = c.before.before in
     let after-r2 = after-check-network.before.before in

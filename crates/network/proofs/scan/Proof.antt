@@ -2,7 +2,7 @@
 use native.Mathlib.Omega.{arith}
 use mathlib.Core.Path.{sym, ◌∙◌}
 use Prim.Native.Nat.{◌+◌, ◌-◌}
-use Rattle.network.proofs.ScanLoop.{ScanInvariant, first, fixed-at, node-more, edge_more, aggregate-more, virtual-storage-more, refusal, accepted, placed}
+use Rattle.network.proofs.ScanLoop.{ScanInvariant, first, fixed_at, node_more, edge_more, aggregate_more, virtual_storage_more, refusal, accepted, placed}
 use borrow.Author.Rules.{rules}
 use Rattle.network.proofs.scan.Statement.{statement}
 use Rattle.network.proofs.scan.Tie as tie
@@ -30,7 +30,7 @@ loop-holds c =
 
 check-record-requires : tie.Need-check-record-requires invariant-loop decreases-loop
 check-record-requires c κs =
-    (search rules, λ l. let f = fixed-at _ _ _ _ _ _ _ _ c.before.loop.invariant l in omega (arith, f), c.before.loop.invariant.few-nodes)
+    (search rules, λ l. let f = fixed_at _ _ _ _ _ _ _ _ c.before.loop.invariant l in omega (arith, f), c.before.loop.invariant.few_nodes)
 
 returns : tie.Need-returns invariant-loop decreases-loop
 returns c =
@@ -46,7 +46,7 @@ loop-less c =
     let at-loop = after-check-record.before.before in
     let h = rw c.before.t2.given.1 at c.before.before.before.check-record.ensures.1 in
     let i = at-loop.loop.invariant in
-    omega (arith, h.1, i.few-nodes, i.few-edges, i.few-aggregates, i.few-virtual-storages)
+    omega (arith, h.1, i.few_nodes, i.few_edges, i.few_aggregates_lem, i.few_virtual_storages_lem)
 
 loop-again : tie.Need-loop-preserved invariant-loop decreases-loop
 loop-again c =
@@ -54,7 +54,7 @@ loop-again c =
     let in-loop = after-check-record.before in
     let at-loop = in-loop.before in
     let h = rw c.before.t2.given.1 at c.before.before.before.check-record.ensures.1 in
-    node-more _ _ _ _ _ _ _ _ at-loop.loop.invariant _ in-loop.loop-test.true (sym c.before.before.before.check-record.ensures.0 ∙ c.before.t2.given.1) h
+    node_more _ _ _ _ _ _ _ _ at-loop.loop.invariant _ in-loop.loop-test.true (sym c.before.before.before.check-record.ensures.0 ∙ c.before.t2.given.1) h
 
 add-e : tie.Need-overflow-add-e invariant-loop decreases-loop
 add-e c =
@@ -66,7 +66,7 @@ loop-less-2 c =
     let at-loop = after-check-record.before.before in
     let h = rw c.before.t3.given.1 at c.before.before.before.check-record.ensures.1 in
     let i = at-loop.loop.invariant in
-    omega (arith, h.1, i.few-nodes, i.few-edges, i.few-aggregates, i.few-virtual-storages)
+    omega (arith, h.1, i.few_nodes, i.few_edges, i.few_aggregates_lem, i.few_virtual_storages_lem)
 
 loop-again-2 : tie.Need-loop-preserved-2 invariant-loop decreases-loop
 loop-again-2 c =
@@ -86,7 +86,7 @@ loop-less-3 c =
     let at-loop = after-check-record.before.before in
     let h = rw c.before.t4.given.1 at c.before.before.before.check-record.ensures.1 in
     let i = at-loop.loop.invariant in
-    omega (arith, h.1, i.few-nodes, i.few-edges, i.few-aggregates, i.few-virtual-storages)
+    omega (arith, h.1, i.few_nodes, i.few_edges, i.few_aggregates_lem, i.few_virtual_storages_lem)
 
 loop-again-3 : tie.Need-loop-preserved-3 invariant-loop decreases-loop
 loop-again-3 c =
@@ -94,7 +94,7 @@ loop-again-3 c =
     let in-loop = after-check-record.before in
     let at-loop = in-loop.before in
     let h = rw c.before.t4.given.1 at c.before.before.before.check-record.ensures.1 in
-    aggregate-more _ _ _ _ _ _ _ _ at-loop.loop.invariant _ in-loop.loop-test.true (sym c.before.before.before.check-record.ensures.0 ∙ c.before.t4.given.1) h
+    aggregate_more _ _ _ _ _ _ _ _ at-loop.loop.invariant _ in-loop.loop-test.true (sym c.before.before.before.check-record.ensures.0 ∙ c.before.t4.given.1) h
 
 add-v : tie.Need-overflow-add-v invariant-loop decreases-loop
 add-v c =
@@ -106,7 +106,7 @@ loop-less-4 c =
     let at-loop = after-check-record.before.before in
     let h = rw c.before.t5.given.1 at c.before.before.before.check-record.ensures.1 in
     let i = at-loop.loop.invariant in
-    omega (arith, h.1, i.few-nodes, i.few-edges, i.few-aggregates, i.few-virtual-storages)
+    omega (arith, h.1, i.few_nodes, i.few_edges, i.few_aggregates_lem, i.few_virtual_storages_lem)
 
 loop-again-4 : tie.Need-loop-preserved-4 invariant-loop decreases-loop
 loop-again-4 c =
@@ -114,7 +114,7 @@ loop-again-4 c =
     let in-loop = after-check-record.before in
     let at-loop = in-loop.before in
     let h = rw c.before.t5.given.1 at c.before.before.before.check-record.ensures.1 in
-    virtual-storage-more _ _ _ _ _ _ _ _ at-loop.loop.invariant _ in-loop.loop-test.true (sym c.before.before.before.check-record.ensures.0 ∙ c.before.t5.given.1) h
+    virtual_storage_more _ _ _ _ _ _ _ _ at-loop.loop.invariant _ in-loop.loop-test.true (sym c.before.before.before.check-record.ensures.0 ∙ c.before.t5.given.1) h
 
 returns-2 : tie.Need-returns-2 invariant-loop decreases-loop
 returns-2 c =

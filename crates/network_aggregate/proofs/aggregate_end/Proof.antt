@@ -5,24 +5,24 @@ use mathlib.Core.Path.{◌≡◌, sym, ◌∙◌, ap}
 use Prim.Native.Nat.{ℕ, ◌+◌, ◌-◌, ◌<◌, ◌≤◌}
 use mathlib.Core.List.{List}
 use lib.ListN.{length}
-use Rattle.fields.specs.Records.{recordsEnd}
-use Rattle.fields.proofs.RecordLaws.{end_after, end-left, end-over}
+use Rattle.fields.specs.Records.{records_end}
+use Rattle.fields.proofs.RecordLaws.{end_after, end_left, end_over}
 use Rattle.pywr.specs.Bytes.{byte}
-use Rattle.network_aggregate.specs.AggregatedNode.{setEnd, aggregateEnd}
+use Rattle.network_aggregate.specs.AggregatedNode.{set_end, aggregate_end}
 use borrow.Author.Rules.{rules}
 use Rattle.network_aggregate.proofs.aggregate_end.Statement.{statement}
 use Rattle.network_aggregate.proofs.aggregate_end.Tie as tie
 
 -- a set that is not the last ends within the record
-set-inside : (s : List ℕ) (at count i here : ℕ) → aggregateEnd s at ≤ length s → aggregateEnd s at ≡ recordsEnd (setEnd s) (count - i) here → i < count → setEnd s here ≤ length s
+set-inside : (s : List ℕ) (at count i here : ℕ) → aggregate_end s at ≤ length s → aggregate_end s at ≡ records_end (set_end s) (count - i) here → i < count → set_end s here ≤ length s
 set-inside s at count i here h e lt =
-    omega (arith, h, e, end-left (setEnd s) count i here lt, end_after (setEnd s) (λ y. omega arith) (count - (i + 1)) (setEnd s here))
+    omega (arith, h, e, end_left (set_end s) count i here lt, end_after (set_end s) (λ y. omega arith) (count - (i + 1)) (set_end s here))
 
-fields-inside : (s : List ℕ) (at : ℕ) → aggregateEnd s at ≤ length s → at + 12 ≤ length s
-fields-inside s at h = omega (arith, h, end_after (setEnd s) (λ y. omega arith) (byte s (at + 3)) (at + 12))
+fields-inside : (s : List ℕ) (at : ℕ) → aggregate_end s at ≤ length s → at + 12 ≤ length s
+fields-inside s at h = omega (arith, h, end_after (set_end s) (λ y. omega arith) (byte s (at + 3)) (at + 12))
 
 abbrev invariant-loop : tie.invariant-loop
-invariant-loop s at count here₀ i₀ here i = aggregateEnd s at ≡ recordsEnd (setEnd s) (count - i) here
+invariant-loop s at count here₀ i₀ here i = aggregate_end s at ≡ records_end (set_end s) (count - i) here
 
 abbrev decreases-loop : tie.decreases-loop
 decreases-loop s at count here₀ i₀ here i = count - i
@@ -37,13 +37,13 @@ set-count-requires : tie.Need-set-count-requires invariant-loop decreases-loop
 set-count-requires c κs =
     fields-inside c.before.args.s.now c.before.args.at c.before.requires
 
-add-here : tie.Need-overflow-add-here invariant-loop decreases-loop
-add-here c =
+add_here : tie.Need-overflow-add-here invariant-loop decreases-loop
+add_here c =
     omega (arith, fields-inside c.before.before.args.s.now c.before.before.args.at c.before.before.requires)
 
 loop-holds : tie.Need-loop-init invariant-loop decreases-loop
 loop-holds c =
-    rw (sub-zero, c.set-count.ensures.0)
+    rw (sub-zero, c.set_count_lem.ensures.0)
 
 set-end-requires : tie.Need-set-end-requires invariant-loop decreases-loop
 set-end-requires c κs =
@@ -52,17 +52,17 @@ set-end-requires c κs =
     let start = after-set-count.before.before in
     omega (
       arith,
-      set-inside start.args.s.now start.args.at after-set-count.set-count.result at-loop.loop.i at-loop.loop.here start.requires
+      set-inside start.args.s.now start.args.at after-set-count.set_count_lem.result at-loop.loop.i at-loop.loop.here start.requires
           at-loop.loop.invariant c.loop-test.true,
     )
 
 loop-again : tie.Need-loop-preserved invariant-loop decreases-loop
 loop-again c =
-    c.before.before.loop.invariant ∙ end-left _ _ _ _ c.before.loop-test.true ∙ ap (recordsEnd (setEnd (to_start c).args.s.now) _) (sym c.set-end.ensures)
+    c.before.before.loop.invariant ∙ end_left _ _ _ _ c.before.loop-test.true ∙ ap (records_end (set_end (to_start c).args.s.now) _) (sym c.set_end_lem.ensures)
 
 returns : tie.Need-returns invariant-loop decreases-loop
 returns c =
-    sym (c.before.loop.invariant ∙ end-over _ _ _ _ c.loop-test.false)
+    sym (c.before.loop.invariant ∙ end_over _ _ _ _ c.loop-test.false)
 
 pub aggregate-end-spec : {M : Type 1} → statement M
 aggregate-end-spec =
@@ -71,7 +71,7 @@ aggregate-end-spec =
     invariant-loop
     decreases-loop
     set-count-requires
-    add-here
+    add_here
     loop-holds
     set-end-requires
     (λ c. search rules)

@@ -1,23 +1,23 @@
 -- `network_aggregate::check_aggregate` meets its contract: at each return, what each field answered. Assumes nothing.
 use native.Mathlib.Omega.{arith}
 use mathlib.Core.Path.{sym, ◌∙◌}
-use Rattle.fields.proofs.Within.{active-within}
-use Rattle.network_aggregate.specs.AggregatedNode.{checkAggregate}
+use Rattle.fields.proofs.Within.{active_within}
+use Rattle.network_aggregate.specs.AggregatedNode.{check_aggregate}
 use borrow.Author.Rules.{rules}
 use Rattle.network_aggregate.proofs.check_aggregate.Statement.{statement}
 use Rattle.network_aggregate.proofs.check_aggregate.Tie as tie
 
 check-sets-requires : tie.Need-check-sets-requires
 check-sets-requires c κs =
-    let h = active-within _ _ _ _ _ _ (sym c.before.before.active-field2.ensures ∙ c.enum_told.given.1) in omega (arith, h.0)
+    let h = active_within _ _ _ _ _ _ (sym c.before.before.active-field2.ensures ∙ c.enum_told.given.1) in omega (arith, h.0)
 
 returns : tie.Need-returns
-unfolding checkAggregate
+unfolding check_aggregate
 returns c =
     (rw (← c.before.before.before.byte-field.ensures, c.before.k.given.1), tt)
 
 returns-2 : tie.Need-returns-2
-unfolding checkAggregate
+unfolding check_aggregate
 returns-2 c =
     let after-byte-field2 = c.before.before.before in
     let after-k2 = after-byte-field2.before.before in
@@ -25,7 +25,7 @@ returns-2 c =
     (rw (← after-byte-field.byte-field.ensures, after-k2.k2.given.1, ← c.before.before.before.byte-field2.ensures, c.before.c.given.1), tt)
 
 returns-3 : tie.Need-returns-3
-unfolding checkAggregate
+unfolding check_aggregate
 returns-3 c =
     let after-l = c.before in
     let after-active-field = after-l.before.before in
@@ -46,7 +46,7 @@ returns-3 c =
     )
 
 returns-4 : tie.Need-returns-4
-unfolding checkAggregate
+unfolding check_aggregate
 returns-4 c =
     let after-m = c.before in
     let after-active-field2 = after-m.before.before in
@@ -71,7 +71,7 @@ returns-4 c =
     )
 
 returns-5 : tie.Need-returns-5
-unfolding checkAggregate
+unfolding check_aggregate
 returns-5 c =
     let after-active-field2 = c.before.before.before in
     let after-l2 = after-active-field2.before.before in

@@ -4,17 +4,17 @@ use native.Mathlib.Omega.{arith}
 use mathlib.Core.Path.{◌≡◌, sym, ◌∙◌}
 use Prim.Native.Nat.{◌-◌, ◌≤◌}
 use lib.ListN.{length}
-use Rattle.fields.specs.Records.{checkEach}
-use Rattle.fields.proofs.Within.{node-within}
-use Rattle.fields.proofs.RecordLaws.{each_more, each-refused, each-end}
-use Rattle.network_aggregate.specs.AggregatedNode.{checkMember}
+use Rattle.fields.specs.Records.{check_each}
+use Rattle.fields.proofs.Within.{node_within}
+use Rattle.fields.proofs.RecordLaws.{each_more, each_refused, each_end}
+use Rattle.network_aggregate.specs.AggregatedNode.{check_member}
 use borrow.Author.Rules.{rules}
 use Rattle.network_aggregate.proofs.check_members.Statement.{statement}
 use Rattle.network_aggregate.proofs.check_members.Tie as tie
 
 abbrev invariant-loop : tie.invariant-loop
 invariant-loop s place nodes count at here₀ i₀ here i =
-    (here ≤ length s) × (checkEach (checkMember s place nodes) count at ≡ checkEach (checkMember s place nodes) (count - i) here)
+    (here ≤ length s) × (check_each (check_member s place nodes) count at ≡ check_each (check_member s place nodes) (count - i) here)
 
 abbrev decreases-loop : tie.decreases-loop
 decreases-loop s place nodes count at here₀ i₀ here i = count - i
@@ -24,29 +24,29 @@ loop-holds c =
     (search rules, rw sub-zero)
 
 returns : tie.Need-returns invariant-loop decreases-loop
-unfolding checkMember
+unfolding check_member
 returns c =
     let after-node-field = c.before.before.before in
     let in-loop = after-node-field.before in
     let at-loop = in-loop.before in
-    (sym (at-loop.loop.invariant.1 ∙ each-refused _ _ _ _ _ _ in-loop.loop-test.true (rw (← c.before.before.before.node-field.ensures, c.before.f.given.1))), tt)
+    (sym (at-loop.loop.invariant.1 ∙ each_refused _ _ _ _ _ _ in-loop.loop-test.true (rw (← c.before.before.before.node-field.ensures, c.before.f.given.1))), tt)
 
-add-here : tie.Need-overflow-add-here invariant-loop decreases-loop
-add-here c =
-    omega (arith, (node-within _ _ _ _ _ (sym c.before.before.node-field.ensures ∙ c.enum_told.given.1)).0)
+add_here : tie.Need-overflow-add-here invariant-loop decreases-loop
+add_here c =
+    omega (arith, (node_within _ _ _ _ _ (sym c.before.before.node-field.ensures ∙ c.enum_told.given.1)).0)
 
 loop-again : tie.Need-loop-preserved invariant-loop decreases-loop
-unfolding checkMember
+unfolding check_member
 loop-again c =
     let in-loop = c.before.before.before in
     let at-loop = in-loop.before in (
-      (node-within _ _ _ _ _ (sym c.before.before.node-field.ensures ∙ c.enum_told.given.1)).0,
+      (node_within _ _ _ _ _ (sym c.before.before.node-field.ensures ∙ c.enum_told.given.1)).0,
       at-loop.loop.invariant.1 ∙ each_more _ _ _ _ _ c.before.before.before.loop-test.true (rw (← c.before.before.node-field.ensures, c.enum_told.given.1)),
     )
 
 returns-2 : tie.Need-returns-2 invariant-loop decreases-loop
 returns-2 c =
-    (sym (c.before.loop.invariant.1 ∙ each-end _ _ _ _ c.loop-test.false), c.before.loop.invariant.0)
+    (sym (c.before.loop.invariant.1 ∙ each_end _ _ _ _ c.loop-test.false), c.before.loop.invariant.0)
 
 pub check-members-spec : {M : Type 1} → statement M
 check-members-spec =
@@ -59,7 +59,7 @@ check-members-spec =
     (λ c. search rules)
     returns
     (λ c. search rules)
-    add-here
+    add_here
     (λ c. search rules)
     (λ c. search rules)
     loop-again

@@ -3,13 +3,13 @@ use native.Mathlib.Nat.{sub-zero}
 use native.Mathlib.Omega.{arith}
 use mathlib.Core.Path.{◌≡◌, sym, ◌∙◌}
 use Prim.Native.Nat.{◌+◌, ◌*◌, ◌-◌, ◌≤◌}
-use Rattle.pywr.specs.Result.{firstRefused}
-use Rattle.pywr.specs.NetworkFile.{badConstant}
-use Rattle.fields.specs.Records.{recordsAt}
-use Rattle.network_node.specs.Node.{nodeAt}
-use Rattle.network_laws.specs.NetworkAt.{nodeRecords}
-use Rattle.network_record.specs.Counts.{networkOf}
-use Rattle.network_checks.proofs.NodeLoops.{refused-here, refused-later, refused_none}
+use Rattle.pywr.specs.Result.{first_refused}
+use Rattle.pywr.specs.NetworkFile.{bad_constant}
+use Rattle.fields.specs.Records.{records_at}
+use Rattle.network_node.specs.Node.{node_at}
+use Rattle.network_laws.specs.NetworkAt.{node_records}
+use Rattle.network_record.specs.Counts.{network_of}
+use Rattle.network_checks.proofs.NodeLoops.{refused_here, refused_later, refused_none}
 use Rattle.network_checks.proofs.Constants.{crossed, unbounded, bounded}
 use borrow.Author.Rules.{rules}
 use Rattle.network_checks.proofs.first_bad_constant.Statement.{statement}
@@ -18,8 +18,8 @@ use Rattle.network_checks.proofs.first_bad_constant.Tie as tie
 abbrev invariant-loop : tie.invariant-loop
 invariant-loop s c exclusive i₀ i =
     (i ≤ c.nodes)
-    × (firstRefused (badConstant (networkOf s c)) 0 (nodeRecords s c.nodes)
-    ≡ firstRefused (badConstant (networkOf s c)) i (recordsAt (nodeAt s) (λ at. at + 20) (c.nodes - i) (20 * i)))
+    × (first_refused (bad_constant (network_of s c)) 0 (node_records s c.nodes)
+    ≡ first_refused (bad_constant (network_of s c)) i (records_at (node_at s) (λ at. at + 20) (c.nodes - i) (20 * i)))
 
 abbrev decreases-loop : tie.decreases-loop
 decreases-loop s c exclusive i₀ i = c.nodes - i
@@ -46,8 +46,8 @@ returns c =
     let then1 = after-is-crossed.before.before in
     let at-loop = then1.before.before in
     let start = at-loop.before.before in
-    let bad = crossed (networkOf start.args.s.now start.args.c) _ _ (sym (rw after-is-crossed.before.narrow16.ensures at after-is-crossed.is-crossed.ensures) ∙ c.if2.true) in
-    sym (at-loop.loop.invariant.1 ∙ refused-here _ start.args.s.now _ _ _ then1.if1.true bad)
+    let bad = crossed (network_of start.args.s.now start.args.c) _ _ (sym (rw after-is-crossed.before.narrow16.ensures at after-is-crossed.is-crossed.ensures) ∙ c.if2.true) in
+    sym (at-loop.loop.invariant.1 ∙ refused_here _ start.args.s.now _ _ _ then1.if1.true bad)
 
 is-unbounded-requires : tie.Need-is-unbounded-requires invariant-loop decreases-loop
 is-unbounded-requires c κs =
@@ -65,10 +65,10 @@ returns-2 c =
     let then1 = after-narrow16.before in
     let at-loop = then1.before.before in
     let start = at-loop.before.before in
-    let bad = unbounded (networkOf start.args.s.now start.args.c) _ _ _ (start.requires.2 _ then1.if1.true)
+    let bad = unbounded (network_of start.args.s.now start.args.c) _ _ _ (start.requires.2 _ then1.if1.true)
     (sym (rw after-narrow16.narrow16.ensures at after-is-crossed.is-crossed.ensures) ∙ else2.if2.false)
     (sym (rw after-narrow16.narrow16.ensures at after-is-unbounded.is-unbounded.ensures) ∙ c.if3.true) in
-    sym (at-loop.loop.invariant.1 ∙ refused-here _ start.args.s.now _ _ _ then1.if1.true bad)
+    sym (at-loop.loop.invariant.1 ∙ refused_here _ start.args.s.now _ _ _ then1.if1.true bad)
 
 loop-again : tie.Need-loop-preserved invariant-loop decreases-loop
 loop-again c =
@@ -79,10 +79,10 @@ loop-again c =
     let then1 = after-narrow16.before in
     let at-loop = then1.before.before in
     let start = at-loop.before.before in
-    let good = bounded (networkOf start.args.s.now start.args.c) _ _ _ (start.requires.2 _ then1.if1.true)
+    let good = bounded (network_of start.args.s.now start.args.c) _ _ _ (start.requires.2 _ then1.if1.true)
     (sym (rw after-narrow16.narrow16.ensures at after-is-crossed.is-crossed.ensures) ∙ else2.if2.false)
     (sym (rw after-narrow16.narrow16.ensures at after-is-unbounded.is-unbounded.ensures) ∙ c.if3.false) in
-    (search rules, at-loop.loop.invariant.1 ∙ refused-later _ start.args.s.now _ _ then1.if1.true good)
+    (search rules, at-loop.loop.invariant.1 ∙ refused_later _ start.args.s.now _ _ then1.if1.true good)
 
 returns-3 : tie.Need-returns-3 invariant-loop decreases-loop
 returns-3 c =

@@ -2,13 +2,13 @@
 use native.Mathlib.Nat.{sub-zero}
 use mathlib.Core.Path.{◌≡◌, sym, ◌∙◌}
 use Prim.Native.Nat.{◌+◌, ◌*◌, ◌-◌, ◌≤◌}
-use Rattle.pywr.specs.Result.{firstRefused}
-use Rattle.pywr.specs.NetworkFile.{unconnectedLink}
-use Rattle.fields.specs.Records.{recordsAt}
-use Rattle.network_node.specs.Node.{nodeAt}
-use Rattle.network_laws.specs.NetworkAt.{nodeRecords}
-use Rattle.network_record.specs.Counts.{networkOf}
-use Rattle.network_checks.proofs.NodeLoops.{refused-here, refused-later, refused_none}
+use Rattle.pywr.specs.Result.{first_refused}
+use Rattle.pywr.specs.NetworkFile.{unconnected_link}
+use Rattle.fields.specs.Records.{records_at}
+use Rattle.network_node.specs.Node.{node_at}
+use Rattle.network_laws.specs.NetworkAt.{node_records}
+use Rattle.network_record.specs.Counts.{network_of}
+use Rattle.network_checks.proofs.NodeLoops.{refused_here, refused_later, refused_none}
 use Rattle.network_checks.proofs.Links.{unconnected, connected}
 use borrow.Author.Rules.{rules}
 use Rattle.network_checks.proofs.first_unconnected.Statement.{statement}
@@ -17,8 +17,8 @@ use Rattle.network_checks.proofs.first_unconnected.Tie as tie
 abbrev invariant-loop : tie.invariant-loop
 invariant-loop s c into out i₀ i =
     (i ≤ c.nodes)
-    × (firstRefused (unconnectedLink (networkOf s c)) 0 (nodeRecords s c.nodes)
-    ≡ firstRefused (unconnectedLink (networkOf s c)) i (recordsAt (nodeAt s) (λ at. at + 20) (c.nodes - i) (20 * i)))
+    × (first_refused (unconnected_link (network_of s c)) 0 (node_records s c.nodes)
+    ≡ first_refused (unconnected_link (network_of s c)) i (records_at (node_at s) (λ at. at + 20) (c.nodes - i) (20 * i)))
 
 abbrev decreases-loop : tie.decreases-loop
 decreases-loop s c into out i₀ i = c.nodes - i
@@ -43,7 +43,7 @@ returns c =
     let then1 = after-is-unconnected.before.before in
     let at-loop = then1.before.before in
     let start = at-loop.before.before in
-    sym (at-loop.loop.invariant.1 ∙ refused-here _ start.args.s.now _ _ _ then1.if1.true
+    sym (at-loop.loop.invariant.1 ∙ refused_here _ start.args.s.now _ _ _ then1.if1.true
     (unconnected _ _ _ _ _ (start.requires.2 _ then1.if1.true) (start.requires.3 _ then1.if1.true)
     (sym (rw after-is-unconnected.before.narrow16.ensures at after-is-unconnected.is-unconnected.ensures) ∙ c.if2.true)))
 
@@ -54,7 +54,7 @@ loop-again c =
     let at-loop = then1.before.before in
     let start = at-loop.before.before in (
       search rules,
-      at-loop.loop.invariant.1 ∙ refused-later _ start.args.s.now _ _ then1.if1.true
+      at-loop.loop.invariant.1 ∙ refused_later _ start.args.s.now _ _ then1.if1.true
           (connected _ _ _ _ _ (start.requires.2 _ then1.if1.true) (start.requires.3 _ then1.if1.true)
           (sym (rw after-is-unconnected.before.narrow16.ensures at after-is-unconnected.is-unconnected.ensures) ∙ c.if2.false)),
     )

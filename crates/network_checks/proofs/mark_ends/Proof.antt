@@ -5,12 +5,12 @@ use mathlib.Core.Path.{◌≡◌, sym, ◌∙◌}
 use mathlib.Core.List.{map}
 use Prim.Native.Nat.{◌+◌, ◌*◌, ◌-◌, ◌≤◌}
 use Rattle.pywr.specs.Network.{source, target}
-use Rattle.fields.specs.Records.{recordsAt}
-use Rattle.fields.proofs.RecordLaws.{records-over}
+use Rattle.fields.specs.Records.{records_at}
+use Rattle.fields.proofs.RecordLaws.{records_over}
 use Rattle.network_edge.specs.Edge.{edge_at}
-use Rattle.network_laws.specs.NetworkAt.{edgeRecords}
-use Rattle.network_checks.specs.Marks.{markAll}
-use Rattle.network_checks.proofs.MarkLoops.{end_read, mark-edge}
+use Rattle.network_laws.specs.NetworkAt.{edge_records}
+use Rattle.network_checks.specs.Marks.{mark_all}
+use Rattle.network_checks.proofs.MarkLoops.{end_read, mark_edge}
 use borrow.Author.Rules.{rules}
 use Rattle.network_checks.proofs.mark_ends.Statement.{statement}
 use Rattle.network_checks.proofs.mark_ends.Tie as tie
@@ -18,8 +18,8 @@ use Rattle.network_checks.proofs.mark_ends.Tie as tie
 abbrev invariant-loop : tie.invariant-loop
 invariant-loop s n e into₀ out₀ j₀ into out j =
     (j ≤ e)
-    × (markAll (map target (edgeRecords s n e)) into₀ ≡ markAll (map target (recordsAt (edge_at s) (λ at. at + 6) (e - j) (20 * n + 6 * j))) into)
-    × (markAll (map source (edgeRecords s n e)) out₀ ≡ markAll (map source (recordsAt (edge_at s) (λ at. at + 6) (e - j) (20 * n + 6 * j))) out)
+    × (mark_all (map target (edge_records s n e)) into₀ ≡ mark_all (map target (records_at (edge_at s) (λ at. at + 6) (e - j) (20 * n + 6 * j))) into)
+    × (mark_all (map source (edge_records s n e)) out₀ ≡ mark_all (map source (records_at (edge_at s) (λ at. at + 6) (e - j) (20 * n + 6 * j))) out)
 
 abbrev decreases-loop : tie.decreases-loop
 decreases-loop s n e into₀ out₀ j₀ into out j = e - j
@@ -79,16 +79,16 @@ loop-again c =
     let t = end_read start.args.s.now start.args.n _ _ target _ _ after-narrow16.narrow16.ensures after-wide16.wide16.ensures.0 after-to-node-index.to-node-index.ensures in
     let f = end_read start.args.s.now start.args.n _ _ source _ _ after-narrow16.narrow16.ensures c.wide162.ensures.0 after-from-node-index.from-node-index.ensures in (
       search rules,
-      at-loop.loop.invariant.1 ∙ mark-edge start.args.s.now start.args.n _ _ target at-loop.loop.into _ in-loop.loop-test.true t,
-      at-loop.loop.invariant.2 ∙ mark-edge start.args.s.now start.args.n _ _ source at-loop.loop.out _ in-loop.loop-test.true f,
+      at-loop.loop.invariant.1 ∙ mark_edge start.args.s.now start.args.n _ _ target at-loop.loop.into _ in-loop.loop-test.true t,
+      at-loop.loop.invariant.2 ∙ mark_edge start.args.s.now start.args.n _ _ source at-loop.loop.out _ in-loop.loop-test.true f,
     )
 
 returns : tie.Need-returns invariant-loop decreases-loop
-unfolding markAll
+unfolding mark_all
 returns c =
     let le = c.loop-test.false in (
-      sym (c.before.loop.invariant.1 ∙ rw (records-over (λ at. at + 6) _ _ _ le (edge_at c.before.before.before.args.s.now))),
-      sym (c.before.loop.invariant.2 ∙ rw (records-over (λ at. at + 6) _ _ _ le (edge_at c.before.before.before.args.s.now))),
+      sym (c.before.loop.invariant.1 ∙ rw (records_over (λ at. at + 6) _ _ _ le (edge_at c.before.before.before.args.s.now))),
+      sym (c.before.loop.invariant.2 ∙ rw (records_over (λ at. at + 6) _ _ _ le (edge_at c.before.before.before.args.s.now))),
     )
 
 pub mark-ends-spec : {M : Type 1} → statement M

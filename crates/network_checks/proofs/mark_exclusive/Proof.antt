@@ -2,12 +2,12 @@
 use native.Mathlib.Nat.{sub-zero}
 use mathlib.Core.Path.{◌≡◌, sym, ◌∙◌, ap, subst}
 use Prim.Native.Nat.{◌-◌, ◌≤◌}
-use Rattle.fields.specs.Records.{recordsAt, recordsEnd}
-use Rattle.fields.proofs.RecordLaws.{records-over, end_more}
-use Rattle.network_aggregate.specs.AggregatedNode.{aggregateAt, aggregateEnd}
+use Rattle.fields.specs.Records.{records_at, records_end}
+use Rattle.fields.proofs.RecordLaws.{records_over, end_more}
+use Rattle.network_aggregate.specs.AggregatedNode.{aggregate_at, aggregate_end}
 use Rattle.network_laws.specs.Passed.{AggregatePassed}
-use Rattle.network_checks.specs.Marks.{markExclusive}
-use Rattle.network_checks.proofs.MarkLoops.{fields_within, mark-aggregate}
+use Rattle.network_checks.specs.Marks.{mark_exclusive}
+use Rattle.network_checks.proofs.MarkLoops.{fields_within, mark_aggregate}
 use borrow.Author.Rules.{rules}
 use Rattle.network_checks.proofs.mark_exclusive.Statement.{statement}
 use Rattle.network_checks.proofs.mark_exclusive.Tie as tie
@@ -15,14 +15,14 @@ use Rattle.network_checks.proofs.mark_exclusive.Tie as tie
 abbrev invariant-loop : tie.invariant-loop
 invariant-loop s start a marks₀ at₀ k₀ marks at k =
     (k ≤ a)
-    × (at ≡ recordsEnd (aggregateEnd s) k start)
-    × (markExclusive (recordsAt (aggregateAt s) (aggregateEnd s) a start) marks₀ ≡ markExclusive (recordsAt (aggregateAt s) (aggregateEnd s) (a - k) at) marks)
+    × (at ≡ records_end (aggregate_end s) k start)
+    × (mark_exclusive (records_at (aggregate_at s) (aggregate_end s) a start) marks₀ ≡ mark_exclusive (records_at (aggregate_at s) (aggregate_end s) (a - k) at) marks)
 
 abbrev decreases-loop : tie.decreases-loop
 decreases-loop s start a marks₀ at₀ k₀ marks at k = a - k
 
 loop-holds : tie.Need-loop-init invariant-loop decreases-loop
-unfolding recordsEnd
+unfolding records_end
 loop-holds c =
     (search rules, search rules, rw sub-zero)
 
@@ -44,9 +44,9 @@ loop-again c =
     let at-loop = in-loop.before in
     let start = at-loop.before.before in (
       search rules,
-      c.mark-sets.ensures.0 ∙ ap (aggregateEnd start.args.s.now) at-loop.loop.invariant.1 ∙ sym (end_more (aggregateEnd start.args.s.now) _ _),
-      at-loop.loop.invariant.2 ∙ mark-aggregate start.args.s.now _ _ _ at-loop.loop.marks in-loop.loop-test.true
-          ∙ rw (sym c.before.before.before.is-exclusive.ensures ∙ c.before.before.if1.true, c.mark-sets.ensures.0, c.mark-sets.ensures.1),
+      c.mark_sets_lem.ensures.0 ∙ ap (aggregate_end start.args.s.now) at-loop.loop.invariant.1 ∙ sym (end_more (aggregate_end start.args.s.now) _ _),
+      at-loop.loop.invariant.2 ∙ mark_aggregate start.args.s.now _ _ _ at-loop.loop.marks in-loop.loop-test.true
+          ∙ rw (sym c.before.before.before.is-exclusive.ensures ∙ c.before.before.if1.true, c.mark_sets_lem.ensures.0, c.mark_sets_lem.ensures.1),
     )
 
 aggregate-end-requires : tie.Need-aggregate-end-requires invariant-loop decreases-loop
@@ -61,15 +61,15 @@ loop-again-2 c =
     let at-loop = in-loop.before in
     let start = at-loop.before.before in (
       search rules,
-      c.aggregate-end.ensures ∙ ap (aggregateEnd start.args.s.now) at-loop.loop.invariant.1 ∙ sym (end_more (aggregateEnd start.args.s.now) _ _),
-      at-loop.loop.invariant.2 ∙ mark-aggregate start.args.s.now _ _ _ at-loop.loop.marks c.before.before.before.loop-test.true
-          ∙ rw (sym c.before.before.is-exclusive.ensures ∙ c.before.if1.false, c.aggregate-end.ensures),
+      c.aggregate_end_lem.ensures ∙ ap (aggregate_end start.args.s.now) at-loop.loop.invariant.1 ∙ sym (end_more (aggregate_end start.args.s.now) _ _),
+      at-loop.loop.invariant.2 ∙ mark_aggregate start.args.s.now _ _ _ at-loop.loop.marks c.before.before.before.loop-test.true
+          ∙ rw (sym c.before.before.is-exclusive.ensures ∙ c.before.if1.false, c.aggregate_end_lem.ensures),
     )
 
 returns : tie.Need-returns invariant-loop decreases-loop
-unfolding markExclusive
+unfolding mark_exclusive
 returns c =
-    sym (c.before.loop.invariant.2 ∙ rw (records-over (aggregateEnd c.before.before.before.args.s.now) _ _ _ c.loop-test.false (aggregateAt c.before.before.before.args.s.now)))
+    sym (c.before.loop.invariant.2 ∙ rw (records_over (aggregate_end c.before.before.before.args.s.now) _ _ _ c.loop-test.false (aggregate_at c.before.before.before.args.s.now)))
 
 pub mark-exclusive-spec : {M : Type 1} → statement M
 mark-exclusive-spec =

@@ -4,18 +4,18 @@ use native.Mathlib.Omega.{arith}
 use mathlib.Core.Path.{◌≡◌, sym, ◌∙◌}
 use Prim.Native.Nat.{◌+◌, ◌*◌, ◌-◌, ◌≤◌}
 use Rattle.pywr.specs.Bytes.{le16}
-use Rattle.fields.specs.Records.{recordsAt}
-use Rattle.fields.proofs.RecordLaws.{records-over}
-use Rattle.network_aggregate.specs.AggregatedNode.{setAt}
-use Rattle.network_checks.specs.Marks.{markAll}
-use Rattle.network_checks.proofs.MarkLoops.{mark-member}
+use Rattle.fields.specs.Records.{records_at}
+use Rattle.fields.proofs.RecordLaws.{records_over}
+use Rattle.network_aggregate.specs.AggregatedNode.{aggregate_set_at}
+use Rattle.network_checks.specs.Marks.{mark_all}
+use Rattle.network_checks.proofs.MarkLoops.{mark_member}
 use borrow.Author.Rules.{rules}
 use Rattle.network_checks.proofs.mark_set.Statement.{statement}
 use Rattle.network_checks.proofs.mark_set.Tie as tie
 
 abbrev invariant-loop : tie.invariant-loop
 invariant-loop s at marks₀ size k₀ marks k =
-    (k ≤ size) × (markAll (setAt s at) marks₀ ≡ markAll (recordsAt (le16 s) (λ at. at + 2) (size - k) (at + 1 + 2 * k)) marks)
+    (k ≤ size) × (mark_all (aggregate_set_at s at) marks₀ ≡ mark_all (records_at (le16 s) (λ at. at + 2) (size - k) (at + 1 + 2 * k)) marks)
 
 abbrev decreases-loop : tie.decreases-loop
 decreases-loop s at marks₀ size k₀ marks k = size - k
@@ -49,16 +49,16 @@ loop-again c =
     let at-loop = in-loop.before in
     let start = at-loop.before.before.before in (
       search rules,
-      at-loop.loop.invariant.1 ∙ mark-member start.args.s.now start.args.at _ _ at-loop.loop.marks _ in-loop.loop-test.true
+      at-loop.loop.invariant.1 ∙ mark_member start.args.s.now start.args.at _ _ at-loop.loop.marks _ in-loop.loop-test.true
           (c.wide16.ensures.0 ∙ after-member.member.ensures),
     )
 
 returns : tie.Need-returns invariant-loop decreases-loop
-unfolding markAll
+unfolding mark_all
 returns c =
     let after-shared-slice-known = c.before.before.before in
     let start = after-shared-slice-known.before in
-    sym (c.before.loop.invariant.1 ∙ rw (records-over (λ at. at + 2) _ _ _ c.loop-test.false (le16 start.args.s.now)))
+    sym (c.before.loop.invariant.1 ∙ rw (records_over (λ at. at + 2) _ _ _ c.loop-test.false (le16 start.args.s.now)))
 
 pub mark-set-spec : {M : Type 1} → statement M
 mark-set-spec =

@@ -3,12 +3,12 @@ use native.Mathlib.Nat.{sub-zero}
 use native.Mathlib.Omega.{arith}
 use mathlib.Core.Path.{◌≡◌, sym, ◌∙◌, ap, subst}
 use Prim.Native.Nat.{ℕ, ◌+◌, ◌-◌, ◌≤◌}
-use Rattle.fields.specs.Records.{recordsAt, recordsEnd}
-use Rattle.fields.proofs.RecordLaws.{records-over, end_more}
-use Rattle.network_aggregate.specs.AggregatedNode.{setAt, setEnd, aggregateAt}
+use Rattle.fields.specs.Records.{records_at, records_end}
+use Rattle.fields.proofs.RecordLaws.{records_over, end_more}
+use Rattle.network_aggregate.specs.AggregatedNode.{aggregate_set_at, set_end, aggregate_at}
 use Rattle.network_laws.specs.Passed.{SetPassed}
-use Rattle.network_checks.specs.Marks.{markSets}
-use Rattle.network_checks.proofs.MarkLoops.{fields_within, mark-one-set}
+use Rattle.network_checks.specs.Marks.{mark_sets}
+use Rattle.network_checks.proofs.MarkLoops.{fields_within, mark_one_set}
 use borrow.Author.Rules.{rules}
 use Rattle.network_checks.proofs.mark_sets.Statement.{statement}
 use Rattle.network_checks.proofs.mark_sets.Tie as tie
@@ -16,8 +16,8 @@ use Rattle.network_checks.proofs.mark_sets.Tie as tie
 abbrev invariant-loop : tie.invariant-loop
 invariant-loop s at marks₀ count here₀ i₀ marks here i =
     (i ≤ count)
-    × (here ≡ recordsEnd (setEnd s) i (at + 12))
-    × (markSets (aggregateAt s at).sets marks₀ ≡ markSets (recordsAt (setAt s) (setEnd s) (count - i) here) marks)
+    × (here ≡ records_end (set_end s) i (at + 12))
+    × (mark_sets (aggregate_at s at).sets marks₀ ≡ mark_sets (records_at (aggregate_set_at s) (set_end s) (count - i) here) marks)
 
 abbrev decreases-loop : tie.decreases-loop
 decreases-loop s at marks₀ count here₀ i₀ marks here i = count - i
@@ -37,9 +37,9 @@ sets-at-requires c κs =
     omega (arith, fields_within c.before.before.args.s.now 256 c.before.before.args.at c.before.before.requires)
 
 loop-holds : tie.Need-loop-init invariant-loop decreases-loop
-unfolding recordsEnd
+unfolding records_end
 loop-holds c =
-    (search rules, c.sets-at.ensures, rw (sub-zero, c.sets-at.ensures, c.before.set-count.ensures.0))
+    (search rules, c.sets-at.ensures, rw (sub-zero, c.sets-at.ensures, c.before.set_count_lem.ensures.0))
 
 mark-set-requires : tie.Need-mark-set-requires invariant-loop decreases-loop
 mark-set-requires c κs =
@@ -59,18 +59,18 @@ loop-again c =
     let at-loop = in-loop.before in
     let start = to_start at-loop in (
       search rules,
-      c.set-end.ensures ∙ ap (setEnd start.args.s.now) at-loop.loop.invariant.1 ∙ sym (end_more (setEnd start.args.s.now) _ _),
-      at-loop.loop.invariant.2 ∙ mark-one-set start.args.s.now _ _ _ at-loop.loop.marks c.before.before.before.loop-test.true ∙ rw (c.set-end.ensures, c.before.mark_set.ensures),
+      c.set_end_lem.ensures ∙ ap (set_end start.args.s.now) at-loop.loop.invariant.1 ∙ sym (end_more (set_end start.args.s.now) _ _),
+      at-loop.loop.invariant.2 ∙ mark_one_set start.args.s.now _ _ _ at-loop.loop.marks c.before.before.before.loop-test.true ∙ rw (c.set_end_lem.ensures, c.before.mark_set.ensures),
     )
 
 returns : tie.Need-returns invariant-loop decreases-loop
-unfolding markSets
+unfolding mark_sets
 returns c =
     let after-set-count = c.before.before.before in
     let start = to_start c.before in (
-      c.before.loop.invariant.1 ∙ ap (λ (k : ℕ). recordsEnd (setEnd start.args.s.now) k (start.args.at + 12))
-          (let q : c.before.loop.i ≡ after-set-count.set-count.result = omega arith in q ∙ after-set-count.set-count.ensures.0),
-      sym (c.before.loop.invariant.2 ∙ rw (records-over (setEnd start.args.s.now) _ _ _ c.loop-test.false (setAt start.args.s.now))),
+      c.before.loop.invariant.1 ∙ ap (λ (k : ℕ). records_end (set_end start.args.s.now) k (start.args.at + 12))
+          (let q : c.before.loop.i ≡ after-set-count.set_count_lem.result = omega arith in q ∙ after-set-count.set_count_lem.ensures.0),
+      sym (c.before.loop.invariant.2 ∙ rw (records_over (set_end start.args.s.now) _ _ _ c.loop-test.false (aggregate_set_at start.args.s.now))),
     )
 
 pub mark-sets-spec : {M : Type 1} → statement M

@@ -1,8 +1,8 @@
 -- `network_edge::check_edge` meets its contract: at each return, what each field answered. Assumes nothing.
 use native.Mathlib.Omega.{arith}
 use mathlib.Core.Path.{sym, ◌∙◌}
-use Rattle.fields.proofs.Within.{node-within}
-use Rattle.network_edge.specs.Edge.{checkEdge}
+use Rattle.fields.proofs.Within.{node_within}
+use Rattle.network_edge.specs.Edge.{check_edge}
 use borrow.Author.Rules.{rules}
 use Rattle.network_edge.proofs.check_edge.Statement.{statement}
 use Rattle.network_edge.proofs.check_edge.Tie as tie
@@ -12,12 +12,12 @@ narrow16-requires c κs =
     let after-node-field2 = c.before.before.before in
     let after-f2 = after-node-field2.before.before in
     let after-node-field = after-f2.before.before in
-    omega (arith, (node-within _ _ _ _ _ (sym after-node-field.node-field.ensures ∙ after-f2.f2.given.1)).2)
+    omega (arith, (node_within _ _ _ _ _ (sym after-node-field.node-field.ensures ∙ after-f2.f2.given.1)).2)
 
 narrow16-requires-2 : tie.Need-narrow16-requires-2
 narrow16-requires-2 c κs =
     let after-t2 = c.before.before in
-    omega (arith, (node-within _ _ _ _ _ (sym after-t2.before.before.node-field2.ensures ∙ after-t2.t2.given.1)).2)
+    omega (arith, (node_within _ _ _ _ _ (sym after-t2.before.before.node-field2.ensures ∙ after-t2.t2.given.1)).2)
 
 check-ends-requires : tie.Need-check-ends-requires
 check-ends-requires c κs =
@@ -25,17 +25,17 @@ check-ends-requires c κs =
     let after-node-field2 = after-t2.before.before in
     let after-f2 = after-node-field2.before.before in
     let after-node-field = after-f2.before.before in
-    let h = node-within _ _ _ _ _ (sym after-node-field.node-field.ensures ∙ after-f2.f2.given.1) in
-    let k = node-within _ _ _ _ _ (sym after-node-field2.node-field2.ensures ∙ after-t2.t2.given.1) in
+    let h = node_within _ _ _ _ _ (sym after-node-field.node-field.ensures ∙ after-f2.f2.given.1) in
+    let k = node_within _ _ _ _ _ (sym after-node-field2.node-field2.ensures ∙ after-t2.t2.given.1) in
     (omega (arith, k.0), search rules, omega (arith, c.before.narrow16.ensures, h.2), omega (arith, c.narrow162.ensures, k.2), search rules)
 
 returns : tie.Need-returns
-unfolding checkEdge
+unfolding check_edge
 returns c =
     (rw (← c.before.before.before.node-field.ensures, c.before.f.given.1), tt)
 
 returns-2 : tie.Need-returns-2
-unfolding checkEdge
+unfolding check_edge
 returns-2 c =
     let after-node-field2 = c.before.before.before in
     let after-f2 = after-node-field2.before.before in
@@ -43,7 +43,7 @@ returns-2 c =
     (rw (← after-node-field.node-field.ensures, after-f2.f2.given.1, ← after-node-field2.node-field2.ensures, c.before.t.given.1), tt)
 
 returns-3 : tie.Need-returns-3
-unfolding checkEdge
+unfolding check_edge
 returns-3 c =
     let after-narrow162 = c.before in
     let after-narrow16 = after-narrow162.before in

@@ -4,15 +4,15 @@ use native.Mathlib.Omega.{arith}
 use native.Mathlib.Nat.{sub-zero}
 use mathlib.Core.Path.{◌≡◌, sym, ◌∙◌}
 use Prim.Native.Nat.{◌+◌, ◌*◌, ◌-◌, ◌<◌, ◌≤◌}
-use Rattle.network_edge.specs.Edge.{pairAmong}
-use Rattle.network_edge.proofs.Loops.{pair-here, pair-next, pair_end}
+use Rattle.network_edge.specs.Edge.{pair_among}
+use Rattle.network_edge.proofs.Loops.{pair_here, pair_next, pair_end}
 use borrow.Author.Rules.{rules}
 use Rattle.network_edge.proofs.pair_among.Statement.{statement}
 use Rattle.network_edge.proofs.pair_among.Tie as tie
 
 abbrev invariant-loop : tie.invariant-loop
 invariant-loop s count start f t pair at₀ i₀ at i =
-    (i ≤ count) × (at ≡ start + 6 * i) × (pairAmong s count start f t ≡ pairAmong s (count - i) at f t)
+    (i ≤ count) × (at ≡ start + 6 * i) × (pair_among s count start f t ≡ pair_among s (count - i) at f t)
 
 abbrev decreases-loop : tie.decreases-loop
 decreases-loop s count start f t pair at₀ i₀ at i = count - i
@@ -40,7 +40,7 @@ returns c =
     let h : le16 after-shared-slice-known.before.args.s.now k < 65536 = omega
     (arith, after-shared-slice-known.shared-slice-known.given k, after-shared-slice-known.shared-slice-known.given (k + 1)) in
     rw (← after-wide16.wide16.ensures.0, ← after-wide162.wide162.ensures.0)
-    (sym (at-loop.loop.invariant.2 ∙ pair-here _ _ _ _ _ _ in-loop.loop-test.true h after-wide16.wide16.ensures.1
+    (sym (at-loop.loop.invariant.2 ∙ pair_here _ _ _ _ _ _ in-loop.loop-test.true h after-wide16.wide16.ensures.1
     (sym (after-wide32.wide32.ensures.0 ∙ after-u32-at.u32-at.ensures) ∙ c.if1.true)))
 
 add_at : tie.Need-overflow-add-at invariant-loop decreases-loop
@@ -51,7 +51,7 @@ loop-again c = (
   search rules,
   search rules,
   (to-loop c).loop.invariant.2
-      ∙ pair-next _ _ _ _ _ _ c.before.before.before.loop-test.true (λ q. c.if1.false (c.before.wide32.ensures.0 ∙ c.before.before.u32-at.ensures ∙ q)),
+      ∙ pair_next _ _ _ _ _ _ c.before.before.before.loop-test.true (λ q. c.if1.false (c.before.wide32.ensures.0 ∙ c.before.before.u32-at.ensures ∙ q)),
 )
 
 returns-2 : tie.Need-returns-2 invariant-loop decreases-loop

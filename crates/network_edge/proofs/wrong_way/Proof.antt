@@ -1,16 +1,16 @@
 -- `network_edge::wrong_way` meets its contract: at each return, the tests that led there. Assumes nothing.
 use borrow.Author.Tests.{eq-eqb, ne_eqb}
-use Rattle.network_edge.specs.Edge.{wrongWayAt}
+use Rattle.network_edge.specs.Edge.{wrong_way_at}
 use borrow.Author.Rules.{rules}
 use Rattle.network_edge.proofs.wrong_way.Statement.{statement}
 use Rattle.network_edge.proofs.wrong_way.Tie as tie
 
 returns : tie.Need-returns
-unfolding wrongWayAt
+unfolding wrong_way_at
 returns c = rw (← c.before.kind.ensures, eq-eqb _ _ c.if1.true)
 
 returns-2 : tie.Need-returns-2
-unfolding wrongWayAt
+unfolding wrong_way_at
 returns-2 c =
     let else1 = c.before in
     rw (← else1.before.kind.ensures, ne_eqb _ _ else1.if1.false, ← c.kind2.ensures)

@@ -4,7 +4,7 @@ use mathlib.Core.Path.{sym, ◌∙◌}
 use native.Mathlib.Omega.{arith}
 use Prim.Native.Nat.{◌+◌}
 use lib.ListN.{length}
-use Rattle.network_node.specs.Node.{checkBound}
+use Rattle.network_node.specs.Node.{check_bound}
 use borrow.Author.Rules.{rules}
 use Rattle.network_node.proofs.check_bound.Statement.{statement}
 use Rattle.network_node.proofs.check_bound.Tie as tie
@@ -21,21 +21,21 @@ add-t8 c =
     omega (arith, leb-true (start.args.at + 8) (length start.args.s.now) (sym after-is-within.is_Within.ensures ∙ then1.if1.true))
 
 returns : tie.Need-returns
-unfolding checkBound
+unfolding check_bound
 returns c =
     let then1 = c.before.before.before in
     let after-is-within = then1.before in
     rw (← after-is-within.is_Within.ensures, c.before.before.before.if1.true, ← c.before.before.u64-at.ensures, ← c.before.constant-fits.ensures, c.if2.true)
 
 returns-2 : tie.Need-returns-2
-unfolding checkBound
+unfolding check_bound
 returns-2 c =
     let then1 = c.before.before.before in
     let after-is-within = then1.before in
     rw (← after-is-within.is_Within.ensures, c.before.before.before.if1.true, ← c.before.before.u64-at.ensures, ← c.before.constant-fits.ensures, c.if2.false)
 
 returns-3 : tie.Need-returns-3
-unfolding checkBound
+unfolding check_bound
 returns-3 c =
     rw (← c.before.is_Within.ensures, c.if1.false)
 

@@ -1,19 +1,19 @@
 -- `network_node::check_node` meets its contract: at each return, what each field answered. Assumes nothing.
 use native.Mathlib.Omega.{arith}
 use mathlib.Core.Path.{sym, ◌∙◌}
-use Rattle.network_node.specs.Node.{checkNode}
-use Rattle.network_node.proofs.BoundWithin.{bound-within}
+use Rattle.network_node.specs.Node.{check_node}
+use Rattle.network_node.proofs.BoundWithin.{bound_within}
 use borrow.Author.Rules.{rules}
 use Rattle.network_node.proofs.check_node.Statement.{statement}
 use Rattle.network_node.proofs.check_node.Tie as tie
 
 returns : tie.Need-returns
-unfolding checkNode
+unfolding check_node
 returns c =
     (rw (← c.before.before.before.byte-field.ensures, c.before.k.given.1), tt)
 
 returns-2 : tie.Need-returns-2
-unfolding checkNode
+unfolding check_node
 returns-2 c =
     let after-c = c.before in
     let after-byte-field2 = after-c.before.before in
@@ -23,7 +23,7 @@ returns-2 c =
     (rw (← after-byte-field.byte-field.ensures, after-k2.k2.given.1, ← after-most-constant.most-constant.ensures, ← after-byte-field2.byte-field2.ensures, after-c.c.given.1), tt)
 
 returns-3 : tie.Need-returns-3
-unfolding checkNode
+unfolding check_node
 returns-3 c =
     let after-lo = c.before in
     let after-check-bound = after-lo.before.before in
@@ -46,7 +46,7 @@ returns-3 c =
     )
 
 returns-4 : tie.Need-returns-4
-unfolding checkNode
+unfolding check_node
 returns-4 c =
     let after-hi = c.before in
     let after-check-bound2 = after-hi.before.before in
@@ -74,7 +74,7 @@ returns-4 c =
     )
 
 returns-5 : tie.Need-returns-5
-unfolding checkNode
+unfolding check_node
 returns-5 c =
     let after-enum-told = c.before.before.before in
     let after-check-bound = after-enum-told.before.before in
@@ -95,7 +95,7 @@ returns-5 c =
         ← c.before.before.check-bound2.ensures,
         c.enum-told2.given.1,
       ),
-      omega (arith, (bound-within _ _ _ _ _ (sym c.before.before.check-bound2.ensures ∙ c.enum-told2.given.1)).0),
+      omega (arith, (bound_within _ _ _ _ _ (sym c.before.before.check-bound2.ensures ∙ c.enum-told2.given.1)).0),
     )
 
 pub check-node-spec : {M : Type 1} → statement M

@@ -1,17 +1,17 @@
 -- `network_node::constant_fits` meets its contract. Assumes nothing.
 use borrow.Author.Tests.{eq-eqb, ne_eqb}
-use Rattle.pywr.specs.NetworkFile.{constantFits}
+use Rattle.pywr.specs.NetworkFile.{constant_fits}
 use borrow.Author.Rules.{rules}
 use Rattle.network_node.proofs.constant_fits.Statement.{statement}
 use Rattle.network_node.proofs.constant_fits.Tie as tie
 
 returns : tie.Need-returns
-unfolding constantFits
+unfolding constant_fits
 returns c =
     rw (eq-eqb _ _ c.before.if1.true) c.is-flow.ensures
 
 returns-2 : tie.Need-returns-2
-unfolding constantFits
+unfolding constant_fits
 returns-2 c =
     rw (ne_eqb _ _ c.if1.false)
 

@@ -4,19 +4,19 @@ use native.Mathlib.Omega.{arith}
 use mathlib.Core.Path.{sym, ◌∙◌}
 use Prim.Native.Nat.{◌+◌}
 use lib.ListN.{length}
-use Rattle.network_record.specs.Record.{checkRecord}
-use Rattle.network_record.proofs.Ranked.{in_order, ranked-node, ranked-edge, ranked-aggregate, ranked-last}
+use Rattle.network_record.specs.Record.{check_record}
+use Rattle.network_record.proofs.Ranked.{in_order, ranked_node, ranked_edge, ranked_aggregate, ranked_last}
 use borrow.Author.Rules.{rules}
 use Rattle.network_record.proofs.check_record.Statement.{statement}
 use Rattle.network_record.proofs.check_record.Tie as tie
 
 returns : tie.Need-returns
-unfolding checkRecord
+unfolding check_record
 returns c =
     (rw (lt-leb (c.before.before.args.at + 2) (length c.before.before.args.s.now) (omega arith)), tt)
 
 returns-2 : tie.Need-returns-2
-unfolding checkRecord
+unfolding check_record
 returns-2 c =
     let after-shared-slice-known = c.before.before.before in
     let start = after-shared-slice-known.before in
@@ -50,7 +50,7 @@ returns-3 c =
     let else2 = after-check-ranked.before in
     let after-mark-rank = else2.before in
     let e = sym after-check-ranked.check-ranked.ensures.0 ∙ c.before.before.r2.given.1 in
-    let h = ranked-node _ _ _ _ _ _ _ _ e c.if3.true in (
+    let h = ranked_node _ _ _ _ _ _ _ _ e c.if3.true in (
       sym (in_order _ _ _ _ _ _ _ _ _ (omega arith) after-mark-rank.mark-rank.ensures else2.if2.false e ∙ rw (eq-eqb _ _ c.if3.true)),
       (omega arith, h.0, h.1, (rw c.before.before.r2.given.1 at after-check-ranked.check-ranked.ensures.1)),
     )
@@ -63,7 +63,7 @@ returns-4 c =
     let else2 = after-check-ranked.before in
     let after-mark-rank = else2.before in
     let e = sym after-check-ranked.check-ranked.ensures.0 ∙ after-r2.r2.given.1 in
-    let h = ranked-edge _ _ _ _ _ _ _ _ e c.if4.true in (
+    let h = ranked_edge _ _ _ _ _ _ _ _ e c.if4.true in (
       sym (in_order _ _ _ _ _ _ _ _ _ (omega arith) after-mark-rank.mark-rank.ensures else2.if2.false e ∙ rw (ne_eqb _ _ else3.if3.false, eq-eqb _ _ c.if4.true)),
       (omega arith, h.0, h.1, (rw after-r2.r2.given.1 at after-check-ranked.check-ranked.ensures.1)),
     )
@@ -77,7 +77,7 @@ returns-5 c =
     let else2 = after-check-ranked.before in
     let after-mark-rank = else2.before in
     let e = sym after-check-ranked.check-ranked.ensures.0 ∙ after-r2.r2.given.1 in
-    let h = ranked-aggregate _ _ _ _ _ _ _ _ e c.if5.true in (
+    let h = ranked_aggregate _ _ _ _ _ _ _ _ e c.if5.true in (
       sym (in_order _ _ _ _ _ _ _ _ _ (omega arith) after-mark-rank.mark-rank.ensures else2.if2.false e
           ∙ rw (ne_eqb _ _ else3.if3.false, ne_eqb _ _ else4.if4.false, eq-eqb _ _ c.if5.true)),
       (omega arith, h.0, h.1, (rw after-r2.r2.given.1 at after-check-ranked.check-ranked.ensures.1)),
@@ -99,7 +99,7 @@ returns-7 c =
     let else2 = after-check-ranked.before in
     let after-mark-rank = else2.before in
     let e = sym after-check-ranked.check-ranked.ensures.0 ∙ after-r2.r2.given.1 in
-    let h = ranked-last _ _ _ _ _ _ _ _ e else3.if3.false else4.if4.false c.if5.false in (
+    let h = ranked_last _ _ _ _ _ _ _ _ e else3.if3.false else4.if4.false c.if5.false in (
       sym (in_order _ _ _ _ _ _ _ _ _ (omega arith) after-mark-rank.mark-rank.ensures else2.if2.false e
           ∙ rw (ne_eqb _ _ else3.if3.false, ne_eqb _ _ else4.if4.false, ne_eqb _ _ c.if5.false)),
       (omega (arith, h.0), h.1, h.2, (rw after-r2.r2.given.1 at after-check-ranked.check-ranked.ensures.1)),

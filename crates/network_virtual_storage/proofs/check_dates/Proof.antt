@@ -1,11 +1,11 @@
 -- `network_virtual_storage::check_dates` meets its contract: at each return, what each field answered. Assumes nothing.
-use Rattle.network_virtual_storage.specs.VirtualStorage.{checkDates}
+use Rattle.network_virtual_storage.specs.VirtualStorage.{check_dates}
 use borrow.Author.Rules.{rules}
 use Rattle.network_virtual_storage.proofs.check_dates.Statement.{statement}
 use Rattle.network_virtual_storage.proofs.check_dates.Tie as tie
 
 returns : tie.Need-returns
-unfolding checkDates
+unfolding check_dates
 returns c =
     let after-byte-field = c.before.before.before in
     let after-most-date = after-byte-field.before.before in
@@ -13,7 +13,7 @@ returns c =
     rw (← after-least-date.least-date.ensures, ← after-most-date.most-date.ensures, ← c.before.before.before.byte-field.ensures, c.before.a.given.1)
 
 returns-2 : tie.Need-returns-2
-unfolding checkDates
+unfolding check_dates
 returns-2 c =
     let after-b = c.before in
     let after-byte-field2 = after-b.before.before in
@@ -34,7 +34,7 @@ returns-2 c =
     )
 
 returns-3 : tie.Need-returns-3
-unfolding checkDates
+unfolding check_dates
 returns-3 c =
     let after-c = c.before in
     let after-byte-field3 = after-c.before.before in
@@ -59,7 +59,7 @@ returns-3 c =
     )
 
 returns-4 : tie.Need-returns-4
-unfolding checkDates
+unfolding check_dates
 returns-4 c =
     let after-d = c.before in
     let after-byte-field4 = after-d.before.before in
@@ -88,7 +88,7 @@ returns-4 c =
     )
 
 returns-5 : tie.Need-returns-5
-unfolding checkDates
+unfolding check_dates
 returns-5 c =
     let after-byte-field4 = c.before.before in
     let after-enum-told3 = after-byte-field4.before in

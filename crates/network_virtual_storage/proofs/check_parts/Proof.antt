@@ -4,17 +4,17 @@ use native.Mathlib.Nat.{sub-zero}
 use mathlib.Core.Path.{◌≡◌, sym, ◌∙◌}
 use Prim.Native.Nat.{◌-◌, ◌≤◌}
 use lib.ListN.{length}
-use Rattle.fields.specs.Records.{checkEach}
-use Rattle.fields.proofs.Within.{node-within, factor-within}
-use Rattle.fields.proofs.RecordLaws.{each_more, each-refused, each-end}
-use Rattle.network_virtual_storage.specs.VirtualStorage.{checkPart}
+use Rattle.fields.specs.Records.{check_each}
+use Rattle.fields.proofs.Within.{node_within, factor_within}
+use Rattle.fields.proofs.RecordLaws.{each_more, each_refused, each_end}
+use Rattle.network_virtual_storage.specs.VirtualStorage.{check_part}
 use borrow.Author.Rules.{rules}
 use Rattle.network_virtual_storage.proofs.check_parts.Statement.{statement}
 use Rattle.network_virtual_storage.proofs.check_parts.Tie as tie
 
 abbrev invariant-loop : tie.invariant-loop
 invariant-loop s place nodes count at here₀ i₀ here i =
-    (here ≤ length s) × (checkEach (checkPart s place nodes) count at ≡ checkEach (checkPart s place nodes) (count - i) here)
+    (here ≤ length s) × (check_each (check_part s place nodes) count at ≡ check_each (check_part s place nodes) (count - i) here)
 
 abbrev decreases-loop : tie.decreases-loop
 decreases-loop s place nodes count at here₀ i₀ here i = count - i
@@ -24,19 +24,19 @@ loop-holds c =
     (search rules, rw sub-zero)
 
 returns : tie.Need-returns invariant-loop decreases-loop
-unfolding checkPart
+unfolding check_part
 returns c =
     let after-node-field = c.before.before.before in
     let in-loop = after-node-field.before in
     let at-loop = in-loop.before in
-    (sym (at-loop.loop.invariant.1 ∙ each-refused _ _ _ _ _ _ in-loop.loop-test.true (rw (← c.before.before.before.node-field.ensures, c.before.f.given.1))), tt)
+    (sym (at-loop.loop.invariant.1 ∙ each_refused _ _ _ _ _ _ in-loop.loop-test.true (rw (← c.before.before.before.node-field.ensures, c.before.f.given.1))), tt)
 
 add-check-factor : tie.Need-overflow-add-check-factor invariant-loop decreases-loop
 add-check-factor c =
-    omega (arith, (node-within _ _ _ _ _ (sym c.before.before.node-field.ensures ∙ c.enum_told.given.1)).0)
+    omega (arith, (node_within _ _ _ _ _ (sym c.before.before.node-field.ensures ∙ c.enum_told.given.1)).0)
 
 returns-2 : tie.Need-returns-2 invariant-loop decreases-loop
-unfolding checkPart
+unfolding check_part
 returns-2 c =
     let after-r = c.before in
     let after-check-factor = after-r.before.before in
@@ -44,30 +44,30 @@ returns-2 c =
     let after-node-field = after-enum-told.before.before in
     let in-loop = after-node-field.before in
     let at-loop = in-loop.before in (
-      sym (at-loop.loop.invariant.1 ∙ each-refused _ _ _ _ _ _ in-loop.loop-test.true
+      sym (at-loop.loop.invariant.1 ∙ each_refused _ _ _ _ _ _ in-loop.loop-test.true
           (rw (← after-node-field.node-field.ensures, after-enum-told.enum_told.given.1, ← after-check-factor.check-factor.ensures, after-r.r.given.1))),
       tt,
     )
 
-add-here : tie.Need-overflow-add-here invariant-loop decreases-loop
-add-here c =
-    omega (arith, (factor-within _ _ _ _ (sym c.before.before.check-factor.ensures ∙ c.enum-told2.given.1)).0)
+add_here : tie.Need-overflow-add-here invariant-loop decreases-loop
+add_here c =
+    omega (arith, (factor_within _ _ _ _ (sym c.before.before.check-factor.ensures ∙ c.enum-told2.given.1)).0)
 
 loop-again : tie.Need-loop-preserved invariant-loop decreases-loop
-unfolding checkPart
+unfolding check_part
 loop-again c =
     let after-enum-told = c.before.before.before in
     let after-node-field = after-enum-told.before.before in
     let in-loop = after-node-field.before in
     let at-loop = in-loop.before in (
-      omega (arith, (factor-within _ _ _ _ (sym c.before.before.check-factor.ensures ∙ c.enum-told2.given.1)).0),
+      omega (arith, (factor_within _ _ _ _ (sym c.before.before.check-factor.ensures ∙ c.enum-told2.given.1)).0),
       at-loop.loop.invariant.1 ∙ each_more _ _ _ _ _ in-loop.loop-test.true
           (rw (← after-node-field.node-field.ensures, c.before.before.before.enum_told.given.1, ← c.before.before.check-factor.ensures, c.enum-told2.given.1)),
     )
 
 returns-3 : tie.Need-returns-3 invariant-loop decreases-loop
 returns-3 c =
-    (sym (c.before.loop.invariant.1 ∙ each-end _ _ _ _ c.loop-test.false), c.before.loop.invariant.0)
+    (sym (c.before.loop.invariant.1 ∙ each_end _ _ _ _ c.loop-test.false), c.before.loop.invariant.0)
 
 pub check-parts-spec : {M : Type 1} → statement M
 check-parts-spec =
@@ -85,7 +85,7 @@ check-parts-spec =
     (λ c. search rules)
     returns-2
     (λ c. search rules)
-    add-here
+    add_here
     (λ c. search rules)
     (λ c. search rules)
     loop-again

@@ -1,23 +1,23 @@
 -- `network_virtual_storage::check_virtual_storage` meets its contract: at each return, what each field answered. Assumes nothing.
 use native.Mathlib.Omega.{arith}
 use mathlib.Core.Path.{sym, ◌∙◌}
-use Rattle.fields.proofs.Within.{byte-within}
-use Rattle.network_virtual_storage.specs.VirtualStorage.{checkVirtualStorage}
+use Rattle.fields.proofs.Within.{byte_within}
+use Rattle.network_virtual_storage.specs.VirtualStorage.{check_virtual_storage}
 use borrow.Author.Rules.{rules}
 use Rattle.network_virtual_storage.proofs.check_virtual_storage.Statement.{statement}
 use Rattle.network_virtual_storage.proofs.check_virtual_storage.Tie as tie
 
 check-parts-requires : tie.Need-check-parts-requires
 check-parts-requires c κs =
-    let h = byte-within _ _ _ _ _ _ (sym c.before.before.before.byte-field2.ensures ∙ c.before.c2.given.1) in omega (arith, h.0)
+    let h = byte_within _ _ _ _ _ _ (sym c.before.before.before.byte-field2.ensures ∙ c.before.c2.given.1) in omega (arith, h.0)
 
 returns : tie.Need-returns
-unfolding checkVirtualStorage
+unfolding check_virtual_storage
 returns c =
     (rw (← c.before.before.before.byte-field.ensures, c.before.k.given.1), tt)
 
 returns-2 : tie.Need-returns-2
-unfolding checkVirtualStorage
+unfolding check_virtual_storage
 returns-2 c =
     let after-check-dates = c.before.before.before in
     let after-k2 = after-check-dates.before.before in
@@ -25,7 +25,7 @@ returns-2 c =
     (rw (← after-byte-field.byte-field.ensures, after-k2.k2.given.1, ← c.before.before.before.check-dates.ensures, c.before.d.given.1), tt)
 
 returns-3 : tie.Need-returns-3
-unfolding checkVirtualStorage
+unfolding check_virtual_storage
 returns-3 c =
     let after-c = c.before in
     let after-byte-field2 = after-c.before.before in
@@ -46,7 +46,7 @@ returns-3 c =
     )
 
 returns-4 : tie.Need-returns-4
-unfolding checkVirtualStorage
+unfolding check_virtual_storage
 returns-4 c =
     let after-c2 = c.before.before in
     let after-byte-field2 = after-c2.before.before in

@@ -1,16 +1,16 @@
 -- `network_virtual_storage::most_date` meets its contract. Assumes nothing.
 use borrow.Author.Tests.{eq-eqb, ne_eqb}
-use Rattle.pywr.specs.NetworkFile.{mostDate}
+use Rattle.pywr.specs.NetworkFile.{most_date}
 use Rattle.network_virtual_storage.proofs.most_date.Statement.{statement}
 use Rattle.network_virtual_storage.proofs.most_date.Tie as tie
 
 returns : tie.Need-returns
-unfolding mostDate
+unfolding most_date
 returns c =
     rw (eq-eqb _ _ c.if1.true)
 
 returns-2 : tie.Need-returns-2
-unfolding mostDate
+unfolding most_date
 returns-2 c =
     rw (ne_eqb _ _ c.if1.false)
 

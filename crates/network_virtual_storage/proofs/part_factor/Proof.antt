@@ -2,19 +2,19 @@
 use mathlib.Core.Path.{sym, ◌∙◌, ap, subst}
 use lib.Dec.{T}
 use lib.Ieee.{of_bits, binary64}
-use Rattle.pywr.specs.Numbers.{isFlow, ofPattern}
-use Rattle.fields.proofs.Nan.{small-flow}
+use Rattle.pywr.specs.Numbers.{is_flow, of_pattern}
+use Rattle.fields.proofs.Nan.{small_flow}
 use borrow.Author.Rules.{rules}
 use Rattle.network_virtual_storage.proofs.part_factor.Statement.{statement}
 use Rattle.network_virtual_storage.proofs.part_factor.Tie as tie
 
 float-from-bits-result : tie.Need-float-from-bits-result
-unfolding isFlow
+unfolding is_flow
 float-from-bits-result c =
-    subst T (sym (ap isFlow c.u64-at.ensures ∙ small-flow _ c.before.before.requires.2)) tt
+    subst T (sym (ap is_flow c.u64-at.ensures ∙ small_flow _ c.before.before.requires.2)) tt
 
 returns : tie.Need-returns
-unfolding ofPattern
+unfolding of_pattern
 returns c =
     ap (of_bits binary64) c.u64-at.ensures
 

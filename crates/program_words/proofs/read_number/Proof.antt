@@ -3,13 +3,13 @@ use mathlib.Core.Path.{◌≡◌, refl}
 use Prim.Native.Nat.{◌-◌, ◌≤◌}
 use lib.ListN.{length, drop}
 use borrow.Author.Rules.{rules}
-use Rattle.program_words.specs.Words.{numberFrom, number_in}
-use Rattle.program_words.proofs.WordLaws.{empty, begins, ends, under-digits, over-digits, too_large, goes_on}
+use Rattle.program_words.specs.Words.{number_from, number_in}
+use Rattle.program_words.proofs.WordLaws.{empty, begins, ends, under_digits, over_digits, too_large, goes_on}
 use Rattle.program_words.proofs.read_number.Statement.{statement}
 use Rattle.program_words.proofs.read_number.Tie as tie
 
 abbrev invariant-loop : tie.invariant-loop
-invariant-loop word value₀ i₀ value i = (i ≤ length word) × (value ≤ 999999) × (number_in word ≡ numberFrom value (drop i word))
+invariant-loop word value₀ i₀ value i = (i ≤ length word) × (value ≤ 999999) × (number_in word ≡ number_from value (drop i word))
 
 abbrev decreases-loop : tie.decreases-loop
 decreases-loop word value₀ i₀ value i = length word - i
@@ -27,13 +27,13 @@ to-loop c = c.before.before
 returns-2 : tie.Need-returns-2 invariant-loop decreases-loop
 returns-2 c =
     let in-loop = c.before.before in
-    under-digits _ _ _ _ in-loop.loop-test.true refl (to-loop c.before).loop.inv.2 c.if2.true
+    under_digits _ _ _ _ in-loop.loop-test.true refl (to-loop c.before).loop.inv.2 c.if2.true
 
 returns-3 : tie.Need-returns-3 invariant-loop decreases-loop
 returns-3 c =
     let else2 = c.before in
     let in-loop = else2.before.before in
-    over-digits _ _ _ _ in-loop.loop-test.true refl (to-loop else2.before).loop.inv.2 else2.if2.false c.if3.true
+    over_digits _ _ _ _ in-loop.loop-test.true refl (to-loop else2.before).loop.inv.2 else2.if2.false c.if3.true
 
 returns-4 : tie.Need-returns-4 invariant-loop decreases-loop
 returns-4 c =

@@ -1,5 +1,5 @@
 -- `pywr_build` meets its contract. Assumes nothing.
-use Rattle.pywr_c_answers.proofs.CrossingLaws.{build-crossed}
+use Rattle.pywr_c_answers.proofs.CrossingLaws.{build_crossed}
 use Rattle.pywr_c.proofs.pywr_build.Statement.{statement}
 use Rattle.pywr_c.proofs.pywr_build.Tie as tie
 
@@ -66,7 +66,7 @@ same-length-11 c = (built c).build.auto.1.1.1.1.1.1.1.1.1.1.1.1.0
 
 returns : tie.Need-returns
 returns c =
-    build-crossed _ (built c).build.result (picked (built c)).sentinel.ensures (built c).build.ensures c.refusal-of.ensures
+    build_crossed _ (built c).build.result (picked (built c)).sentinel.ensures (built c).build.ensures c.refusal-of.ensures
 
 pub pywr-build-spec : {M : Type 1} → statement M
 pywr-build-spec =

@@ -1,5 +1,5 @@
 -- `pywr_step` meets its contract. Assumes nothing.
-use Rattle.pywr_c_answers.proofs.CrossingLaws.{step-crossed}
+use Rattle.pywr_c_answers.proofs.CrossingLaws.{step_crossed}
 use Rattle.pywr_c.proofs.pywr_step.Statement.{statement}
 use Rattle.pywr_c.proofs.pywr_step.Tie as tie
 
@@ -33,7 +33,7 @@ same-length-5 : tie.Need-same-length-5
 same-length-5 c = (stepped c).step.auto.1.1.1.1.1.1.1.1.1.1.0
 
 returns : tie.Need-returns
-returns c = step-crossed (stepped c).step.result (stepped c).step.ensures c.refusal-of.ensures
+returns c = step_crossed (stepped c).step.result (stepped c).step.ensures c.refusal-of.ensures
 
 pub pywr-step-spec : {M : Type 1} → statement M
 pywr-step-spec =

@@ -2,7 +2,7 @@
 use mathlib.Core.Path.{◌∙◌, ap}
 use lib.Ieee.{Float}
 use lib.ListN.{replicate, length}
-use Rattle.runs.proofs.Copied.{filled, zero-literal}
+use Rattle.runs.proofs.Copied.{filled, zero_literal}
 use borrow.Author.Rules.{rules}
 use Rattle.runs.proofs.zero_f64.Statement.{statement}
 use Rattle.runs.proofs.zero_f64.Tie as tie
@@ -16,7 +16,7 @@ to_start c =
 returns : tie.Need-returns
 returns c =
     let start = to_start c in
-    c.before.before.fill-f64.ensures ∙ filled start.args.w.now _ ∙ ap (λ (v : Float). replicate (length start.args.w.now) v) zero-literal
+    c.before.before.fill-f64.ensures ∙ filled start.args.w.now _ ∙ ap (λ (v : Float). replicate (length start.args.w.now) v) zero_literal
 
 pub zero-f64-spec : {M : Type 1} → statement M
 zero-f64-spec =

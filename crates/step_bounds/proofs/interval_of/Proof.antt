@@ -1,16 +1,16 @@
 -- `interval_of` meets its contract, by the two cases of the bounds. Assumes nothing.
-use Rattle.pywr.specs.Interval.{intervalOf}
+use Rattle.pywr.specs.Interval.{interval_of}
 use borrow.Author.Rules.{rules}
 use Rattle.step_bounds.proofs.interval_of.Statement.{statement}
 use Rattle.step_bounds.proofs.interval_of.Tie as tie
 
 returns : tie.Need-returns
-unfolding intervalOf
+unfolding interval_of
 returns c =
     rw c.before.bounds.given.1
 
 returns-2 : tie.Need-returns-2
-unfolding intervalOf
+unfolding interval_of
 returns-2 c =
     rw c.before.bounds2.given.1
 

@@ -1,11 +1,11 @@
 -- `is_beyond` meets its contract. Assumes nothing.
-use Rattle.pywr.specs.StepIntervals.{isBeyond}
+use Rattle.pywr.specs.StepIntervals.{is_beyond}
 use borrow.Author.Rules.{rules}
 use Rattle.step_bounds.proofs.is_beyond.Statement.{statement}
 use Rattle.step_bounds.proofs.is_beyond.Tie as tie
 
 returns : tie.Need-returns
-unfolding isBeyond
+unfolding is_beyond
 returns c =
     rw (c.before.low.ensures, c.high.ensures)
 

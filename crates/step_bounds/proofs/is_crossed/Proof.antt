@@ -1,11 +1,11 @@
 -- `is_crossed` meets its contract. Assumes nothing.
 use mathlib.Core.Path.{refl}
-use Rattle.pywr.specs.StepIntervals.{isCrossed}
+use Rattle.pywr.specs.StepIntervals.{is_crossed}
 use Rattle.step_bounds.proofs.is_crossed.Statement.{statement}
 use Rattle.step_bounds.proofs.is_crossed.Tie as tie
 
 returns : tie.Need-returns
-unfolding isCrossed
+unfolding is_crossed
 returns c =
     refl
 

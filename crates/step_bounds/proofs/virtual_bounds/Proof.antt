@@ -1,13 +1,13 @@
 -- `virtual_bounds` meets its contract. Assumes nothing.
 use lib.Ieee.{of_bits}
 use Rattle.pywr.specs.Numbers.{zero64}
-use Rattle.pywr.specs.Interval.{virtualBounds}
+use Rattle.pywr.specs.Interval.{virtual_bounds}
 use borrow.Author.Rules.{rules}
 use Rattle.step_bounds.proofs.virtual_bounds.Statement.{statement}
 use Rattle.step_bounds.proofs.virtual_bounds.Tie as tie
 
 returns : tie.Need-returns
-unfolding virtualBounds zero64 of_bits
+unfolding virtual_bounds zero64 of_bits
 returns c =
     rw (c.before.greater.ensures, c.greater2.ensures)
 

@@ -3,11 +3,11 @@ use mathlib.Core.Path.{◌≡◌, refl, sym, ◌∙◌}
 use mathlib.Core.Bool.{true}
 use borrow.Author.Tests.{not-true, not-false}
 use Rattle.pywr.specs.Store.{Store}
-use Rattle.pywr.specs.Misshapen.{wellShaped}
-use Rattle.step_intervals.specs.Found.{intervalsIn}
-use Rattle.store_rows.proofs.Starts.{ofRuns}
-use Rattle.store.proofs.Passed.{shaped, node-rows-named}
-use Rattle.step_checks.proofs.JudgeLaws.{judged-shape, judged-file, long, judged-intervals}
+use Rattle.pywr.specs.Misshapen.{well_shaped}
+use Rattle.step_intervals.specs.Found.{intervals_in}
+use Rattle.store_rows.proofs.Starts.{of_runs}
+use Rattle.store.proofs.Passed.{shaped, node_rows_named}
+use Rattle.step_checks.proofs.JudgeLaws.{judged_shape, judged_file, long, judged_intervals}
 use borrow.Author.Rules.{rules}
 use Rattle.step_checks.proofs.judge.Statement.{statement}
 use Rattle.step_checks.proofs.judge.Tie as tie
@@ -25,17 +25,17 @@ to-else1 c =
 
 -- a store over the runs that were lent
 abbrev lent : tie.Start → Store
-lent c = ofRuns c.args.columns.now c.args.row-starts.now c.args.shape.now
+lent c = of_runs c.args.columns.now c.args.row_starts_lem.now c.args.shape.now
 
 -- it is well shaped behind the first `if`
-is-shaped : (c : tie.Else1) → wellShaped (lent (to_start c.before)) ≡ true
-is-shaped c = sym (c.before.well-shaped.ensures (lent (to_start c.before)) refl refl refl) ∙ not-false c.before.well-shaped.result c.if1.false
+is-shaped : (c : tie.Else1) → well_shaped (lent (to_start c.before)) ≡ true
+is-shaped c = sym (c.before.well_shaped_lem.ensures (lent (to_start c.before)) refl refl refl) ∙ not-false c.before.well_shaped_lem.result c.if1.false
 
 returns : tie.Need-returns
 returns c =
     let after-well-shaped = c.before in
     let start = to_start after-well-shaped in
-    λ s ec es eh. judged-shape s start.args.file.now _ (sym (after-well-shaped.well-shaped.ensures s ec es eh) ∙ not-true after-well-shaped.well-shaped.result c.if1.true)
+    λ s ec es eh. judged_shape s start.args.file.now _ (sym (after-well-shaped.well_shaped_lem.ensures s ec es eh) ∙ not-true after-well-shaped.well_shaped_lem.result c.if1.true)
 
 walk-file-requires : tie.Need-walk-file-requires
 walk-file-requires c κs =
@@ -43,10 +43,10 @@ walk-file-requires c κs =
     let start = to_start else1.before in
     let h = shaped (lent start) (is-shaped else1) in
     let n = h.counts in
-    (start.pre.2, start.pre.3, n.nodes, n.node-rows, n.aggregates, n.virtualStorages, node-rows-named (lent start) h)
+    (start.pre.2, start.pre.3, n.nodes, n.node_rows_lem, n.aggregates, n.virtual_storages, node_rows_named (lent start) h)
 
 returns-2 : tie.Need-returns-2
-unfolding intervalsIn
+unfolding intervals_in
 returns-2 c =
     let after-walk-file = c.before.before.before in
     let else1 = to-else1 c.before in
@@ -54,7 +54,7 @@ returns-2 c =
     let start = to_start after-well-shaped in
     λ s ec es eh.
     let walked = after-walk-file.walk-file.ensures c.if2.true s eh in
-    judged-intervals s start.args.file.now _ (sym (after-well-shaped.well-shaped.ensures s ec es eh) ∙ not-false after-well-shaped.well-shaped.result else1.if1.left)
+    judged_intervals s start.args.file.now _ (sym (after-well-shaped.well_shaped_lem.ensures s ec es eh) ∙ not-false after-well-shaped.well_shaped_lem.result else1.if1.left)
     (sym walked.read) _ walked.found.answer walked.found.held
 
 read-step-requires : tie.Need-read-step-requires
@@ -62,7 +62,7 @@ read-step-requires c κs =
     let else1 = to-else1 c.before in
     let start = to_start else1.before in
     let n = (shaped (lent start) (is-shaped else1)).counts in
-    (start.pre.2, n.nodes, n.aggregates, n.virtualStorages)
+    (start.pre.2, n.nodes, n.aggregates, n.virtual_storages)
 
 find-intervals-requires : tie.Need-find-intervals-requires
 find-intervals-requires c κs =
@@ -74,9 +74,9 @@ find-intervals-requires c κs =
       start.pre.2,
       search rules,
       n.nodes,
-      n.node-rows,
+      n.node_rows_lem,
       n.aggregates,
-      n.virtualStorages,
+      n.virtual_storages,
       long (lent start) start.args.file.now start.args.work.now (is-shaped else1)
           (sym after-enum-told.enum_told.given.1 ∙ after-read-step.Read-step.ensures (lent start) refl),
     )
@@ -88,11 +88,11 @@ returns-3 c =
     let else1 = to-else1 after-read-step.before.before in
     let after-well-shaped = else1.before in
     let start = to_start after-well-shaped in
-    λ s ec es eh. judged-file s start.args.file.now _ (sym (after-well-shaped.well-shaped.ensures s ec es eh) ∙ not-false after-well-shaped.well-shaped.result else1.if1.left)
+    λ s ec es eh. judged_file s start.args.file.now _ (sym (after-well-shaped.well_shaped_lem.ensures s ec es eh) ∙ not-false after-well-shaped.well_shaped_lem.result else1.if1.left)
     (sym after_read.read.given.1 ∙ after-read-step.Read-step.ensures s eh)
 
 returns-4 : tie.Need-returns-4
-unfolding intervalsIn
+unfolding intervals_in
 returns-4 c =
     let after-find-intervals = c.before.before in
     let after-enum-told = after-find-intervals.before.before in
@@ -101,7 +101,7 @@ returns-4 c =
     let after-well-shaped = else1.before in
     let start = to_start after-well-shaped in
     λ s ec es eh.
-    judged-intervals s start.args.file.now _ (sym (after-well-shaped.well-shaped.ensures s ec es eh) ∙ not-false after-well-shaped.well-shaped.result else1.if1.left)
+    judged_intervals s start.args.file.now _ (sym (after-well-shaped.well_shaped_lem.ensures s ec es eh) ∙ not-false after-well-shaped.well_shaped_lem.result else1.if1.left)
     (sym after-enum-told.enum_told.given.1 ∙ after-read-step.Read-step.ensures s eh)
     after-find-intervals.find-intervals.result (after-find-intervals.find-intervals.ensures s eh).answer (after-find-intervals.find-intervals.ensures s eh).held
 

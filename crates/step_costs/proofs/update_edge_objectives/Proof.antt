@@ -5,10 +5,10 @@ use mathlib.Core.List.{List}
 use native.Mathlib.Omega.{arith}
 use lib.ListN.{length}
 use lib.Ieee.{Float}
-use Rattle.layout.specs.Layout.{nodeCeiling, edges_at, edgesIn, stepWorkLength}
-use Rattle.store_shape.proofs.Entries.{ofShape}
-use Rattle.step_costs.proofs.CostLaws.{zero-literal, Edge, Added, added_none, added_more, added-all, added-length, number-under, edge_at}
-use Rattle.step_costs.proofs.TableLaws.{edge-cost-is}
+use Rattle.layout.specs.Layout.{node_ceiling, edges_at, edges_in, step_work_length}
+use Rattle.store_shape.proofs.Entries.{of_shape}
+use Rattle.step_costs.proofs.CostLaws.{zero_literal, Edge, Added, added_none, added_more, added_all, added_length, number_under, edge_at}
+use Rattle.step_costs.proofs.TableLaws.{edge_cost_is}
 use borrow.Author.Rules.{rules}
 use Rattle.step_costs.proofs.update_edge_objectives.Statement.{statement}
 use Rattle.step_costs.proofs.update_edge_objectives.Tie as tie
@@ -57,18 +57,18 @@ start c = to_start (to-wide16 (to-fill-f64 c.before))
 abbrev number : tie.After-wide164 invariant-loop decreases-loop → ℕ
 number c = c.wide164.result
 
-under : (c : tie.After-wide164 invariant-loop decreases-loop) → number c < edgesIn (start (in-loop c)).args.shape.now
+under : (c : tie.After-wide164 invariant-loop decreases-loop) → number c < edges_in (start (in-loop c)).args.shape.now
 under c =
     let s = start (in-loop c) in
     let more = (in-loop c).loop-test.true in
     let counted = (to-wide16 (to-fill-f64 (in-loop c).before)).wide16.ensures.0 in
-    let named = s.pre.7 (ofShape s.args.shape.now) refl in
-    number-under s.args.file.now _ (in-loop c).before.loop.i _ (omega (arith, more, counted)) c.wide164.ensures.0 named
+    let named = s.pre.7 (of_shape s.args.shape.now) refl in
+    number_under s.args.file.now _ (in-loop c).before.loop.i _ (omega (arith, more, counted)) c.wide164.ensures.0 named
 
-edge : (c : tie.After-wide164 invariant-loop decreases-loop) → Edge (ofShape (start (in-loop c)).args.shape.now) (edges_at + 3 * number c)
+edge : (c : tie.After-wide164 invariant-loop decreases-loop) → Edge (of_shape (start (in-loop c)).args.shape.now) (edges_at + 3 * number c)
 edge c =
     let s = start (in-loop c) in
-    edge_at s.args.file.now _ (number c) (under c) (s.pre.6 (ofShape s.args.shape.now) refl)
+    edge_at s.args.file.now _ (number c) (under c) (s.pre.6 (of_shape s.args.shape.now) refl)
 
 write-node-costs-requires : tie.Need-write-node-costs-requires invariant-loop decreases-loop
 write-node-costs-requires c κs =
@@ -84,7 +84,7 @@ loop-holds c =
     let after-wide16 = after-wide162.before.before in
     let start = to_start after-wide16 in
     added_none start.args.file.now start.args.shape.now start.args.col-obj-coef.now _ (omega (arith, start.pre.1, start.pre.4, start.pre.5))
-    (after-fill-f64.fill-f64.ensures ∙ rw (after-wide162.wide162.ensures.0, after-wide163.wide163.ensures.0, zero-literal))
+    (after-fill-f64.fill-f64.ensures ∙ rw (after-wide162.wide162.ensures.0, after-wide163.wide163.ensures.0, zero_literal))
 
 -- the words of that edge
 shared-slice-read-column : tie.Need-shared-slice-read-wide16-5 invariant-loop decreases-loop
@@ -107,12 +107,12 @@ shared-slice-read-to c =
 abbrev table : tie.In-loop invariant-loop decreases-loop → List Float
 table c = (to-write-node-costs (to-wide16 (to-fill-f64 c.before))).write-node-costs.last.1.1.0
 
-table-long : (c : tie.In-loop invariant-loop decreases-loop) → stepWorkLength ≤ length (table c)
+table-long : (c : tie.In-loop invariant-loop decreases-loop) → step_work_length ≤ length (table c)
 table-long c = omega (arith, (start c).requires.10, (to-write-node-costs (to-wide16 (to-fill-f64 c.before))).write-node-costs.kept.1.1.0)
 
 -- the ends of that edge
-ends-under : (c : tie.After-wide167 invariant-loop decreases-loop) → ((to-wide166 c).wide166.result < nodeCeiling) × (c.wide167.result < nodeCeiling)
-ends-under c =
+ends_under : (c : tie.After-wide167 invariant-loop decreases-loop) → ((to-wide166 c).wide166.result < node_ceiling) × (c.wide167.result < node_ceiling)
+ends_under c =
     let after-wide166 = to-wide166 c in
     let after-wide164 = to-wide164 after-wide166.before in
     let few = (start (in-loop after-wide164)).pre.2 in
@@ -122,20 +122,20 @@ slice-read-outgoing : tie.Need-slice-read-obj-coef invariant-loop decreases-loop
 slice-read-outgoing c =
     let after-wide167 = c.before in
     let after-wide164 = to-wide164 (to-wide166 after-wide167).before in
-    omega (arith, (ends-under after-wide167).0, (ends-under after-wide167).1, table-long (in-loop after-wide164))
+    omega (arith, (ends_under after-wide167).0, (ends_under after-wide167).1, table-long (in-loop after-wide164))
 
 slice-read-incoming : tie.Need-slice-read-obj-coef-2 invariant-loop decreases-loop
 slice-read-incoming c =
     let after-wide167 = c.before.before in
     let after-wide164 = to-wide164 (to-wide166 after-wide167).before in
-    omega (arith, (ends-under after-wide167).0, (ends-under after-wide167).1, table-long (in-loop after-wide164))
+    omega (arith, (ends_under after-wide167).0, (ends_under after-wide167).1, table-long (in-loop after-wide164))
 
 column-within : (c : tie.After-shared-slice-known8 invariant-loop decreases-loop)
     → c.before.wide165.result < length (in-loop (to-wide164 c)).before.loop.col-obj-coef
 column-within c =
     let at-loop = (in-loop (to-wide164 c)).before in
     let pre = (start (in-loop (to-wide164 c))).pre in
-    let kept = added-length _ _ _ _ _ (omega (arith, pre.1, pre.4, pre.5, (to-fill-f64 at-loop).fill-f64.kept.0)) at-loop.loop.inv in
+    let kept = added_length _ _ _ _ _ (omega (arith, pre.1, pre.4, pre.5, (to-fill-f64 at-loop).fill-f64.kept.0)) at-loop.loop.inv in
     omega (arith, (edge (to-wide164 c)).column, c.before.wide165.ensures.0, pre.1, pre.4, kept, (to-fill-f64 at-loop).fill-f64.kept.0)
 
 slice-read-col-obj-coef : tie.Need-slice-read-col-obj-coef invariant-loop decreases-loop
@@ -156,11 +156,11 @@ loop-again c =
     let at-loop = in-loop.before in
     let after-wide16 = to-wide16 (to-fill-f64 at-loop) in
     let start = to_start after-wide16 in
-    let store = ofShape start.args.shape.now in
+    let store = of_shape start.args.shape.now in
     rw (after-wide165.wide165.ensures.0, after-wide166.wide166.ensures.0, after-wide167.wide167.ensures.0)
     (added_more _ _ _ _ _ _ at-loop.loop.invariant (omega (arith, in-loop.loop-test.true, after-wide16.wide16.ensures.0))
     after-wide164.wide164.ensures.0 (start.pre.7 store refl) (start.pre.6 store refl) _
-    (edge-cost-is _ _ _ (to-write-node-costs after-wide16).write-node-costs.ensures (table-long in-loop) start.pre.2 _ _ (edge after-wide164).from (edge after-wide164).to))
+    (edge_cost_is _ _ _ (to-write-node-costs after-wide16).write-node-costs.ensures (table-long in-loop) start.pre.2 _ _ (edge after-wide164).from (edge after-wide164).to))
 
 same_length : tie.Need-same-length invariant-loop decreases-loop
 same_length c =
@@ -170,7 +170,7 @@ same-length-2 : tie.Need-same-length-2 invariant-loop decreases-loop
 same-length-2 c =
     let after-fill-f64 = to-fill-f64 c.before in
     let pre = (to_start (to-wide16 after-fill-f64)).pre in
-    added-length _ _ _ _ _ (omega (arith, pre.1, pre.4, pre.5, after-fill-f64.fill-f64.kept.0)) c.before.loop.invariant ∙ after-fill-f64.fill-f64.kept.0
+    added_length _ _ _ _ _ (omega (arith, pre.1, pre.4, pre.5, after-fill-f64.fill-f64.kept.0)) c.before.loop.invariant ∙ after-fill-f64.fill-f64.kept.0
 
 returns : tie.Need-returns invariant-loop decreases-loop
 returns c =
@@ -180,8 +180,8 @@ returns c =
     let after-wide162 = after-wide163.before.before in
     let after-wide16 = after-wide162.before.before in
     let pre = (to_start after-wide16).requires in
-    added-all _ _ _ _ _ _ (omega (arith, pre.1, pre.4, pre.5))
-    (after-fill-f64.fill-f64.ensures ∙ rw (after-wide162.wide162.ensures.0, after-wide163.wide163.ensures.0, zero-literal))
+    added_all _ _ _ _ _ _ (omega (arith, pre.1, pre.4, pre.5))
+    (after-fill-f64.fill-f64.ensures ∙ rw (after-wide162.wide162.ensures.0, after-wide163.wide163.ensures.0, zero_literal))
     c.before.loop.invariant (omega (arith, c.loop-test.false, after-wide16.wide16.ensures.0))
 
 pub update-edge-objectives-spec : {M : Type 1} → statement M

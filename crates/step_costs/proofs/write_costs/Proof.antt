@@ -3,8 +3,8 @@ use native.Mathlib.Omega.{arith}
 use lib.ListN.{length-set}
 use borrow.Author.Rules.{rules}
 use borrow.Author.Tests.{eq-eqb, ne_eqb}
-use Rattle.pywr.specs.Costs.{outgoingCost, incomingCost}
-use Rattle.step_costs.proofs.CostLaws.{two-literal}
+use Rattle.pywr.specs.Costs.{outgoing_cost, incoming_cost}
+use Rattle.step_costs.proofs.CostLaws.{two_literal}
 use Rattle.step_costs.proofs.write_costs.Statement.{statement}
 use Rattle.step_costs.proofs.write_costs.Tie as tie
 
@@ -15,11 +15,11 @@ slice-write-work-4 : tie.Need-slice-write-work-4
 slice-write-work-4 c = simp length-set (omega arith)
 
 returns : tie.Need-returns
-unfolding outgoingCost incomingCost
-returns c = rw (eq-eqb _ _ c.if1.true, two-literal)
+unfolding outgoing_cost incoming_cost
+returns c = rw (eq-eqb _ _ c.if1.true, two_literal)
 
 returns-2 : tie.Need-returns-2
-unfolding incomingCost
+unfolding incoming_cost
 returns-2 c = rw (c.outgoing-cost.ensures, ne_eqb _ _ c.before.if1.false)
 
 pub write-costs-spec : {M : Type 1} → statement M

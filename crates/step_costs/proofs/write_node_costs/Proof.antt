@@ -2,16 +2,16 @@
 use mathlib.Core.Path.{ap, ◌∙◌}
 use Prim.Native.Nat.{◌-◌}
 use native.Mathlib.Omega.{arith}
-use Rattle.laws.proofs.Tests.{of-true}
-use Rattle.pywr.specs.Numbers.{isFlow, ofPattern}
-use Rattle.step_work.proofs.WrittenLaws.{Writing, writing-none}
+use Rattle.laws.proofs.Tests.{of_true}
+use Rattle.pywr.specs.Numbers.{is_flow, of_pattern}
+use Rattle.step_work.proofs.WrittenLaws.{Writing, writing_none}
 use borrow.Author.Rules.{rules}
-use Rattle.step_costs.proofs.TableLaws.{costsNumbered, table_more, table-written}
+use Rattle.step_costs.proofs.TableLaws.{costs_numbered, table_more, table_written}
 use Rattle.step_costs.proofs.write_node_costs.Statement.{statement}
 use Rattle.step_costs.proofs.write_node_costs.Tie as tie
 
 abbrev invariant-loop : tie.invariant-loop
-invariant-loop file shape work₀ nodes i₀ work i = Writing (costsNumbered file shape) 0 nodes work₀ work i
+invariant-loop file shape work₀ nodes i₀ work i = Writing (costs_numbered file shape) 0 nodes work₀ work i
 
 abbrev decreases-loop : tie.decreases-loop
 decreases-loop file shape work₀ nodes i₀ work i = nodes - i
@@ -27,7 +27,7 @@ to_start c =
 
 loop-holds : tie.Need-loop-init invariant-loop decreases-loop
 loop-holds c =
-    writing-none _ _ _ _
+    writing_none _ _ _ _
 
 u64-at-requires : tie.Need-u64-at-requires invariant-loop decreases-loop
 u64-at-requires c κs =
@@ -35,12 +35,12 @@ u64-at-requires c κs =
 
 -- the cost is no NaN
 float-from-bits-cost : tie.Need-float-from-bits-cost invariant-loop decreases-loop
-unfolding isFlow
+unfolding is_flow
 float-from-bits-cost c =
     let in-loop = to-in-loop c in
     let at-loop = in-loop.before in
-    of-true _
-    (ap isFlow c.u64-at.ensures
+    of_true _
+    (ap is_flow c.u64-at.ensures
     ∙ (to_start at-loop).pre.4 at-loop.loop.i (omega (arith, in-loop.loop-test.taken, at-loop.before.wide16.ensures.0)))
 
 write-costs-requires : tie.Need-write-costs-requires invariant-loop decreases-loop
@@ -49,7 +49,7 @@ write-costs-requires c κs =
     (omega (arith, at-loop.loop.inv.long), omega arith)
 
 loop-again : tie.Need-loop-preserved invariant-loop decreases-loop
-unfolding ofPattern
+unfolding of_pattern
 loop-again c =
     let after-write-costs = c.before.before in
     let after-u64-at = after-write-costs.before.before in
@@ -58,7 +58,7 @@ loop-again c =
     let pre = (to_start at-loop).requires in
     rw after-write-costs.write-costs.ensures
     (table_more _ _ _ _ _ _ at-loop.loop.invariant (omega (arith, pre.2, at-loop.before.wide16.ensures.0)) pre.1 in-loop.loop-test.true _
-    (ap ofPattern after-u64-at.u64-at.ensures))
+    (ap of_pattern after-u64-at.u64-at.ensures))
 
 same_length : tie.Need-same-length invariant-loop decreases-loop
 same_length c =
@@ -66,7 +66,7 @@ same_length c =
 
 returns : tie.Need-returns invariant-loop decreases-loop
 returns c =
-    table-written _ _ _ _ _ _ c.before.loop.invariant c.before.before.wide16.ensures.0 c.loop-test.false
+    table_written _ _ _ _ _ _ c.before.loop.invariant c.before.before.wide16.ensures.0 c.loop-test.false
 
 pub write-node-costs-spec : {M : Type 1} → statement M
 write-node-costs-spec =

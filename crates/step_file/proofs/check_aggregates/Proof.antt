@@ -2,16 +2,16 @@
 use mathlib.Core.Path.{◌≡◌, sym, ◌∙◌}
 use Prim.Native.Nat.{◌+◌, ◌*◌, ◌-◌, ◌≤◌}
 use native.Mathlib.Nat.{sub-zero}
-use Rattle.step_record.specs.Check.{checkAggregate}
-use Rattle.step_file.specs.CheckStep.{checkRecords}
-use Rattle.step_file.proofs.LoopLaws.{records-refused, records-more, records-done}
+use Rattle.step_record.specs.Check.{check_aggregate}
+use Rattle.step_file.specs.CheckStep.{check_records}
+use Rattle.step_file.proofs.LoopLaws.{records_refused, records_more, records_done}
 use borrow.Author.Rules.{rules}
 use Rattle.step_file.proofs.check_aggregates.Statement.{statement}
 use Rattle.step_file.proofs.check_aggregates.Tie as tie
 
 abbrev invariant-loop : tie.invariant-loop
 invariant-loop file from count at₀ i₀ at i =
-    (i ≤ count) × (at ≡ from + 18 * i) × (checkRecords (checkAggregate file) 18 count from ≡ checkRecords (checkAggregate file) 18 (count - i) at)
+    (i ≤ count) × (at ≡ from + 18 * i) × (check_records (check_aggregate file) 18 count from ≡ check_records (check_aggregate file) 18 (count - i) at)
 
 abbrev decreases-loop : tie.decreases-loop
 decreases-loop file from count at₀ i₀ at i = count - i
@@ -26,7 +26,7 @@ returns c =
     let in-loop = after-check-aggregate.before in
     let at-loop = in-loop.before in
     let start = at-loop.before.before in
-    sym (at-loop.loop.invariant.2 ∙ records-refused (checkAggregate start.args.file.now) 18 _ _ _ _ _ in-loop.loop-test.true
+    sym (at-loop.loop.invariant.2 ∙ records_refused (check_aggregate start.args.file.now) 18 _ _ _ _ _ in-loop.loop-test.true
     (sym after-check-aggregate.check-aggregate.ensures ∙ c.before.aggregate.given.1))
 
 loop-again : tie.Need-loop-preserved invariant-loop decreases-loop
@@ -38,12 +38,12 @@ loop-again c =
       search rules,
       search rules,
       at-loop.loop.invariant.2
-          ∙ records-more (checkAggregate start.args.file.now) 18 _ _ _ in-loop.loop-test.true (sym after-check-aggregate.check-aggregate.ensures ∙ c.enum_told.given.1),
+          ∙ records_more (check_aggregate start.args.file.now) 18 _ _ _ in-loop.loop-test.true (sym after-check-aggregate.check-aggregate.ensures ∙ c.enum_told.given.1),
     )
 
 returns-2 : tie.Need-returns-2 invariant-loop decreases-loop
 returns-2 c =
-    sym (c.before.loop.invariant.2 ∙ records-done (checkAggregate c.before.before.before.args.file.now) 18 _ _ _ c.loop-test.false)
+    sym (c.before.loop.invariant.2 ∙ records_done (check_aggregate c.before.before.before.args.file.now) 18 _ _ _ c.loop-test.false)
 
 pub check-aggregates-spec : {M : Type 1} → statement M
 check-aggregates-spec =

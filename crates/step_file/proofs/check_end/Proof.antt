@@ -1,16 +1,16 @@
 -- `check_end` meets its contract. Assumes nothing.
 use borrow.Author.Tests.{le-leb, lt-leb}
-use Rattle.step_file.specs.CheckStep.{checkEnd}
+use Rattle.step_file.specs.CheckStep.{check_end}
 use Rattle.step_file.proofs.check_end.Statement.{statement}
 use Rattle.step_file.proofs.check_end.Tie as tie
 
 returns : tie.Need-returns
-unfolding checkEnd
+unfolding check_end
 returns c =
     rw (le-leb _ _ c.if1.true)
 
 returns-2 : tie.Need-returns-2
-unfolding checkEnd
+unfolding check_end
 returns-2 c =
     rw (lt-leb _ _ c.if1.false)
 

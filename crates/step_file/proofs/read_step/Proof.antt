@@ -1,27 +1,27 @@
 -- `read_step` meets its contract: at each return, what was answered so far. Assumes nothing.
-use Rattle.step_record.specs.Check.{answerThen}
-use Rattle.step_file.specs.CheckStep.{checkFile}
-use Rattle.step_file.proofs.LoopLaws.{step-answer}
+use Rattle.step_record.specs.Check.{answer_then}
+use Rattle.step_file.specs.CheckStep.{check_file}
+use Rattle.step_file.proofs.LoopLaws.{step_answer_lem}
 use borrow.Author.Rules.{rules}
 use Rattle.step_file.proofs.read_step.Statement.{statement}
 use Rattle.step_file.proofs.read_step.Tie as tie
 
 returns : tie.Need-returns
-unfolding checkFile answerThen
+unfolding check_file answer_then
 returns c =
     let after-check-date = c.before.before.before in
     let after-wide3 = after-check-date.before in
     let after-wide2 = after-wide3.before.before in
     let after-wide = after-wide2.before.before in
     λ s e. rw (
-      step-answer s _ _ _ _ _ e after-wide.wide16.ensures.0 after-wide2.wide162.ensures.0 after-wide3.wide163.ensures.0,
+      step_answer_lem s _ _ _ _ _ e after-wide.wide16.ensures.0 after-wide2.wide162.ensures.0 after-wide3.wide163.ensures.0,
       ←
           after-check-date.check-date.ensures,
       c.before.date.given.1,
     )
 
 returns-2 : tie.Need-returns-2
-unfolding checkFile answerThen
+unfolding check_file answer_then
 returns-2 c =
     let after-check-nodes = c.before.before.before in
     let after-enum-told = after-check-nodes.before in
@@ -30,7 +30,7 @@ returns-2 c =
     let after-wide2 = after-wide3.before.before in
     let after-wide = after-wide2.before.before in
     λ s e. rw (
-      step-answer s _ _ _ _ _ e after-wide.wide16.ensures.0 after-wide2.wide162.ensures.0 after-wide3.wide163.ensures.0,
+      step_answer_lem s _ _ _ _ _ e after-wide.wide16.ensures.0 after-wide2.wide162.ensures.0 after-wide3.wide163.ensures.0,
       ← after-check-date.check-date.ensures,
       after-enum-told.enum_told.given.1,
       ← (after-check-nodes.check-nodes.ensures s e),
@@ -38,7 +38,7 @@ returns-2 c =
     )
 
 returns-3 : tie.Need-returns-3
-unfolding checkFile answerThen
+unfolding check_file answer_then
 returns-3 c =
     let after-check-aggregates = c.before.before.before in
     let after-enum-told2 = after-check-aggregates.before in
@@ -49,7 +49,7 @@ returns-3 c =
     let after-wide2 = after-wide3.before.before in
     let after-wide = after-wide2.before.before in
     λ s e. rw (
-      step-answer s _ _ _ _ _ e after-wide.wide16.ensures.0 after-wide2.wide162.ensures.0 after-wide3.wide163.ensures.0,
+      step_answer_lem s _ _ _ _ _ e after-wide.wide16.ensures.0 after-wide2.wide162.ensures.0 after-wide3.wide163.ensures.0,
       ← after-check-date.check-date.ensures,
       after-enum-told.enum_told.given.1,
       ← (after-check-nodes.check-nodes.ensures s e),
@@ -59,7 +59,7 @@ returns-3 c =
     )
 
 returns-4 : tie.Need-returns-4
-unfolding checkFile answerThen
+unfolding check_file answer_then
 returns-4 c =
     let after-check-virtual-storages = c.before.before.before in
     let after-enum-told3 = after-check-virtual-storages.before in
@@ -72,7 +72,7 @@ returns-4 c =
     let after-wide2 = after-wide3.before.before in
     let after-wide = after-wide2.before.before in
     λ s e. rw (
-      step-answer s _ _ _ _ _ e after-wide.wide16.ensures.0 after-wide2.wide162.ensures.0 after-wide3.wide163.ensures.0,
+      step_answer_lem s _ _ _ _ _ e after-wide.wide16.ensures.0 after-wide2.wide162.ensures.0 after-wide3.wide163.ensures.0,
       ← after-check-date.check-date.ensures,
       after-enum-told.enum_told.given.1,
       ← (after-check-nodes.check-nodes.ensures s e),
@@ -84,7 +84,7 @@ returns-4 c =
     )
 
 returns-5 : tie.Need-returns-5
-unfolding checkFile answerThen
+unfolding check_file answer_then
 returns-5 c =
     let after-check-virtual-storages = c.before.before.before in
     let after-enum-told3 = after-check-virtual-storages.before in
@@ -97,7 +97,7 @@ returns-5 c =
     let after-wide2 = after-wide3.before.before in
     let after-wide = after-wide2.before.before in
     λ s e. rw (
-      step-answer s _ _ _ _ _ e after-wide.wide16.ensures.0 after-wide2.wide162.ensures.0 after-wide3.wide163.ensures.0,
+      step_answer_lem s _ _ _ _ _ e after-wide.wide16.ensures.0 after-wide2.wide162.ensures.0 after-wide3.wide163.ensures.0,
       ← after-check-date.check-date.ensures,
       after-enum-told.enum_told.given.1,
       ← (after-check-nodes.check-nodes.ensures s e),

@@ -1,5 +1,5 @@
 -- `find_intervals` meets its contract: the three loops one after the other. Assumes nothing.
-use Rattle.step_intervals.proofs.FoundLaws.{nodes-refuse, all_found}
+use Rattle.step_intervals.proofs.FoundLaws.{nodes_refuse, all_found}
 use borrow.Author.Rules.{rules}
 use Rattle.step_intervals.proofs.find_intervals.Statement.{statement}
 use Rattle.step_intervals.proofs.find_intervals.Tie as tie
@@ -31,7 +31,7 @@ returns c =
     let after-kept-sentinel = after-find-node-intervals.before.before in
     let after-days = after-kept-sentinel.before in
     let start = to_start after-days in
-    λ s e. nodes-refuse s start.args.shape.now start.args.file.now e after-days.days.result after-days.days.ensures after-kept-sentinel.kept-sentinel.result
+    λ s e. nodes_refuse s start.args.shape.now start.args.file.now e after-days.days.result after-days.days.ensures after-kept-sentinel.kept-sentinel.result
     after-kept-sentinel.kept-sentinel.ensures _ _ _ after-find-node-intervals.find-node-intervals.ensures _ _ c.before.r.given.1
 
 returns-2 : tie.Need-returns-2

@@ -1,6 +1,6 @@
 -- `find_node_intervals` meets its contract: 21 of a node before every crossed one, else 14, else accepted. Assumes nothing.
 use native.Mathlib.Omega.{arith}
-use Rattle.step_node_intervals.proofs.BadIntervalLaws.{beyond-refused, crossed-refused, none-bad}
+use Rattle.step_node_intervals.proofs.BadIntervalLaws.{beyond_refused, crossed_refused, none_bad}
 use borrow.Author.Rules.{rules}
 use Rattle.step_node_intervals.proofs.find_node_intervals.Statement.{statement}
 use Rattle.step_node_intervals.proofs.find_node_intervals.Tie as tie
@@ -14,14 +14,14 @@ to-write-node-intervals c =
 returns : tie.Need-returns
 returns c =
     let after-write-node-intervals = to-write-node-intervals c.before in
-    beyond-refused _ _ _ _ _ _ _ _ after-write-node-intervals.write-node-intervals.ensures c.before.first-beyond.ensures c.if1.true
+    beyond_refused _ _ _ _ _ _ _ _ after-write-node-intervals.write-node-intervals.ensures c.before.first-beyond.ensures c.if1.true
 
 returns-2 : tie.Need-returns-2
 returns-2 c =
     let after-first-beyond = c.before.before in
     let after-write-node-intervals = to-write-node-intervals after-first-beyond in
     let after-wide16 = after-write-node-intervals.before.before in
-    crossed-refused _ _ _ _ _ _ _ _ after-write-node-intervals.write-node-intervals.ensures after-first-beyond.first-beyond.ensures c.before.if1.false
+    crossed_refused _ _ _ _ _ _ _ _ after-write-node-intervals.write-node-intervals.ensures after-first-beyond.first-beyond.ensures c.before.if1.false
     (omega (arith, after-wide16.wide16.ensures.0, c.if2.true))
 
 returns-3 : tie.Need-returns-3
@@ -29,7 +29,7 @@ returns-3 c =
     let after-first-beyond = c.before.before in
     let after-write-node-intervals = to-write-node-intervals after-first-beyond in
     let after-wide16 = after-write-node-intervals.before.before in
-    none-bad _ _ _ _ _ _ _ _ after-write-node-intervals.write-node-intervals.ensures after-first-beyond.first-beyond.ensures c.before.if1.false
+    none_bad _ _ _ _ _ _ _ _ after-write-node-intervals.write-node-intervals.ensures after-first-beyond.first-beyond.ensures c.before.if1.false
     (omega (arith, after-wide16.wide16.ensures.0, c.if2.false))
 
 pub find-node-intervals-spec : {M : Type 1} → statement M

@@ -1,20 +1,20 @@
 -- `first_beyond` meets its contract. The loop's invariant: `first` is the least such node of the first i node rows. Assumes nothing.
 use Prim.Native.Nat.{◌-◌, ◌≤◌}
 use native.Mathlib.Omega.{arith}
-use Rattle.step_node_intervals.proofs.BinaryRowLaws.{LeastTo, least-none, least_more, least-all}
+use Rattle.step_node_intervals.proofs.BinaryRowLaws.{LeastTo, least_none, least_more, least_all}
 use borrow.Author.Rules.{rules}
 use Rattle.step_node_intervals.proofs.first_beyond.Statement.{statement}
 use Rattle.step_node_intervals.proofs.first_beyond.Tie as tie
 
 abbrev invariant-loop : tie.invariant-loop
-invariant-loop shape work sentinel written node-rows first₀ i₀ first i = (i ≤ node-rows) × LeastTo sentinel work shape written i first
+invariant-loop shape work sentinel written node_rows_lem first₀ i₀ first i = (i ≤ node_rows_lem) × LeastTo sentinel work shape written i first
 
 abbrev decreases-loop : tie.decreases-loop
-decreases-loop shape work sentinel written node-rows first₀ i₀ first i = node-rows - i
+decreases-loop shape work sentinel written node_rows_lem first₀ i₀ first i = node_rows_lem - i
 
 loop-holds : tie.Need-loop-init invariant-loop decreases-loop
 loop-holds c =
-    (search rules, least-none _ _ _ _)
+    (search rules, least_none _ _ _ _)
 
 lesser-beyond-requires : tie.Need-lesser-beyond-requires invariant-loop decreases-loop
 lesser-beyond-requires c κs =
@@ -29,7 +29,7 @@ loop-again c =
 returns : tie.Need-returns invariant-loop decreases-loop
 returns c =
     let at-loop = c.before in
-    rw (← at-loop.before.wide16.ensures.0) (least-all _ _ _ _ _ _ _ c.loop-test.false at-loop.loop.invariant.0 at-loop.loop.invariant.1)
+    rw (← at-loop.before.wide16.ensures.0) (least_all _ _ _ _ _ _ _ c.loop-test.false at-loop.loop.invariant.0 at-loop.loop.invariant.1)
 
 pub first-beyond-spec : {M : Type 1} → statement M
 first-beyond-spec =

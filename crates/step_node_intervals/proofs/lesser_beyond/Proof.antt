@@ -1,5 +1,5 @@
 -- `lesser_beyond` meets its contract: at each return, the tests that led there. Assumes nothing.
-use Rattle.step_node_intervals.proofs.BinaryRowLaws.{row-passed, row-continuous, row-beyond, row_within}
+use Rattle.step_node_intervals.proofs.BinaryRowLaws.{row_passed, row_continuous, row_beyond, row_within}
 use borrow.Author.Rules.{rules}
 use Rattle.step_node_intervals.proofs.lesser_beyond.Statement.{statement}
 use Rattle.step_node_intervals.proofs.lesser_beyond.Tie as tie
@@ -18,13 +18,13 @@ to-else1 c =
 returns : tie.Need-returns
 returns c =
     let a = (to_start c.before).args in
-    row-passed a.sentinel a.work.now a.shape.now a.at a.first _ c.before.wide16.ensures.0 c.if1.true
+    row_passed a.sentinel a.work.now a.shape.now a.at a.first _ c.before.wide16.ensures.0 c.if1.true
 
 returns-2 : tie.Need-returns-2
 returns-2 c =
     let after-wide16 = c.before.before.before in
     let a = (to_start after-wide16).args in
-    row-continuous a.sentinel a.work.now a.shape.now a.at a.first _ after-wide16.wide16.ensures.0 c.if2.true
+    row_continuous a.sentinel a.work.now a.shape.now a.at a.first _ after-wide16.wide16.ensures.0 c.if2.true
 
 returns-3 : tie.Need-returns-3
 returns-3 c =
@@ -32,7 +32,7 @@ returns-3 c =
     let else1 = to-else1 after-is-beyond in
     let start = to_start else1.before in
     let a = start.args in
-    row-beyond a.sentinel a.work.now a.shape.now a.at a.first _ else1.before.wide16.ensures.0 else1.if1.left
+    row_beyond a.sentinel a.work.now a.shape.now a.at a.first _ else1.before.wide16.ensures.0 else1.if1.left
     after-is-beyond.before.before.before.if2.false start.pre.2 start.pre.1 _ _ after-is-beyond.is-beyond.ensures c.before.is-beyond2.ensures c.if3.true
 
 returns-4 : tie.Need-returns-4

@@ -1,20 +1,20 @@
 -- `node_interval` meets its contract: at each return, the tests that led there. Assumes nothing.
 use borrow.Author.Tests.{eq-eqb, ne_eqb}
-use Rattle.pywr.specs.StepFile.{boundsRead}
-use Rattle.pywr.specs.StepIntervals.{nodeInterval}
-use Rattle.step_file.specs.Decoded.{nodeStepAt}
-use Rattle.step_node_intervals.specs.NodeIntervals.{nodeNumbered}
+use Rattle.pywr.specs.StepFile.{bounds_read}
+use Rattle.pywr.specs.StepIntervals.{node_interval}
+use Rattle.step_file.specs.Decoded.{node_step_at}
+use Rattle.step_node_intervals.specs.NodeIntervals.{node_numbered}
 use borrow.Author.Rules.{rules}
 use Rattle.step_node_intervals.proofs.node_interval.Statement.{statement}
 use Rattle.step_node_intervals.proofs.node_interval.Tie as tie
 
 returns : tie.Need-returns
-unfolding nodeNumbered nodeStepAt boundsRead nodeInterval
+unfolding node_numbered node_step_at bounds_read node_interval
 returns c =
     rw (← c.before.before.before.wide16.ensures.0, eq-eqb _ _ c.before.if1.true) c.sentinels.ensures
 
 returns-2 : tie.Need-returns-2
-unfolding nodeNumbered nodeStepAt boundsRead nodeInterval
+unfolding node_numbered node_step_at bounds_read node_interval
 returns-2 c =
     let after-node-volume = c.before.before in
     let then2 = after-node-volume.before in
@@ -33,7 +33,7 @@ returns-2 c =
     ) c.interval-of.ensures
 
 returns-3 : tie.Need-returns-3
-unfolding nodeNumbered nodeStepAt boundsRead nodeInterval
+unfolding node_numbered node_step_at bounds_read node_interval
 returns-3 c =
     let after-node-max = c.before.before.before in
     let after-node-min = after-node-max.before in

@@ -4,14 +4,14 @@ use Prim.Native.Nat.{◌-◌}
 use native.Mathlib.Nat.{zero-add}
 use native.Mathlib.Omega.{arith}
 use lib.ListN.{length-set}
-use Rattle.step_node_intervals.specs.NodeIntervals.{nodeNumbered}
-use Rattle.step_work.proofs.WrittenLaws.{Passed, passed_none, passed-more, passed-stops, passed-all}
+use Rattle.step_node_intervals.specs.NodeIntervals.{node_numbered}
+use Rattle.step_work.proofs.WrittenLaws.{Passed, passed_none, passed_more, passed_stops, passed_all}
 use borrow.Author.Rules.{rules}
 use Rattle.step_node_intervals.proofs.write_node_intervals.Statement.{statement}
 use Rattle.step_node_intervals.proofs.write_node_intervals.Tie as tie
 
 abbrev invariant-loop : tie.invariant-loop
-invariant-loop file shape days sentinel work₀ nodes i₀ work i = Passed (nodeNumbered sentinel days shape file) 0 nodes work₀ work i
+invariant-loop file shape days sentinel work₀ nodes i₀ work i = Passed (node_numbered sentinel days shape file) 0 nodes work₀ work i
 
 abbrev decreases-loop : tie.decreases-loop
 decreases-loop file shape days sentinel work₀ nodes i₀ work i = nodes - i
@@ -45,8 +45,8 @@ returns c =
     let after-shared-slice-known2 = after-wide16.before.before.before in
     let start = after-shared-slice-known2.before.before in
     let a = start.args in
-    let is = after-node-interval.node-interval.ensures ∙ ap (nodeNumbered a.sentinel a.days a.shape.now a.file.now) after-narrow16.narrow16.ensures in
-    rw (← after-wide16.wide16.ensures.0) (passed-stops _ _ in-loop.loop-test.true is c.before.is-crossed.ensures at-loop.loop.invariant c.if1.true)
+    let is = after-node-interval.node-interval.ensures ∙ ap (node_numbered a.sentinel a.days a.shape.now a.file.now) after-narrow16.narrow16.ensures in
+    rw (← after-wide16.wide16.ensures.0) (passed_stops _ _ in-loop.loop-test.true is c.before.is-crossed.ensures at-loop.loop.invariant c.if1.true)
 
 slice-write-work-2 : tie.Need-slice-write-work-2 invariant-loop decreases-loop
 slice-write-work-2 c =
@@ -62,8 +62,8 @@ loop-again c =
     let at-loop = in-loop.before in
     let start = to_start at-loop in
     let a = start.args in
-    let is = after-node-interval.node-interval.ensures ∙ ap (nodeNumbered a.sentinel a.days a.shape.now a.file.now) after-narrow16.narrow16.ensures in
-    passed-more _ _ in-loop.loop-test.true is c.before.is-crossed.ensures at-loop.loop.invariant at-loop.loop.i (sym (zero-add at-loop.loop.i))
+    let is = after-node-interval.node-interval.ensures ∙ ap (node_numbered a.sentinel a.days a.shape.now a.file.now) after-narrow16.narrow16.ensures in
+    passed_more _ _ in-loop.loop-test.true is c.before.is-crossed.ensures at-loop.loop.invariant at-loop.loop.i (sym (zero-add at-loop.loop.i))
     (search rules) (search rules) c.if1.false
 
 same-length-2 : tie.Need-same-length-2 invariant-loop decreases-loop
@@ -72,7 +72,7 @@ same-length-2 c =
 
 returns-2 : tie.Need-returns-2 invariant-loop decreases-loop
 returns-2 c =
-    rw (← c.before.before.wide16.ensures.0) (passed-all c.loop-test.false c.before.loop.invariant)
+    rw (← c.before.before.wide16.ensures.0) (passed_all c.loop-test.false c.before.loop.invariant)
 
 pub write-node-intervals-spec : {M : Type 1} → statement M
 write-node-intervals-spec =

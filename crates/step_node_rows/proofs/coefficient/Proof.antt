@@ -1,16 +1,16 @@
 -- `coefficient` meets its contract. Assumes nothing.
 use borrow.Author.Tests.{eq-eqb, ne_eqb}
-use Rattle.step_node_rows.specs.NodeConstraintBounds.{coefficientByWord}
+use Rattle.step_node_rows.specs.NodeConstraintBounds.{coefficient_by_word}
 use Rattle.step_node_rows.proofs.coefficient.Statement.{statement}
 use Rattle.step_node_rows.proofs.coefficient.Tie as tie
 
 returns : tie.Need-returns
-unfolding coefficientByWord
+unfolding coefficient_by_word
 returns c =
     rw (eq-eqb _ _ c.if1.true)
 
 returns-2 : tie.Need-returns-2
-unfolding coefficientByWord
+unfolding coefficient_by_word
 returns-2 c =
     rw (ne_eqb _ _ c.before.if1.false)
 

@@ -4,23 +4,23 @@ use Prim.Native.Nat.{◌-◌}
 use native.Mathlib.Omega.{arith}
 use lib.ListN.{length}
 use Rattle.pywr.specs.Store.{Store}
-use Rattle.step_node_rows.specs.NodeConstraintBounds.{over, resetChange}
-use Rattle.step_node_rows.proofs.NodeRowLaws.{Applied, applied-none, applied-more, applied-all}
+use Rattle.step_node_rows.specs.NodeConstraintBounds.{over, reset_change}
+use Rattle.step_node_rows.proofs.NodeRowLaws.{Applied, applied_none, applied_more, applied_all}
 use borrow.Author.Rules.{rules}
 use Rattle.step_node_rows.proofs.reset_binary_rows.Statement.{statement}
 use Rattle.step_node_rows.proofs.reset_binary_rows.Tie as tie
 
 abbrev invariant-loop : tie.invariant-loop
-invariant-loop row-lower₀ row-upper₀ elements₀ columns row-starts shape node-rows i₀ row-lower row-upper elements i =
-    (length row-lower ≡ length row-lower₀) × (length row-upper ≡ length row-upper₀) × (length elements ≡ length elements₀)
-    × ((s : Store) → Applied (over s columns row-starts shape) resetChange node-rows row-lower₀ row-upper₀ elements₀ row-lower row-upper elements i)
+invariant-loop row-lower₀ row-upper₀ elements₀ columns row_starts_lem shape node_rows_lem i₀ row_lower_lem row_upper_lem elements i =
+    (length row_lower_lem ≡ length row-lower₀) × (length row_upper_lem ≡ length row-upper₀) × (length elements ≡ length elements₀)
+    × ((s : Store) → Applied (over s columns row_starts_lem shape) reset_change node_rows_lem row-lower₀ row-upper₀ elements₀ row_lower_lem row_upper_lem elements i)
 
 abbrev decreases-loop : tie.decreases-loop
-decreases-loop row-lower₀ row-upper₀ elements₀ columns row-starts shape node-rows i₀ row-lower row-upper elements i = node-rows - i
+decreases-loop row-lower₀ row-upper₀ elements₀ columns row_starts_lem shape node_rows_lem i₀ row_lower_lem row_upper_lem elements i = node_rows_lem - i
 
 loop-holds : tie.Need-loop-init invariant-loop decreases-loop
 loop-holds c =
-    (refl, refl, refl, λ s. applied-none _ _ _ _ _ _)
+    (refl, refl, refl, λ s. applied_none _ _ _ _ _ _)
 
 reset-binary-row-requires : tie.Need-reset-binary-row-requires invariant-loop decreases-loop
 reset-binary-row-requires c κs =
@@ -50,7 +50,7 @@ loop-again c =
       done.auto.0 ∙ l.invariant.0,
       done.auto.1.0 ∙ l.invariant.1,
       done.auto.1.1.0 ∙ l.invariant.2,
-      λ s. applied-more _ _ _ _ _ _ (l.invariant.3 s) in-loop.loop-test.true (done.ensures s),
+      λ s. applied_more _ _ _ _ _ _ (l.invariant.3 s) in-loop.loop-test.true (done.ensures s),
     )
 
 same_length : tie.Need-same-length invariant-loop decreases-loop
@@ -67,7 +67,7 @@ same-length-3 c =
 
 returns : tie.Need-returns invariant-loop decreases-loop
 returns c =
-    λ s. rw (← c.before.before.wide16.ensures.0) (applied-all _ _ _ _ _ _ (c.before.loop.invariant.3 s) c.loop-test.false)
+    λ s. rw (← c.before.before.wide16.ensures.0) (applied_all _ _ _ _ _ _ (c.before.loop.invariant.3 s) c.loop-test.false)
 
 pub reset-binary-rows-spec : {M : Type 1} → statement M
 reset-binary-rows-spec =

@@ -1,8 +1,8 @@
 -- `update_coefficient` meets its contract. Assumes nothing.
 use mathlib.Core.Path.{◌∙◌}
 use Rattle.step_node_rows.specs.NodeConstraintBounds.{over}
-use Rattle.step_node_rows.proofs.Fits.{column-under, starts-there, elements-there, column-there}
-use Rattle.step_node_rows.proofs.VaryingLaws.{coefficients-kept, coefficient-lowered}
+use Rattle.step_node_rows.proofs.Fits.{column_under, starts_there, elements_there, column_there}
+use Rattle.step_node_rows.proofs.VaryingLaws.{coefficients_kept, coefficient_lowered}
 use borrow.Author.Rules.{rules}
 use Rattle.step_node_rows.proofs.update_coefficient.Statement.{statement}
 use Rattle.step_node_rows.proofs.update_coefficient.Tie as tie
@@ -24,13 +24,13 @@ returns c =
     let after-shared-slice-known3 = c.before.before.before in
     let after-slice-known = after-shared-slice-known3.before.before.before in
     let a = after-slice-known.before.args in
-    λ s lower upper. coefficients-kept (over s a.columns.now a.row-starts.now a.shape.now) a.at a.work.now c.if1.true
+    λ s lower upper. coefficients_kept (over s a.columns.now a.row_starts_lem.now a.shape.now) a.at a.work.now c.if1.true
 
 set-column-requires : tie.Need-set-column-requires
 set-column-requires c κs =
     let else1 = to-else1 c in
     let start = to_start else1 in
-    (start.pre.2.rows.shape-long, start.pre.4, column-under start.pre.2 start.pre.3 else1.if1.left)
+    (start.pre.2.rows.shape_long, start.pre.4, column_under start.pre.2 start.pre.3 else1.if1.left)
 
 lower-coefficient-requires : tie.Need-lower-coefficient-requires
 lower-coefficient-requires c κs =
@@ -39,12 +39,12 @@ lower-coefficient-requires c κs =
     let else1 = to-else1 after-wide162 in
     let start = to_start else1 in
     let row = after-wide162.wide162.ensures.0 in
-    let column = after-set-column.set-column.ensures in (
-      starts-there start.pre.2 start.pre.3 else1.if1.left row column,
-      elements-there start.pre.2 start.pre.3 else1.if1.left row column,
-      start.pre.2.rows.columns-long,
+    let column = after-set-column.set_column_lem.ensures in (
+      starts_there start.pre.2 start.pre.3 else1.if1.left row column,
+      elements_there start.pre.2 start.pre.3 else1.if1.left row column,
+      start.pre.2.rows.columns_long,
       start.pre.0,
-      column-there start.pre.2 start.pre.3 else1.if1.left row column,
+      column_there start.pre.2 start.pre.3 else1.if1.left row column,
     )
 
 returns-2 : tie.Need-returns-2
@@ -59,8 +59,8 @@ returns-2 c =
     let start = to_start else1 in
     let a = start.args in
     λ s lower upper.
-    coefficient-lowered (over s a.columns.now a.row-starts.now a.shape.now) a.at _ after-wide162.wide162.ensures.0 start.pre.3.within.row a.work.now _
-    (after-held-interval.held-interval.ensures ∙ rw after-wide16.wide16.ensures.0) start.pre.3.within.node _ after-set-column.set-column.ensures _
+    coefficient_lowered (over s a.columns.now a.row_starts_lem.now a.shape.now) a.at _ after-wide162.wide162.ensures.0 start.pre.3.within.row a.work.now _
+    (after-held-interval.held-interval.ensures ∙ rw after-wide16.wide16.ensures.0) start.pre.3.within.node _ after-set-column.set_column_lem.ensures _
     after-coefficient.coefficient.ensures start.pre.2 start.pre.0 else1.if1.false after-lower-coefficient.lower-coefficient.ensures
 
 pub update-coefficient-spec : {M : Type 1} → statement M

@@ -7,23 +7,23 @@ use mathlib.Core.List.{List}
 use lib.ListN.{length}
 use lib.Ieee.{Float}
 use Rattle.pywr.specs.Store.{Store}
-use Rattle.step_node_rows.specs.NodeConstraintBounds.{over, coefficientChange}
-use Rattle.step_node_rows.proofs.NodeRowLaws.{Applied, applied-none, applied-more, applied-all}
+use Rattle.step_node_rows.specs.NodeConstraintBounds.{over, coefficient_change}
+use Rattle.step_node_rows.proofs.NodeRowLaws.{Applied, applied_none, applied_more, applied_all}
 use borrow.Author.Rules.{rules}
 use Rattle.step_node_rows.proofs.update_coefficients.Statement.{statement}
 use Rattle.step_node_rows.proofs.update_coefficients.Tie as tie
 
 abbrev invariant-loop : tie.invariant-loop
-invariant-loop elements₀ columns row-starts shape work node-rows i₀ elements i =
+invariant-loop elements₀ columns row_starts_lem shape work node_rows_lem i₀ elements i =
     (length elements ≡ length elements₀)
-    × ((s : Store) (lower upper : List Float) → Applied (over s columns row-starts shape) (coefficientChange work) node-rows lower upper elements₀ lower upper elements i)
+    × ((s : Store) (lower upper : List Float) → Applied (over s columns row_starts_lem shape) (coefficient_change work) node_rows_lem lower upper elements₀ lower upper elements i)
 
 abbrev decreases-loop : tie.decreases-loop
-decreases-loop elements₀ columns row-starts shape work node-rows i₀ elements i = node-rows - i
+decreases-loop elements₀ columns row_starts_lem shape work node_rows_lem i₀ elements i = node_rows_lem - i
 
 loop-holds : tie.Need-loop-init invariant-loop decreases-loop
 loop-holds c =
-    (refl, λ s lower upper. applied-none _ _ _ _ _ _)
+    (refl, λ s lower upper. applied_none _ _ _ _ _ _)
 
 update-coefficient-requires : tie.Need-update-coefficient-requires invariant-loop decreases-loop
 update-coefficient-requires c κs =
@@ -48,7 +48,7 @@ loop-again c =
     let l = in-loop.before.loop in
     let done = after-update-coefficient.update-coefficient in (
       done.auto.0 ∙ l.invariant.0,
-      λ s lower upper. applied-more _ _ _ _ _ _ (l.invariant.1 s lower upper) in-loop.loop-test.true (done.ensures s lower upper),
+      λ s lower upper. applied_more _ _ _ _ _ _ (l.invariant.1 s lower upper) in-loop.loop-test.true (done.ensures s lower upper),
     )
 
 same_length : tie.Need-same-length invariant-loop decreases-loop
@@ -57,7 +57,7 @@ same_length c =
 
 returns : tie.Need-returns invariant-loop decreases-loop
 returns c =
-    λ s lower upper. rw (← c.before.before.wide16.ensures.0) (applied-all _ _ _ _ _ _ (c.before.loop.invariant.1 s lower upper) c.loop-test.false)
+    λ s lower upper. rw (← c.before.before.wide16.ensures.0) (applied_all _ _ _ _ _ _ (c.before.loop.invariant.1 s lower upper) c.loop-test.false)
 
 pub update-coefficients-spec : {M : Type 1} → statement M
 update-coefficients-spec =

@@ -7,23 +7,23 @@ use mathlib.Core.List.{List}
 use lib.ListN.{length}
 use lib.Ieee.{Float}
 use Rattle.pywr.specs.Store.{Store}
-use Rattle.step_node_rows.specs.NodeConstraintBounds.{withShape, boundsChange}
-use Rattle.step_node_rows.proofs.NodeRowLaws.{Applied, applied-none, applied-more, applied-all}
+use Rattle.step_node_rows.specs.NodeConstraintBounds.{with_shape, bounds_change}
+use Rattle.step_node_rows.proofs.NodeRowLaws.{Applied, applied_none, applied_more, applied_all}
 use borrow.Author.Rules.{rules}
 use Rattle.step_node_rows.proofs.update_node_constraint_bounds.Statement.{statement}
 use Rattle.step_node_rows.proofs.update_node_constraint_bounds.Tie as tie
 
 abbrev invariant-loop : tie.invariant-loop
-invariant-loop row-lower₀ row-upper₀ shape work node-rows i₀ row-lower row-upper i =
-    (length row-lower ≡ length row-lower₀) × (length row-upper ≡ length row-upper₀)
-    × ((s : Store) (elements : List Float) → Applied (withShape s shape) (boundsChange work) node-rows row-lower₀ row-upper₀ elements row-lower row-upper elements i)
+invariant-loop row-lower₀ row-upper₀ shape work node_rows_lem i₀ row_lower_lem row_upper_lem i =
+    (length row_lower_lem ≡ length row-lower₀) × (length row_upper_lem ≡ length row-upper₀)
+    × ((s : Store) (elements : List Float) → Applied (with_shape s shape) (bounds_change work) node_rows_lem row-lower₀ row-upper₀ elements row_lower_lem row_upper_lem elements i)
 
 abbrev decreases-loop : tie.decreases-loop
-decreases-loop row-lower₀ row-upper₀ shape work node-rows i₀ row-lower row-upper i = node-rows - i
+decreases-loop row-lower₀ row-upper₀ shape work node_rows_lem i₀ row_lower_lem row_upper_lem i = node_rows_lem - i
 
 loop-holds : tie.Need-loop-init invariant-loop decreases-loop
 loop-holds c =
-    (refl, refl, λ s elements. applied-none _ _ _ _ _ _)
+    (refl, refl, λ s elements. applied_none _ _ _ _ _ _)
 
 update-node-row-requires : tie.Need-update-node-row-requires invariant-loop decreases-loop
 update-node-row-requires c κs =
@@ -50,7 +50,7 @@ loop-again c =
     let done = after-update-node-row.update-node-row in (
       done.auto.0 ∙ l.invariant.0,
       done.auto.1.0 ∙ l.invariant.1,
-      λ s elements. applied-more _ _ _ _ _ _ (l.invariant.2 s elements) in-loop.loop-test.true (done.ensures s elements),
+      λ s elements. applied_more _ _ _ _ _ _ (l.invariant.2 s elements) in-loop.loop-test.true (done.ensures s elements),
     )
 
 same_length : tie.Need-same-length invariant-loop decreases-loop
@@ -63,7 +63,7 @@ same-length-2 c =
 
 returns : tie.Need-returns invariant-loop decreases-loop
 returns c =
-    λ s elements. rw (← c.before.before.wide16.ensures.0) (applied-all _ _ _ _ _ _ (c.before.loop.invariant.2 s elements) c.loop-test.false)
+    λ s elements. rw (← c.before.before.wide16.ensures.0) (applied_all _ _ _ _ _ _ (c.before.loop.invariant.2 s elements) c.loop-test.false)
 
 pub update-node-constraint-bounds-spec : {M : Type 1} → statement M
 update-node-constraint-bounds-spec =

@@ -1,11 +1,11 @@
 -- `step_period::is_active_at` meets its contract. Assumes nothing.
-use Rattle.step_period.specs.PeriodAt.{periodAt}
+use Rattle.step_period.specs.PeriodAt.{period_at}
 use borrow.Author.Rules.{rules}
 use Rattle.step_period.proofs.is_active_at.Statement.{statement}
 use Rattle.step_period.proofs.is_active_at.Tie as tie
 
 returns : tie.Need-returns
-unfolding periodAt
+unfolding period_at
 returns c =
     c.is-active.ensures
 

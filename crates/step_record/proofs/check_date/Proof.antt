@@ -1,23 +1,23 @@
 -- `check_date` meets its contract: at each return, what was answered so far. Assumes nothing.
 use mathlib.Core.Path.{sym, ◌∙◌}
 use native.Mathlib.Omega.{arith}
-use Rattle.step_record.specs.Check.{answerThen, checkDate}
-use Rattle.step_record.proofs.CheckLaws.{byte-within}
+use Rattle.step_record.specs.Check.{answer_then, check_date}
+use Rattle.step_record.proofs.CheckLaws.{byte_within}
 use borrow.Author.Rules.{rules}
 use Rattle.step_record.proofs.check_date.Statement.{statement}
 use Rattle.step_record.proofs.check_date.Tie as tie
 
 shared-slice-read-days-in : tie.Need-shared-slice-read-days-in
 shared-slice-read-days-in c =
-    omega (arith, byte-within _ _ _ (sym c.before.before.before.check-byte.ensures ∙ c.before.enum-told2.given.1))
+    omega (arith, byte_within _ _ _ (sym c.before.before.before.check-byte.ensures ∙ c.before.enum-told2.given.1))
 
 returns : tie.Need-returns
-unfolding checkDate answerThen
+unfolding check_date answer_then
 returns c =
     rw (← c.before.before.before.check-mark.ensures, c.before.mark.given.1)
 
 returns-2 : tie.Need-returns-2
-unfolding checkDate answerThen
+unfolding check_date answer_then
 returns-2 c =
     let after-check-byte = c.before.before.before in
     let after-enum-told = after-check-byte.before in
@@ -25,7 +25,7 @@ returns-2 c =
     rw (← after-check-mark.check-mark.ensures, after-enum-told.enum_told.given.1, ← after-check-byte.check-byte.ensures, c.before.month.given.1)
 
 returns-3 : tie.Need-returns-3
-unfolding checkDate answerThen
+unfolding check_date answer_then
 returns-3 c =
     let after-days-in = c.before.before in
     let after-enum-told2 = after-days-in.before.before in

@@ -4,7 +4,7 @@ use native.Mathlib.Omega.{arith}
 use Prim.Native.Nat.{◌+◌}
 use lib.ListN.{length}
 use borrow.Author.Tests.{leb-true}
-use Rattle.step_record.specs.Check.{checkMark}
+use Rattle.step_record.specs.Check.{check_mark}
 use borrow.Author.Rules.{rules}
 use Rattle.step_record.proofs.check_mark.Statement.{statement}
 use Rattle.step_record.proofs.check_mark.Tie as tie
@@ -29,21 +29,21 @@ shared-slice-read-if2-2 c =
     omega (arith, leb-true (start.args.at + 2) (length start.args.file.now) (sym after-is-within.is_Within.ensures ∙ then1.if1.true))
 
 returns : tie.Need-returns
-unfolding checkMark
+unfolding check_mark
 returns c =
     let then1 = c.before.before.before in
     let after-is-within = then1.before in
     rw (← after-is-within.is_Within.ensures, then1.if1.true, c.if2.true)
 
 returns-2 : tie.Need-returns-2
-unfolding checkMark
+unfolding check_mark
 returns-2 c =
     let then1 = c.before.before.before in
     let after-is-within = then1.before in
     rw (← after-is-within.is_Within.ensures, then1.if1.true, c.if2.false)
 
 returns-3 : tie.Need-returns-3
-unfolding checkMark
+unfolding check_mark
 returns-3 c =
     rw (← c.before.is_Within.ensures, c.if1.false)
 

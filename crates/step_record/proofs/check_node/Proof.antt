@@ -1,11 +1,11 @@
 -- `check_node` meets its contract: field by field. Assumes nothing.
-use Rattle.step_record.specs.Check.{checkNode}
+use Rattle.step_record.specs.Check.{check_node}
 use borrow.Author.Rules.{rules}
 use Rattle.step_record.proofs.check_node.Statement.{statement}
 use Rattle.step_record.proofs.check_node.Tie as tie
 
 returns : tie.Need-returns
-unfolding checkNode
+unfolding check_node
 returns c =
     let after-field-after3 = c.before.before in
     let after-field-after2 = after-field-after3.before in
@@ -14,11 +14,11 @@ returns c =
     let after-bound-range = after-check-mark.before in
     rw (
       ← after-check-mark.check-mark.ensures,
-      ← after-bound-range.bound-range.ensures,
+      ← after-bound-range.bound_range_lem.ensures,
       ← after-field-after.field-after.ensures,
       ← after-field-after2.field-after2.ensures,
       ← after-field-after3.field-after3.ensures,
-      ← c.before.volume-range.ensures,
+      ← c.before.volume_range_lem.ensures,
     ) c.field-after4.ensures
 
 pub check-node-spec : {M : Type 1} → statement M

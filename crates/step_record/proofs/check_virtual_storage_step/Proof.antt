@@ -1,11 +1,11 @@
 -- `check_virtual_storage_step` meets its contract: field by field. Assumes nothing.
-use Rattle.step_record.specs.Check.{checkVirtualStorageStep}
+use Rattle.step_record.specs.Check.{check_virtual_storage_step}
 use borrow.Author.Rules.{rules}
 use Rattle.step_record.proofs.check_virtual_storage_step.Statement.{statement}
 use Rattle.step_record.proofs.check_virtual_storage_step.Tie as tie
 
 returns : tie.Need-returns
-unfolding checkVirtualStorageStep
+unfolding check_virtual_storage_step
 returns c =
     let after-field-after = c.before.before in
     let after-check-mark = after-field-after.before in

@@ -1,21 +1,21 @@
 -- `days_in` meets its contract: at each return, the tests that led there. Assumes nothing.
 use borrow.Author.Tests.{eq-eqb, ne_eqb}
-use Rattle.pywr.specs.StepFile.{daysIn}
+use Rattle.pywr.specs.StepFile.{days_in}
 use Rattle.step_record.proofs.days_in.Statement.{statement}
 use Rattle.step_record.proofs.days_in.Tie as tie
 
 returns : tie.Need-returns
-unfolding daysIn
+unfolding days_in
 returns c =
     rw (eq-eqb _ _ c.if1.true)
 
 returns-2 : tie.Need-returns-2
-unfolding daysIn
+unfolding days_in
 returns-2 c =
     rw (ne_eqb _ _ c.before.if1.false, c.if2.true)
 
 returns-3 : tie.Need-returns-3
-unfolding daysIn
+unfolding days_in
 returns-3 c =
     rw (ne_eqb _ _ c.before.if1.false, c.if2.false)
 

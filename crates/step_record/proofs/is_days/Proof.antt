@@ -2,14 +2,14 @@
 use mathlib.Core.Path.{sym, subst}
 use mathlib.Core.Bool.{Bool, not}
 use lib.Dec.{T}
-use Rattle.pywr.specs.Numbers.{isFlow, isDays}
+use Rattle.pywr.specs.Numbers.{is_flow, is_days}
 use Rattle.fields.proofs.Nan.{is_nan, no_nan}
-use Rattle.step_record.proofs.CheckLaws.{least-days, most-days}
+use Rattle.step_record.proofs.CheckLaws.{least_days_lem, most_days_lem}
 use Rattle.step_record.proofs.is_days.Statement.{statement}
 use Rattle.step_record.proofs.is_days.Tie as tie
 
 returns : tie.Need-returns
-unfolding isDays isFlow
+unfolding is_days is_flow
 returns c =
     rw (is_nan _ c.if1.true)
 
@@ -18,14 +18,14 @@ float-from-bits-x c =
     subst (λ (b : Bool). T (not b)) (sym (no_nan _ c.if1.false)) tt
 
 returns-2 : tie.Need-returns-2
-unfolding isDays isFlow
+unfolding is_days is_flow
 returns-2 c =
-    rw (no_nan _ c.before.if1.false, least-days, most-days, c.if2.true)
+    rw (no_nan _ c.before.if1.false, least_days_lem, most_days_lem, c.if2.true)
 
 returns-3 : tie.Need-returns-3
-unfolding isDays isFlow
+unfolding is_days is_flow
 returns-3 c =
-    rw (no_nan _ c.before.if1.false, least-days, c.if2.false)
+    rw (no_nan _ c.before.if1.false, least_days_lem, c.if2.false)
 
 pub is-days-spec : {M : Type 1} → statement M
 is-days-spec =

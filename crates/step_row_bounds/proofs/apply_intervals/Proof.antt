@@ -1,16 +1,16 @@
 -- `step_row_bounds::apply_intervals` meets its contract. The loop's invariant: the intervals passed are applied to the rows that the runs held at first. Assumes nothing.
 use Prim.Native.Nat.{◌-◌}
 use native.Mathlib.Omega.{arith}
-use Rattle.step_row_bounds.proofs.Applied.{entry-within, entry_row, Applied, applied-none, applied-more, applied-all}
+use Rattle.step_row_bounds.proofs.Applied.{entry_within, entry_row, Applied, applied_none, applied_more, applied_all}
 use borrow.Author.Rules.{rules}
 use Rattle.step_row_bounds.proofs.apply_intervals.Statement.{statement}
 use Rattle.step_row_bounds.proofs.apply_intervals.Tie as tie
 
 abbrev invariant-loop : tie.invariant-loop
-invariant-loop row-lower₀ row-upper₀ shape table words count work first at₀ i₀ row-lower row-upper at i = Applied shape work words table first count row-lower₀ row-upper₀ row-lower row-upper at i
+invariant-loop row-lower₀ row-upper₀ shape table words count work first at₀ i₀ row_lower_lem row_upper_lem at i = Applied shape work words table first count row-lower₀ row-upper₀ row_lower_lem row_upper_lem at i
 
 abbrev decreases-loop : tie.decreases-loop
-decreases-loop row-lower₀ row-upper₀ shape table words count work first at₀ i₀ row-lower row-upper at i = count - i
+decreases-loop row-lower₀ row-upper₀ shape table words count work first at₀ i₀ row_lower_lem row_upper_lem at i = count - i
 
 -- from a place to an earlier one
 abbrev to_start : tie.At-loop invariant-loop decreases-loop → tie.Start invariant-loop decreases-loop
@@ -35,17 +35,17 @@ to-held-interval c =
 
 loop-holds : tie.Need-loop-init invariant-loop decreases-loop
 loop-holds c =
-    applied-none _ _ _ _ _ _ _ _
+    applied_none _ _ _ _ _ _ _ _
 
 mul-wide16 : tie.Need-overflow-mul-wide16 invariant-loop decreases-loop
 mul-wide16 c =
-    let h = entry-within (to_start c.before).pre.0 _ _ c.loop-test.true c.before.loop.invariant.place in search rules
+    let h = entry_within (to_start c.before).pre.0 _ _ c.loop-test.true c.before.loop.invariant.place in search rules
 
 shared-slice-read-wide16 : tie.Need-shared-slice-read-wide16 invariant-loop decreases-loop
 shared-slice-read-wide16 c =
     let at-loop = c.before.before in
     let start = to_start at-loop in
-    let h = entry-within start.pre.0 _ _ c.before.loop-test.true at-loop.loop.invariant.place in search rules
+    let h = entry_within start.pre.0 _ _ c.before.loop-test.true at-loop.loop.invariant.place in search rules
 
 apply-row-bounds-requires : tie.Need-apply-row-bounds-requires invariant-loop decreases-loop
 apply-row-bounds-requires c κs =
@@ -59,7 +59,7 @@ add_at c =
     let in-loop = to-in-loop (to-held-interval c) in
     let at-loop = in-loop.before in
     let start = to_start at-loop in
-    let h = entry-within start.pre.0 _ _ in-loop.loop-test.taken at-loop.loop.inv.place in search rules
+    let h = entry_within start.pre.0 _ _ in-loop.loop-test.taken at-loop.loop.inv.place in search rules
 
 loop-again : tie.Need-loop-preserved invariant-loop decreases-loop
 loop-again c =
@@ -70,7 +70,7 @@ loop-again c =
     let at-loop = in-loop.before in
     let start = to_start at-loop in
     let h = entry_row start.pre.0 _ _ in-loop.loop-test.taken at-loop.loop.inv.place in
-    applied-more _ _ _ _ _ _ _ _ at-loop.loop.inv _ _ _ _ in-loop.loop-test.taken after-wide16.wide16.ensures.0
+    applied_more _ _ _ _ _ _ _ _ at-loop.loop.inv _ _ _ _ in-loop.loop-test.taken after-wide16.wide16.ensures.0
     after-held-interval.held-interval.ensures (omega (arith, h, after-wide16.wide16.ensures.0))
     (omega (arith, start.pre.0.varying, start.pre.1)) (omega (arith, start.pre.0.varying, start.pre.2))
     after-apply-row-bounds.apply-row-bounds.kept.0 after-apply-row-bounds.apply-row-bounds.kept.1.0
@@ -86,7 +86,7 @@ same-length-2 c =
 
 returns : tie.Need-returns invariant-loop decreases-loop
 returns c =
-    applied-all _ _ _ _ _ _ _ _ c.before.loop.invariant c.loop-test.false
+    applied_all _ _ _ _ _ _ _ _ c.before.loop.invariant c.loop-test.false
 
 pub apply-intervals-spec : {M : Type 1} → statement M
 apply-intervals-spec =

@@ -19,8 +19,8 @@ returns c =
     let after-slice-known = after-slice-known4.before.before.before in
     let a = after-slice-known.before.args in
     record {
-      lowers = after-set-row-bounds.set-row-bounds.ensures.lowers ∙ rw (after-tighten.tighten.ensures, get_d_any a.row-lower.now a.row nan zero64 (omega arith));
-      uppers = after-set-row-bounds.set-row-bounds.ensures.uppers ∙ rw (after-tighten.tighten.ensures, get_d_any a.row-upper.now a.row nan zero64 (omega arith));
+      lowers = after-set-row-bounds.set-row-bounds.ensures.lowers ∙ rw (after-tighten.tighten.ensures, get_d_any a.row_lower_lem.now a.row nan zero64 (omega arith));
+      uppers = after-set-row-bounds.set-row-bounds.ensures.uppers ∙ rw (after-tighten.tighten.ensures, get_d_any a.row_upper_lem.now a.row nan zero64 (omega arith));
     }
 
 pub apply-row-bounds-spec : {M : Type 1} → statement M

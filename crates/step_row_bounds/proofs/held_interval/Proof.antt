@@ -2,7 +2,7 @@
 use Prim.Native.Nat.{◌+◌}
 use native.Mathlib.Omega.{arith}
 use lib.Ieee.{nan}
-use Rattle.layout.specs.Layout.{uppersAt}
+use Rattle.layout.specs.Layout.{uppers_at}
 use Rattle.pywr.specs.Numbers.{zero64}
 use Rattle.step_work.specs.WorkRun.{held_at}
 use Rattle.laws.proofs.Runs.{get_d_any}
@@ -14,7 +14,7 @@ returns : tie.Need-returns
 unfolding held_at
 returns c =
     let a = c.before.before.args in
-    rw (get_d_any a.work.now a.k nan zero64 (omega arith), get_d_any a.work.now (uppersAt + a.k) nan zero64 (omega arith))
+    rw (get_d_any a.work.now a.k nan zero64 (omega arith), get_d_any a.work.now (uppers_at + a.k) nan zero64 (omega arith))
 
 pub held-interval-spec : {M : Type 1} → statement M
 held-interval-spec =

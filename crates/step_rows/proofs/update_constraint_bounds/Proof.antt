@@ -3,15 +3,15 @@ use mathlib.Core.Path.{◌∙◌}
 use native.Mathlib.Omega.{arith}
 use Rattle.step_rows.specs.ConstraintBounds.{store_of}
 use Rattle.step_rows.proofs.Fitting.{Fitting, fitting}
-use Rattle.step_rows.proofs.Stepped.{step-written}
+use Rattle.step_rows.proofs.Stepped.{step_written}
 use borrow.Author.Rules.{rules}
 use Rattle.step_rows.proofs.update_constraint_bounds.Statement.{statement}
 use Rattle.step_rows.proofs.update_constraint_bounds.Tie as tie
 
-fits : (c : tie.Start) → Fitting c.args.columns.now c.args.row-starts.now c.args.shape.now
+fits : (c : tie.Start) → Fitting c.args.columns.now c.args.row_starts_lem.now c.args.shape.now
 fits c =
     let a = c.args in
-    fitting (store_of a.row-lower.now a.row-upper.now a.elements.now a.columns.now a.row-starts.now a.shape.now) c.requires
+    fitting (store_of a.row_lower_lem.now a.row_upper_lem.now a.elements.now a.columns.now a.row_starts_lem.now a.shape.now) c.requires
 
 -- from a place to an earlier one
 abbrev to_start : tie.After-reset-row-bounds-arg2 → tie.Start
@@ -50,7 +50,7 @@ reset-row-bounds-requires : tie.Need-reset-row-bounds-requires
 reset-row-bounds-requires c κs =
     let start = to_start c in
     let p = start.pre in
-    (p.shape-long, (fits start).shape-fits.varying, p.row-lower-long, p.row-upper-long)
+    (p.shape_long, (fits start).shape_fits.varying, p.row_lower_long, p.row_upper_long)
 
 update-node-constraint-bounds-requires : tie.Need-update-node-constraint-bounds-requires
 update-node-constraint-bounds-requires c κs =
@@ -58,12 +58,12 @@ update-node-constraint-bounds-requires c κs =
     let start = to_start after-reset-row-bounds.before in
     let p = start.pre in
     let f = fits start in (
-      omega (arith, after-reset-row-bounds.reset-row-bounds.kept.0, p.row-lower-long),
-      omega (arith, after-reset-row-bounds.reset-row-bounds.kept.1.0, p.row-upper-long),
-      p.work-long,
-      f.shape-fits,
-      f.node-rows-few,
-      λ k lt. (f.node-rows k lt).within,
+      omega (arith, after-reset-row-bounds.reset-row-bounds.kept.0, p.row_lower_long),
+      omega (arith, after-reset-row-bounds.reset-row-bounds.kept.1.0, p.row_upper_long),
+      p.work_long,
+      f.shape_fits,
+      f.node_rows_few,
+      λ k lt. (f.node_rows_lem k lt).within,
     )
 
 apply-intervals-requires : tie.Need-apply-intervals-requires
@@ -75,10 +75,10 @@ apply-intervals-requires c κs =
     let p = start.pre in
     let f = fits start in (
       rw after-wide16.wide16.ensures.0 f.aggregates,
-      omega (arith, after-update-node-constraint-bounds.update-node-constraint-bounds.kept.0, after-reset-row-bounds.reset-row-bounds.kept.0, p.row-lower-long),
-      omega (arith, after-update-node-constraint-bounds.update-node-constraint-bounds.kept.1.0, after-reset-row-bounds.reset-row-bounds.kept.1.0, p.row-upper-long),
-      p.work-long,
-      omega (arith, after-wide16.wide16.ensures.0, f.aggregates-few),
+      omega (arith, after-update-node-constraint-bounds.update-node-constraint-bounds.kept.0, after-reset-row-bounds.reset-row-bounds.kept.0, p.row_lower_long),
+      omega (arith, after-update-node-constraint-bounds.update-node-constraint-bounds.kept.1.0, after-reset-row-bounds.reset-row-bounds.kept.1.0, p.row_upper_long),
+      p.work_long,
+      omega (arith, after-wide16.wide16.ensures.0, f.aggregates_few),
     )
 
 apply-intervals-requires-2 : tie.Need-apply-intervals-requires-2
@@ -90,23 +90,23 @@ apply-intervals-requires-2 c κs =
     let start = to_start after-reset-row-bounds.before in
     let p = start.pre in
     let f = fits start in (
-      rw after-wide162.wide162.ensures.0 f.virtualStorages,
+      rw after-wide162.wide162.ensures.0 f.virtual_storages,
       omega (
         arith,
         after-apply-intervals.apply-intervals.kept.0,
         after-update-node-constraint-bounds.update-node-constraint-bounds.kept.0,
         after-reset-row-bounds.reset-row-bounds.kept.0,
-        p.row-lower-long,
+        p.row_lower_long,
       ),
       omega (
         arith,
         after-apply-intervals.apply-intervals.kept.1.0,
         after-update-node-constraint-bounds.update-node-constraint-bounds.kept.1.0,
         after-reset-row-bounds.reset-row-bounds.kept.1.0,
-        p.row-upper-long,
+        p.row_upper_long,
       ),
-      p.work-long,
-      omega (arith, after-wide162.wide162.ensures.0, f.virtual-storages-few),
+      p.work_long,
+      omega (arith, after-wide162.wide162.ensures.0, f.virtual_storages_few),
     )
 
 update-binary-rows-requires : tie.Need-update-binary-rows-requires
@@ -124,7 +124,7 @@ update-binary-rows-requires c κs =
         after-apply-intervals.apply-intervals.kept.0,
         after-update-node-constraint-bounds.update-node-constraint-bounds.kept.0,
         after-reset-row-bounds.reset-row-bounds.kept.0,
-        p.row-lower-long,
+        p.row_lower_long,
       ),
       omega (
         arith,
@@ -132,13 +132,13 @@ update-binary-rows-requires c κs =
         after-apply-intervals.apply-intervals.kept.1.0,
         after-update-node-constraint-bounds.update-node-constraint-bounds.kept.1.0,
         after-reset-row-bounds.reset-row-bounds.kept.1.0,
-        p.row-upper-long,
+        p.row_upper_long,
       ),
-      p.elements-long,
-      p.work-long,
+      p.elements_long,
+      p.work_long,
       f.varying,
-      f.node-rows-few,
-      f.node-rows,
+      f.node_rows_few,
+      f.node_rows_lem,
     )
 
 same_length : tie.Need-same-length
@@ -172,7 +172,7 @@ returns c =
     let after-reset-row-bounds = to-reset-row-bounds after-update-node-constraint-bounds.before in
     let start = to_start after-reset-row-bounds.before in
     λ s i has held.
-    step-written _ _ _ _ _ _ _ (fits start).varying start.pre.elements-long s _ _ _ _ _ _ _ _ _ _ _ _ _
+    step_written _ _ _ _ _ _ _ (fits start).varying start.pre.elements_long s _ _ _ _ _ _ _ _ _ _ _ _ _
     after-reset-row-bounds.reset-row-bounds.ensures after-update-node-constraint-bounds.update-node-constraint-bounds.ensures
     after-wide16.wide16.ensures.0 after-apply-intervals.apply-intervals.ensures
     after-wide162.wide162.ensures.0 after-apply-intervals2.apply-intervals2.ensures after-update-binary-rows.update-binary-rows.ensures i has held

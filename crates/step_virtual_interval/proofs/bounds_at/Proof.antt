@@ -1,11 +1,11 @@
 -- `bounds_at` meets its contract. Assumes nothing.
-use Rattle.step_file.specs.Decoded.{virtualStorageStepAt}
+use Rattle.step_file.specs.Decoded.{virtual_storage_step_at}
 use borrow.Author.Rules.{rules}
 use Rattle.step_virtual_interval.proofs.bounds_at.Statement.{statement}
 use Rattle.step_virtual_interval.proofs.bounds_at.Tie as tie
 
 returns : tie.Need-returns
-unfolding virtualStorageStepAt
+unfolding virtual_storage_step_at
 returns c =
     rw (← c.before.before.before.virtual-min.ensures, ← c.before.before.virtual-max.ensures, ← c.before.virtual-volume.ensures) c.virtual-bounds.ensures
 

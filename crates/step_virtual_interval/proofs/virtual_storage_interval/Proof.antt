@@ -1,12 +1,12 @@
 -- `virtual_storage_interval` meets its contract: at each return, the tests that led there. Assumes nothing.
-use Rattle.pywr.specs.Period.{virtualInterval}
-use Rattle.step_virtual_interval.specs.VirtualInterval.{virtualIntervalAt}
+use Rattle.pywr.specs.Period.{virtual_interval}
+use Rattle.step_virtual_interval.specs.VirtualInterval.{virtual_interval_at}
 use borrow.Author.Rules.{rules}
 use Rattle.step_virtual_interval.proofs.virtual_storage_interval.Statement.{statement}
 use Rattle.step_virtual_interval.proofs.virtual_storage_interval.Tie as tie
 
 returns : tie.Need-returns
-unfolding virtualIntervalAt virtualInterval
+unfolding virtual_interval_at virtual_interval
 returns c =
     let then1 = c.before.before in
     let after-is-active-at = then1.before in
@@ -21,7 +21,7 @@ returns c =
     ) c.interval-of.ensures
 
 returns-2 : tie.Need-returns-2
-unfolding virtualIntervalAt virtualInterval
+unfolding virtual_interval_at virtual_interval
 returns-2 c =
     let after-is-active-at = c.before.before in
     let after-day = after-is-active-at.before in

@@ -3,18 +3,18 @@ use mathlib.Core.Path.{refl, ◌∙◌}
 use Prim.Native.Nat.{◌+◌, ◌-◌}
 use native.Mathlib.Omega.{arith}
 use lib.ListN.{length-set}
-use Rattle.layout.specs.Layout.{virtualStoragesHeldAt}
-use Rattle.step_virtual_storage_intervals.specs.VirtualStorageIntervals.{virtualStorageNumbered}
-use Rattle.step_work.proofs.WrittenLaws.{Writing, writing-none, writing_more, writing-all}
+use Rattle.layout.specs.Layout.{virtual_storages_held_at}
+use Rattle.step_virtual_storage_intervals.specs.VirtualStorageIntervals.{virtual_storage_numbered}
+use Rattle.step_work.proofs.WrittenLaws.{Writing, writing_none, writing_more, writing_all}
 use borrow.Author.Rules.{rules}
 use Rattle.step_virtual_storage_intervals.proofs.find_virtual_storage_intervals.Statement.{statement}
 use Rattle.step_virtual_storage_intervals.proofs.find_virtual_storage_intervals.Tie as tie
 
 abbrev invariant-loop : tie.invariant-loop
-invariant-loop file shape days sentinel work₀ nodes aggregates virtualStorages i₀ work i = Writing (virtualStorageNumbered sentinel days shape file) virtualStoragesHeldAt virtualStorages work₀ work i
+invariant-loop file shape days sentinel work₀ nodes aggregates virtual_storages i₀ work i = Writing (virtual_storage_numbered sentinel days shape file) virtual_storages_held_at virtual_storages work₀ work i
 
 abbrev decreases-loop : tie.decreases-loop
-decreases-loop file shape days sentinel work₀ nodes aggregates virtualStorages i₀ work i = virtualStorages - i
+decreases-loop file shape days sentinel work₀ nodes aggregates virtual_storages i₀ work i = virtual_storages - i
 
 -- from a place to an earlier one
 abbrev to_start : tie.After-wide163 invariant-loop decreases-loop → tie.Start invariant-loop decreases-loop
@@ -25,7 +25,7 @@ to_start c =
 
 loop-holds : tie.Need-loop-init invariant-loop decreases-loop
 loop-holds c =
-    writing-none _ _ _ _
+    writing_none _ _ _ _
 
 slice-write-work-2 : tie.Need-slice-write-work-2 invariant-loop decreases-loop
 slice-write-work-2 c =
@@ -35,7 +35,7 @@ slice-write-work-2 c =
     let start = to_start after-wide163 in
     omega (
       arith,
-      length-set at-loop.loop.work (virtualStoragesHeldAt + at-loop.loop.i) c.virtual-storage-interval.result.lower,
+      length-set at-loop.loop.work (virtual_storages_held_at + at-loop.loop.i) c.virtual-storage-interval.result.lower,
       at-loop.loop.invariant.long,
       in-loop.loop-test.true,
       after-wide163.wide163.ensures.0,
@@ -44,7 +44,7 @@ slice-write-work-2 c =
     )
 
 loop-again : tie.Need-loop-preserved invariant-loop decreases-loop
-unfolding virtualStorageNumbered
+unfolding virtual_storage_numbered
 loop-again c =
     let in-loop = c.before.before in
     let at-loop = in-loop.before in
@@ -61,7 +61,7 @@ same_length c =
 
 returns : tie.Need-returns invariant-loop decreases-loop
 returns c =
-    rw (← c.before.before.wide163.ensures.0) (writing-all c.loop-test.false c.before.loop.invariant)
+    rw (← c.before.before.wide163.ensures.0) (writing_all c.loop-test.false c.before.loop.invariant)
 
 pub find-virtual-storage-intervals-spec : {M : Type 1} → statement M
 find-virtual-storage-intervals-spec =

@@ -3,19 +3,19 @@ use mathlib.Core.Path.{◌≡◌, refl}
 use mathlib.Core.Logic.{⊎_elim}
 use Prim.Native.Nat.{◌+◌, ◌*◌, ◌-◌, ◌≤◌}
 use native.Mathlib.Omega.{arith}
-use Rattle.layout.specs.Layout.{nodeRowsAt, nodeRowWidth, nodesIn}
-use Rattle.step_node_intervals.specs.BinaryRows.{nodeRowAt, lesserBeyond}
-use Rattle.step_node_intervals.proofs.BinaryRowLaws.{LeastTo, least-none, least_more, least-all, row-continuous, row_within}
+use Rattle.layout.specs.Layout.{node_rows_at, node_row_width, nodes_in}
+use Rattle.step_node_intervals.specs.BinaryRows.{node_row_at, lesser_beyond}
+use Rattle.step_node_intervals.proofs.BinaryRowLaws.{LeastTo, least_none, least_more, least_all, row_continuous, row_within}
 use Rattle.step_walk.proofs.WalkLaws.{stopped}
 use borrow.Author.Rules.{rules}
 use Rattle.step_walk.proofs.none_beyond.Statement.{statement}
 use Rattle.step_walk.proofs.none_beyond.Tie as tie
 
 abbrev invariant-loop : tie.invariant-loop
-invariant-loop shape work sentinel node-rows i₀ i = (i ≤ node-rows) × LeastTo sentinel work shape (nodesIn shape) i (nodesIn shape)
+invariant-loop shape work sentinel node_rows_lem i₀ i = (i ≤ node_rows_lem) × LeastTo sentinel work shape (nodes_in shape) i (nodes_in shape)
 
 abbrev decreases-loop : tie.decreases-loop
-decreases-loop shape work sentinel node-rows i₀ i = node-rows - i
+decreases-loop shape work sentinel node_rows_lem i₀ i = node_rows_lem - i
 
 -- from a place to an earlier one
 abbrev to_start : tie.After-wide16 invariant-loop decreases-loop → tie.Start invariant-loop decreases-loop
@@ -30,7 +30,7 @@ to-loop c =
 
 loop-holds : tie.Need-loop-init invariant-loop decreases-loop
 loop-holds c =
-    (search rules, least-none _ _ _ _)
+    (search rules, least_none _ _ _ _)
 
 shared-slice-read-is-beyond : tie.Need-shared-slice-read-is-beyond invariant-loop decreases-loop
 shared-slice-read-is-beyond c =
@@ -53,11 +53,11 @@ loop-again c =
     let a = start.args in
     let named = start.pre.4 at-loop.loop.i (omega (arith, in-loop.loop-test.true, at-loop.before.wide16.ensures.0)) in (
       search rules,
-      least_more a.sentinel a.work.now a.shape.now (nodesIn a.shape.now) at-loop.loop.i _ _
-          (⊎_elim {C = nodesIn a.shape.now ≡ lesserBeyond a.sentinel a.work.now (nodeRowAt a.shape.now (nodeRowsAt + nodeRowWidth * at-loop.loop.i)) (nodesIn a.shape.now)}
+      least_more a.sentinel a.work.now a.shape.now (nodes_in a.shape.now) at-loop.loop.i _ _
+          (⊎_elim {C = nodes_in a.shape.now ≡ lesser_beyond a.sentinel a.work.now (node_row_at a.shape.now (node_rows_at + node_row_width * at-loop.loop.i)) (nodes_in a.shape.now)}
           (λ w. row_within a.sentinel a.work.now a.shape.now _ _ _ w.2.ensures.0 (omega (arith, named, w.2.ensures.0)) w.0.taken
           start.pre.2 start.pre.1 _ _ w.4.ensures w.6.ensures w.7.left)
-          (λ w. row-continuous a.sentinel a.work.now a.shape.now _ _ _ refl w.left)
+          (λ w. row_continuous a.sentinel a.work.now a.shape.now _ _ _ refl w.left)
           c.if1.branch)
           at-loop.loop.invariant.1,
     )
@@ -69,7 +69,7 @@ returns c =
 returns-2 : tie.Need-returns-2 invariant-loop decreases-loop
 returns-2 c =
     let at-loop = c.before in
-    λ e. least-all _ _ _ _ _ _ _ (omega (arith, at-loop.before.wide16.ensures.0, c.loop-test.false)) (omega (arith, at-loop.before.wide16.ensures.0, at-loop.loop.invariant.0)) at-loop.loop.invariant.1
+    λ e. least_all _ _ _ _ _ _ _ (omega (arith, at-loop.before.wide16.ensures.0, c.loop-test.false)) (omega (arith, at-loop.before.wide16.ensures.0, at-loop.loop.invariant.0)) at-loop.loop.invariant.1
 
 pub none-beyond-spec : {M : Type 1} → statement M
 none-beyond-spec =

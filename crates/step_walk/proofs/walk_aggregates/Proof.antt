@@ -3,17 +3,17 @@ use mathlib.Core.Path.{refl, ap, ◌∙◌}
 use Prim.Native.Nat.{◌+◌, ◌*◌, ◌-◌}
 use native.Mathlib.Omega.{arith}
 use lib.ListN.{length-set}
-use Rattle.step_record.specs.Check.{checkAggregate}
-use Rattle.step_file.specs.Decoded.{aggregateStepAt}
-use Rattle.step_aggregate_intervals.specs.AggregateIntervals.{aggregateNumbered}
-use Rattle.step_walk.proofs.WalkLaws.{stopped, Walking, walking-none, walking-more, walking-all}
+use Rattle.step_record.specs.Check.{check_aggregate}
+use Rattle.step_file.specs.Decoded.{aggregate_step_at}
+use Rattle.step_aggregate_intervals.specs.AggregateIntervals.{aggregate_numbered}
+use Rattle.step_walk.proofs.WalkLaws.{stopped, Walking, walking_none, walking_more, walking_all}
 use borrow.Author.Rules.{rules}
 use Rattle.step_walk.proofs.walk_aggregates.Statement.{statement}
 use Rattle.step_walk.proofs.walk_aggregates.Tie as tie
 
 abbrev invariant-loop : tie.invariant-loop
 invariant-loop file shape work₀ nodes aggregates i₀ at₀ work i at =
-    Walking (checkAggregate file) 18 (12 + 34 * nodes) (aggregateNumbered shape file) 256 aggregates work₀ work i at
+    Walking (check_aggregate file) 18 (12 + 34 * nodes) (aggregate_numbered shape file) 256 aggregates work₀ work i at
 
 abbrev decreases-loop : tie.decreases-loop
 decreases-loop file shape work₀ nodes aggregates i₀ at₀ work i at = aggregates - i
@@ -24,7 +24,7 @@ to-walk-aggregate c = c.before.before.before
 
 loop-holds : tie.Need-loop-init invariant-loop decreases-loop
 loop-holds c =
-    walking-none _ _ _ _ _ _ _
+    walking_none _ _ _ _ _ _ _
 
 same_length : tie.Need-same-length invariant-loop decreases-loop
 same_length c =
@@ -41,7 +41,7 @@ slice-write-work-2 c =
     omega (arith, length-set at-loop.loop.work (256 + at-loop.loop.i) c.before.aggregate.given.0.0.lower, at-loop.loop.inv.writing.long)
 
 loop-again : tie.Need-loop-preserved invariant-loop decreases-loop
-unfolding aggregateNumbered
+unfolding aggregate_numbered
 loop-again c =
     let after-walk-aggregate = to-walk-aggregate c in
     let in-loop = after-walk-aggregate.before in
@@ -49,8 +49,8 @@ loop-again c =
     let after-wide16 = at-loop.before.before.before in
     let walked = after-walk-aggregate.walk-aggregate.ensures in
     let good = c.before.aggregate.given in
-    walking-more at-loop.loop.inv _ good.0.0 refl (search rules) (search rules) in-loop.loop-test.taken (walked.accepted _ good.1)
-    (walked.interval _ good.1 ∙ ap (aggregateStepAt _) (omega (arith, at-loop.loop.inv.place, after-wide16.wide16.ensures.0)))
+    walking_more at-loop.loop.inv _ good.0.0 refl (search rules) (search rules) in-loop.loop-test.taken (walked.accepted _ good.1)
+    (walked.interval _ good.1 ∙ ap (aggregate_step_at _) (omega (arith, at-loop.loop.inv.place, after-wide16.wide16.ensures.0)))
 
 same-length-2 : tie.Need-same-length-2 invariant-loop decreases-loop
 same-length-2 c =
@@ -60,7 +60,7 @@ returns-2 : tie.Need-returns-2 invariant-loop decreases-loop
 returns-2 c =
     let after-wide162 = c.before.before in
     let after-wide16 = after-wide162.before.before in
-    λ e. rw (← after-wide16.wide16.ensures.0, ← after-wide162.wide162.ensures.0) (walking-all c.before.loop.invariant c.loop-test.false)
+    λ e. rw (← after-wide16.wide16.ensures.0, ← after-wide162.wide162.ensures.0) (walking_all c.before.loop.invariant c.loop-test.false)
 
 pub walk-aggregates-spec : {M : Type 1} → statement M
 walk-aggregates-spec =

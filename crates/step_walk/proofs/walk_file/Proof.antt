@@ -3,7 +3,7 @@ use mathlib.Core.Path.{sym, ◌∙◌}
 use native.Mathlib.Omega.{arith}
 use borrow.Author.Tests.{not-false}
 use Rattle.step_walk.proofs.WalkLaws.{stopped}
-use Rattle.step_walk.proofs.FileLaws.{file-walked}
+use Rattle.step_walk.proofs.FileLaws.{file_walked}
 use borrow.Author.Rules.{rules}
 use Rattle.step_walk.proofs.walk_file.Statement.{statement}
 use Rattle.step_walk.proofs.walk_file.Tie as tie
@@ -52,7 +52,7 @@ returns-6 c =
     let after-wide162 = after-wide163.before.before in
     let after-wide16 = after-wide162.before.before in
     let start = to_start after-wide16 in
-    λ good s e. file-walked s start.args.shape.now start.args.file.now e
+    λ good s e. file_walked s start.args.shape.now start.args.file.now e
     (omega (arith, else1.if1.false, after-wide16.wide16.ensures.0, after-wide162.wide162.ensures.0, after-wide163.wide163.ensures.0))
     (sym after-check-date.check-date.ensures ∙ after-enum-told.enum_told.given.1) after-days.days.result after-days.days.ensures after-kept-sentinel.kept-sentinel.result
     after-kept-sentinel.kept-sentinel.ensures _ _ _ _

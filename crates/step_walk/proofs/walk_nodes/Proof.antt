@@ -2,7 +2,7 @@
 use Prim.Native.Nat.{◌-◌}
 use native.Mathlib.Omega.{arith}
 use lib.ListN.{length-set}
-use Rattle.step_walk.proofs.WalkLaws.{stopped, WalkingNodes, walking-nodes-none, walking-nodes-more, walking-nodes-all}
+use Rattle.step_walk.proofs.WalkLaws.{stopped, WalkingNodes, walking_nodes_none, walking_nodes_more, walking_nodes_all}
 use borrow.Author.Rules.{rules}
 use Rattle.step_walk.proofs.walk_nodes.Statement.{statement}
 use Rattle.step_walk.proofs.walk_nodes.Tie as tie
@@ -22,7 +22,7 @@ to-loop c = c.before.before.before
 
 loop-holds : tie.Need-loop-init invariant-loop decreases-loop
 loop-holds c =
-    walking-nodes-none _ _ _ _ _ _
+    walking_nodes_none _ _ _ _ _ _
 
 same_length : tie.Need-same-length invariant-loop decreases-loop
 same_length c =
@@ -42,7 +42,7 @@ loop-again c =
     let after-walk-node = to-walk-node c in
     let in-loop = to-loop after-walk-node in
     let good = c.before.node.given in
-    walking-nodes-more in-loop.before.loop.inv _ good.0.0 after-walk-node.walk-node.ensures good.1 (search rules) (search rules) in-loop.loop-test.taken
+    walking_nodes_more in-loop.before.loop.inv _ good.0.0 after-walk-node.walk-node.ensures good.1 (search rules) (search rules) in-loop.loop-test.taken
 
 same-length-2 : tie.Need-same-length-2 invariant-loop decreases-loop
 same-length-2 c =
@@ -50,7 +50,7 @@ same-length-2 c =
 
 returns-2 : tie.Need-returns-2 invariant-loop decreases-loop
 returns-2 c =
-    λ e. walking-nodes-all c.before.loop.invariant c.before.before.wide16.ensures.0 c.loop-test.false
+    λ e. walking_nodes_all c.before.loop.invariant c.before.before.wide16.ensures.0 c.loop-test.false
 
 pub walk-nodes-spec : {M : Type 1} → statement M
 walk-nodes-spec =

@@ -3,17 +3,17 @@ use mathlib.Core.Path.{refl}
 use Prim.Native.Nat.{◌+◌, ◌*◌, ◌-◌}
 use native.Mathlib.Omega.{arith}
 use lib.ListN.{length-set}
-use Rattle.layout.specs.Layout.{virtualStoragesHeldAt}
-use Rattle.step_record.specs.Check.{checkVirtualStorageStep}
-use Rattle.step_virtual_storage_intervals.specs.VirtualStorageIntervals.{virtualStorageNumbered}
-use Rattle.step_walk.proofs.WalkLaws.{stopped, Walking, walking-none, walking-more, walking-all, virtual-storage-numbered}
+use Rattle.layout.specs.Layout.{virtual_storages_held_at}
+use Rattle.step_record.specs.Check.{check_virtual_storage_step}
+use Rattle.step_virtual_storage_intervals.specs.VirtualStorageIntervals.{virtual_storage_numbered}
+use Rattle.step_walk.proofs.WalkLaws.{stopped, Walking, walking_none, walking_more, walking_all, virtual_storage_numbered_lem}
 use borrow.Author.Rules.{rules}
 use Rattle.step_walk.proofs.walk_virtual_storages.Statement.{statement}
 use Rattle.step_walk.proofs.walk_virtual_storages.Tie as tie
 
 abbrev invariant-loop : tie.invariant-loop
 invariant-loop file shape days sentinel work₀ nodes aggregates virtual-storages month day i₀ at₀ work i at =
-    Walking (checkVirtualStorageStep file) 26 (12 + 34 * nodes + 18 * aggregates) (virtualStorageNumbered sentinel days shape file) virtualStoragesHeldAt virtual-storages work₀ work i at
+    Walking (check_virtual_storage_step file) 26 (12 + 34 * nodes + 18 * aggregates) (virtual_storage_numbered sentinel days shape file) virtual_storages_held_at virtual-storages work₀ work i at
 
 abbrev decreases-loop : tie.decreases-loop
 decreases-loop file shape days sentinel work₀ nodes aggregates virtual-storages month day i₀ at₀ work i at = virtual-storages - i
@@ -31,7 +31,7 @@ to_start c =
 
 loop-holds : tie.Need-loop-init invariant-loop decreases-loop
 loop-holds c =
-    walking-none _ _ _ _ _ _ _
+    walking_none _ _ _ _ _ _ _
 
 same_length : tie.Need-same-length invariant-loop decreases-loop
 same_length c =
@@ -45,7 +45,7 @@ returns c =
 slice-write-work-2 : tie.Need-slice-write-work-2 invariant-loop decreases-loop
 slice-write-work-2 c =
     let at-loop = (to-walk-virtual-storage c).before.before in
-    omega (arith, length-set at-loop.loop.work (virtualStoragesHeldAt + at-loop.loop.i) c.before.storage.given.0.0.lower, at-loop.loop.inv.writing.long)
+    omega (arith, length-set at-loop.loop.work (virtual_storages_held_at + at-loop.loop.i) c.before.storage.given.0.0.lower, at-loop.loop.inv.writing.long)
 
 loop-again : tie.Need-loop-preserved invariant-loop decreases-loop
 loop-again c =
@@ -60,9 +60,9 @@ loop-again c =
     let start = to_start after-wide163 in
     let walked = after-walk-virtual-storage.walk-virtual-storage.ensures in
     let good = c.before.storage.given in
-    walking-more at-loop.loop.inv _ good.0.0 refl (omega (arith, after-wide163.wide163.ensures.0, start.pre.4)) start.pre.1 in-loop.loop-test.taken
+    walking_more at-loop.loop.inv _ good.0.0 refl (omega (arith, after-wide163.wide163.ensures.0, start.pre.4)) start.pre.1 in-loop.loop-test.taken
     (walked.accepted _ good.1)
-    (virtual-storage-numbered at-loop.loop.i _ walked good.1 after-month.month.ensures after-day.day.ensures
+    (virtual_storage_numbered_lem at-loop.loop.i _ walked good.1 after-month.month.ensures after-day.day.ensures
     (omega (arith, at-loop.loop.inv.place, after-wide16.wide16.ensures.0, after-wide162.wide162.ensures.0)))
 
 same-length-2 : tie.Need-same-length-2 invariant-loop decreases-loop
@@ -75,7 +75,7 @@ returns-2 c =
     let after-wide163 = after-day.before.before in
     let after-wide162 = after-wide163.before.before in
     let after-wide16 = after-wide162.before.before in
-    λ e. rw (← after-wide16.wide16.ensures.0, ← after-wide162.wide162.ensures.0, ← after-wide163.wide163.ensures.0) (walking-all c.before.loop.invariant c.loop-test.false)
+    λ e. rw (← after-wide16.wide16.ensures.0, ← after-wide162.wide162.ensures.0, ← after-wide163.wide163.ensures.0) (walking_all c.before.loop.invariant c.loop-test.false)
 
 pub walk-virtual-storages-spec : {M : Type 1} → statement M
 walk-virtual-storages-spec =

@@ -1,15 +1,15 @@
 -- `constant_interval` meets its contract: at each return, the tests that led there. Assumes nothing.
 use mathlib.Core.Logic.{⊎_elim}
 use borrow.Author.Tests.{eq-eqb, ne_eqb}
-use Rattle.step_record.specs.Check.{in_range, volumeRange}
-use Rattle.step_walk_record.specs.Fields.{constantWalked}
+use Rattle.step_record.specs.Check.{in_range, volume_range}
+use Rattle.step_walk_record.specs.Fields.{constant_walked}
 use Rattle.step_walk_record.proofs.GoodLaws.{not-true, not-false}
 use borrow.Author.Rules.{rules}
 use Rattle.step_walk_record.proofs.constant_interval.Statement.{statement}
 use Rattle.step_walk_record.proofs.constant_interval.Tie as tie
 
 returns : tie.Need-returns
-unfolding constantWalked in_range volumeRange
+unfolding constant_walked in_range volume_range
 returns c =
     let after-u64-at = c.before.before in
     rw (
@@ -20,7 +20,7 @@ returns c =
     )
 
 returns-2 : tie.Need-returns-2
-unfolding constantWalked in_range volumeRange
+unfolding constant_walked in_range volume_range
 returns-2 c =
     rw c.sentinels.ensures
     (⊎_elim

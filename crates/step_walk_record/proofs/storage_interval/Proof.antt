@@ -1,26 +1,26 @@
 -- `storage_interval` meets its contract: at each return, the tests that led there. Assumes nothing.
 use mathlib.Core.Path.{sym, ◌∙◌}
-use Rattle.pywr.specs.Numbers.{ofPattern}
-use Rattle.step_walk_record.specs.Fields.{storageWalked}
-use Rattle.step_walk_record.proofs.GoodLaws.{volumes-fit, small-bits}
+use Rattle.pywr.specs.Numbers.{of_pattern}
+use Rattle.step_walk_record.specs.Fields.{storage_walked}
+use Rattle.step_walk_record.proofs.GoodLaws.{volumes_fit, small_bits}
 use borrow.Author.Rules.{rules}
 use Rattle.step_walk_record.proofs.storage_interval.Statement.{statement}
 use Rattle.step_walk_record.proofs.storage_interval.Tie as tie
 
 float-from-bits-storage-bounds : tie.Need-float-from-bits-storage-bounds
 float-from-bits-storage-bounds c =
-    small-bits _ (volumes-fit _ _ _ (sym c.before.are-volumes.ensures ∙ c.if1.true)).min
+    small_bits _ (volumes_fit _ _ _ (sym c.before.are-volumes.ensures ∙ c.if1.true)).min
 
 float-from-bits-storage-bounds-2 : tie.Need-float-from-bits-storage-bounds-2
 float-from-bits-storage-bounds-2 c =
-    small-bits _ (volumes-fit _ _ _ (sym c.before.are-volumes.ensures ∙ c.if1.true)).max
+    small_bits _ (volumes_fit _ _ _ (sym c.before.are-volumes.ensures ∙ c.if1.true)).max
 
 float-from-bits-storage-bounds-3 : tie.Need-float-from-bits-storage-bounds-3
 float-from-bits-storage-bounds-3 c =
-    small-bits _ (volumes-fit _ _ _ (sym c.before.are-volumes.ensures ∙ c.if1.true)).volume
+    small_bits _ (volumes_fit _ _ _ (sym c.before.are-volumes.ensures ∙ c.if1.true)).volume
 
 returns : tie.Need-returns
-unfolding storageWalked ofPattern
+unfolding storage_walked of_pattern
 returns c =
     let after-storage-bounds = c.before.before in
     let then1 = after-storage-bounds.before in
@@ -36,7 +36,7 @@ returns c =
     ) c.uncrossed.ensures
 
 returns-2 : tie.Need-returns-2
-unfolding storageWalked
+unfolding storage_walked
 returns-2 c =
     let after-u64-at3 = c.before.before in
     rw (

@@ -1,31 +1,31 @@
 -- `walk_aggregate` meets its contract: the tests that a good answer passed. Assumes nothing.
 use mathlib.Core.Path.{sym, ◌∙◌}
-use Rattle.pywr.specs.Numbers.{ofPattern}
-use Rattle.step_walk_record.proofs.GoodLaws.{not-false, flows-fit, flow-bits}
-use Rattle.step_walk_record.proofs.WalkedLaws.{aggregate-stopped, aggregate-walked}
+use Rattle.pywr.specs.Numbers.{of_pattern}
+use Rattle.step_walk_record.proofs.GoodLaws.{not-false, flows_fit, flow_bits}
+use Rattle.step_walk_record.proofs.WalkedLaws.{aggregate_stopped, aggregate_walked}
 use borrow.Author.Rules.{rules}
 use Rattle.step_walk_record.proofs.walk_aggregate.Statement.{statement}
 use Rattle.step_walk_record.proofs.walk_aggregate.Tie as tie
 
 returns : tie.Need-returns
 returns c =
-    aggregate-stopped _ _
+    aggregate_stopped _ _
 
 float-from-bits-t9 : tie.Need-float-from-bits-t9
 float-from-bits-t9 c =
-    flow-bits _ (flows-fit _ _ (sym c.before.are-flows.ensures ∙ c.if2.true)).lower
+    flow_bits _ (flows_fit _ _ (sym c.before.are-flows.ensures ∙ c.if2.true)).lower
 
 float-from-bits-t10 : tie.Need-float-from-bits-t10
 float-from-bits-t10 c =
-    flow-bits _ (flows-fit _ _ (sym c.before.are-flows.ensures ∙ c.if2.true)).upper
+    flow_bits _ (flows_fit _ _ (sym c.before.are-flows.ensures ∙ c.if2.true)).upper
 
 returns-2 : tie.Need-returns-2
-unfolding ofPattern
+unfolding of_pattern
 returns-2 c =
     let after-u64-at2 = c.before.before in
     let after-u64-at = after-u64-at2.before in
     let after-is-marked = after-u64-at.before.before in
-    aggregate-walked _ _ _ _ after-is-marked.before.before.requires
+    aggregate_walked _ _ _ _ after-is-marked.before.before.requires
     (sym after-is-marked.is-marked.ensures ∙ not-false after-is-marked.is-marked.result after-u64-at.before.if1.false)
     after-u64-at.u64-at.ensures
     after-u64-at2.u64-at2.ensures
@@ -33,7 +33,7 @@ returns-2 c =
 
 returns-3 : tie.Need-returns-3
 returns-3 c =
-    aggregate-stopped _ _
+    aggregate_stopped _ _
 
 pub walk-aggregate-spec : {M : Type 1} → statement M
 walk-aggregate-spec =

@@ -3,13 +3,13 @@ use mathlib.Core.Path.{◌≡◌, sym, ap, ◌∙◌}
 use borrow.Author.Tests.{eq-eqb, ne_eqb}
 use lib.Dec.{eqb}
 use Rattle.pywr.specs.declared.Interval.{Interval}
-use Rattle.pywr.specs.Numbers.{isSmall}
+use Rattle.pywr.specs.Numbers.{is_small}
 use Rattle.step_walk_record.specs.declared.Walked.{Walked}
 use Rattle.step_walk_record.specs.declared.Walked.TheVariants.{Good}
 use Rattle.step_walk_record.specs.WalkedRecord.{NodeWalked}
 use Rattle.step_walk_record.proofs.GoodLaws.{not-false}
-use Rattle.step_walk_record.proofs.BoundsLaws.{BoundsGood, constant-good, storage-good, flow-good}
-use Rattle.step_walk_record.proofs.WalkedLaws.{node-stopped, node-walked}
+use Rattle.step_walk_record.proofs.BoundsLaws.{BoundsGood, constant_good, storage_good, flow_good}
+use Rattle.step_walk_record.proofs.WalkedLaws.{node_stopped, node_walked}
 use borrow.Author.Rules.{rules}
 use Rattle.step_walk_record.proofs.walk_node.Statement.{statement}
 use Rattle.step_walk_record.proofs.walk_node.Tie as tie
@@ -36,35 +36,35 @@ bounds-walked c r b =
     let after-is-small = c.before in
     let after-u64-at = after-is-small.before in
     let after-is-marked = (else1 c).before in
-    node-walked _ _ _ _ _ _ r (start c).requires
+    node_walked _ _ _ _ _ _ r (start c).requires
     (sym after-is-marked.is-marked.ensures ∙ not-false after-is-marked.is-marked.result (else1 c).if1.false)
-    (sym (ap isSmall after-u64-at.u64-at.ensures) ∙ sym after-is-small.is-small.ensures ∙ not-false after-is-small.is-small.result c.if2.false)
+    (sym (ap is_small after-u64-at.u64-at.ensures) ∙ sym after-is-small.is-small.ensures ∙ not-false after-is-small.is-small.result c.if2.false)
     b
 
 returns : tie.Need-returns
 returns c =
-    node-stopped _ _ _ _ _ _
+    node_stopped _ _ _ _ _ _
 
 returns-2 : tie.Need-returns-2
 returns-2 c =
-    node-stopped _ _ _ _ _ _
+    node_stopped _ _ _ _ _ _
 
 returns-3 : tie.Need-returns-3
 returns-3 c =
     bounds-walked c.before.before _
-    (λ x e. constant-good _ _ _ _ _ x (eq-eqb _ _ c.before.if3.true) (sym c.constant-interval.ensures ∙ e))
+    (λ x e. constant_good _ _ _ _ _ x (eq-eqb _ _ c.before.if3.true) (sym c.constant-interval.ensures ∙ e))
 
 returns-4 : tie.Need-returns-4
 returns-4 c =
     let else3 = c.before.before in
     bounds-walked else3.before _
-    (λ x e. storage-good _ _ _ _ _ x (ne_eqb _ _ else3.if3.false) (eq-eqb _ _ c.before.if4.true) (sym c.storage-interval.ensures ∙ e))
+    (λ x e. storage_good _ _ _ _ _ x (ne_eqb _ _ else3.if3.false) (eq-eqb _ _ c.before.if4.true) (sym c.storage_interval_lem.ensures ∙ e))
 
 returns-5 : tie.Need-returns-5
 returns-5 c =
     let else3 = c.before.before in
     bounds-walked else3.before _
-    (λ x e. flow-good _ _ _ _ _ x (ne_eqb _ _ else3.if3.false) (ne_eqb _ _ c.before.if4.false) (sym c.flow-interval.ensures ∙ e))
+    (λ x e. flow_good _ _ _ _ _ x (ne_eqb _ _ else3.if3.false) (ne_eqb _ _ c.before.if4.false) (sym c.flow_interval.ensures ∙ e))
 
 pub walk-node-spec : {M : Type 1} → statement M
 walk-node-spec =

@@ -6,11 +6,11 @@ use Prim.Native.Nat.{ℕ}
 use lib.ListN.{get_or}
 use lib.Dec.{leb}
 use borrow.Author.Tests.{not-true, not-false}
-use Rattle.pywr.specs.Store.{Store, sentinelCode}
-use Rattle.pywr.specs.Misshapen.{countsFit, wellShaped}
-use Rattle.store_shape.proofs.Entries.{ofShape}
+use Rattle.pywr.specs.Store.{Store, sentinel_code}
+use Rattle.pywr.specs.Misshapen.{counts_fit, well_shaped}
+use Rattle.store_shape.proofs.Entries.{of_shape}
 use Rattle.store_rows.specs.Starts.{RowsWithin}
-use Rattle.store.proofs.Passed.{Counted, counts-passed, starts-passed, rows-within}
+use Rattle.store.proofs.Passed.{Counted, counts_passed, starts_passed, rows_within}
 use borrow.Author.Rules.{rules}
 use Rattle.store.proofs.well_shaped.Statement.{statement}
 use Rattle.store.proofs.well_shaped.Tie as tie
@@ -37,27 +37,27 @@ start c = to_start c
 abbrev words : tie.Else1 → List ℕ
 words c = (start c).args.shape.now
 
-counts : (c : tie.Else1) → Counted (ofShape (words c))
-counts c = counts-passed c.before.before.counts-fit.result _ c.before.before.counts-fit.ensures c.if1.false
+counts : (c : tie.Else1) → Counted (of_shape (words c))
+counts c = counts_passed c.before.before.counts-fit.result _ c.before.before.counts-fit.ensures c.if1.false
 
-counts-and-sentinel : (c : tie.Else1) (s : Store) → s.shape ≡ words c → (countsFit s && leb (sentinelCode s) 1) ≡ true
+counts-and-sentinel : (c : tie.Else1) (s : Store) → s.shape ≡ words c → (counts_fit s && leb (sentinel_code s) 1) ≡ true
 counts-and-sentinel c s es =
     rw (← (c.before.before.counts-fit.ensures s es), es)
     (not-false (c.before.before.counts-fit.result && leb (get_or (words c) 0 0) 1) c.if1.false)
 
-rows : (c : tie.Else2) → RowsWithin (start c.before.before).args.columns.now (start c.before.before).args.row-starts.now (words c.before.before)
+rows : (c : tie.Else2) → RowsWithin (start c.before.before).args.columns.now (start c.before.before).args.row_starts_lem.now (words c.before.before)
 rows c =
-    rows-within (start c.before.before).requires (counts c.before.before)
-    (starts-passed c.before.starts-rise.result c.before.starts-rise.ensures c.if2.false)
+    rows_within (start c.before.before).requires (counts c.before.before)
+    (starts_passed c.before.starts_rise_lem.result c.before.starts_rise_lem.ensures c.if2.false)
 
 returns : tie.Need-returns
-unfolding wellShaped
+unfolding well_shaped
 returns c =
     let after-shared-slice-known3 = c.before.before.before in
     let start = after-shared-slice-known3.before.before.before in
     λ s ec er es.
     let t = c.before.before.counts-fit.result && leb (get_or start.args.shape.now 0 0) 1 in
-    let p : (countsFit s && leb (sentinelCode s) 1) ≡ false = rw (← (c.before.before.counts-fit.ensures s es), es) (not-true t c.if1.true) in
+    let p : (counts_fit s && leb (sentinel_code s) 1) ≡ false = rw (← (c.before.before.counts-fit.ensures s es), es) (not-true t c.if1.true) in
     rw p
 
 starts-rise-requires : tie.Need-starts-rise-requires
@@ -66,9 +66,9 @@ starts-rise-requires c κs =
     (start.pre.1, start.pre.2, (counts c).rows)
 
 returns-2 : tie.Need-returns-2
-unfolding wellShaped
+unfolding well_shaped
 returns-2 c =
-    λ s ec er es. rw (counts-and-sentinel c.before.before s es, sym (c.before.starts-rise.ensures s er es) ∙ not-true c.before.starts-rise.result c.if2.true)
+    λ s ec er es. rw (counts-and-sentinel c.before.before s es, sym (c.before.starts_rise_lem.ensures s er es) ∙ not-true c.before.starts_rise_lem.result c.if2.true)
 
 columns-rise-requires : tie.Need-columns-rise-requires
 columns-rise-requires c κs =
@@ -84,7 +84,7 @@ edges-fit-requires c κs =
 
 node-rows-fit-requires : tie.Need-node-rows-fit-requires
 node-rows-fit-requires c κs =
-    (rows c.before.before.before, (counts (to-else1 c.before)).node-rows)
+    (rows c.before.before.before, (counts (to-else1 c.before)).node_rows_lem)
 
 aggregates-fit-requires : tie.Need-aggregates-fit-requires
 aggregates-fit-requires c κs =
@@ -92,7 +92,7 @@ aggregates-fit-requires c κs =
 
 virtual-storages-fit-requires : tie.Need-virtual-storages-fit-requires
 virtual-storages-fit-requires c κs =
-    ((to_start (to-else1 c.before.before.before)).requires.2, (counts (to-else1 c.before.before.before)).virtualStorages)
+    ((to_start (to-else1 c.before.before.before)).requires.2, (counts (to-else1 c.before.before.before)).virtual_storages)
 
 makers-fit-requires : tie.Need-makers-fit-requires
 makers-fit-requires c κs =
@@ -105,7 +105,7 @@ flow-order-fits-requires c κs =
     ((to_start else1).pre.2, (counts else1).edges)
 
 returns-3 : tie.Need-returns-3
-unfolding wellShaped
+unfolding well_shaped
 returns-3 c =
     let after-makers-fit = c.before in
     let after-virtual-storages-fit = after-makers-fit.before in
@@ -122,14 +122,14 @@ returns-3 c =
     let at-columns = (after-columns-rise) in
     rw (
       counts-and-sentinel (else1) s es,
-      sym (at-starts.starts-rise.ensures s er es)
-          ∙ not-false at-starts.starts-rise.result else2.if2.false,
+      sym (at-starts.starts_rise_lem.ensures s er es)
+          ∙ not-false at-starts.starts_rise_lem.result else2.if2.false,
       at-columns.columns-rise.ensures s ec er es,
-      after-nodes-fit.nodes-fit.ensures s es,
+      after-nodes-fit.nodes_fit.ensures s es,
       after-edges-fit.edges_fit.ensures s es,
       after-node-rows-fit.node-rows-fit.ensures s ec er es,
-      after-aggregates-fit.aggregates-fit.ensures s es,
-      after-virtual-storages-fit.virtual-storages-fit.ensures s es,
+      after-aggregates-fit.aggregates_fit.ensures s es,
+      after-virtual-storages-fit.virtual_storages_fit.ensures s es,
       after-makers-fit.makers-fit.ensures s es,
       c.flow-order-fits.ensures s es,
     )

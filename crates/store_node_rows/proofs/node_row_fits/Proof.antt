@@ -2,8 +2,8 @@
 use Prim.Native.Nat.{◌+◌}
 use native.Mathlib.Omega.{arith}
 use borrow.Author.Tests.{lt-ltb, le-ltb, le-leb, eq-eqb, ne_eqb}
-use Rattle.pywr.specs.Store.{columnsOfRow}
-use Rattle.pywr.specs.Misshapen.{nodeRowFits}
+use Rattle.pywr.specs.Store.{columns_of_row}
+use Rattle.pywr.specs.Misshapen.{node_row_fits}
 use Rattle.store_rows.proofs.Starts.{start_under}
 use borrow.Author.Rules.{rules}
 use Rattle.store_node_rows.proofs.node_row_fits.Statement.{statement}
@@ -24,18 +24,18 @@ to-wide16 c =
     after-wide32.before.before
 
 returns : tie.Need-returns
-unfolding nodeRowFits
+unfolding node_row_fits
 returns c =
-    let in-range = (to_start c.before).requires.2 in
-    λ s ec er es. rw (es, lt-ltb _ _ in-range.node, lt-ltb _ _ in-range.row, le-leb _ _ in-range.row_type, eq-eqb _ _ c.if1.true)
+    let in_range_lem = (to_start c.before).requires.2 in
+    λ s ec er es. rw (es, lt-ltb _ _ in_range_lem.node, lt-ltb _ _ in_range_lem.row, le-leb _ _ in_range_lem.row_type, eq-eqb _ _ c.if1.true)
 
 returns-2 : tie.Need-returns-2
-unfolding nodeRowFits
+unfolding node_row_fits
 returns-2 c =
     let else1 = c.before.before.before in
-    let in-range = (to_start else1.before).requires.2 in
+    let in_range_lem = (to_start else1.before).requires.2 in
     λ s ec er es.
-    rw (es, lt-ltb _ _ in-range.node, lt-ltb _ _ in-range.row, le-leb _ _ in-range.row_type, ne_eqb _ _ else1.if1.false, le-ltb _ _ c.if2.true)
+    rw (es, lt-ltb _ _ in_range_lem.node, lt-ltb _ _ in_range_lem.row, le-leb _ _ in_range_lem.row_type, ne_eqb _ _ else1.if1.false, le-ltb _ _ c.if2.true)
 
 row-holds-requires : tie.Need-row-holds-requires
 row-holds-requires c κs =
@@ -44,22 +44,22 @@ row-holds-requires c κs =
     omega (arith, start_under start.pre.0.starts (after-wide16.wide16.result + 1) (omega arith))
 
 returns-3 : tie.Need-returns-3
-unfolding nodeRowFits columnsOfRow
+unfolding node_row_fits columns_of_row
 returns-3 c =
     let after-wide322 = c.before.before in
     let after-wide32 = after-wide322.before.before in
     let after-wide16 = after-wide32.before.before in
     let else2 = after-wide16.before.before in
     let else1 = else2.before.before.before in
-    let in-range = (to_start else1.before).requires.2 in
+    let in_range_lem = (to_start else1.before).requires.2 in
     λ s ec er es.
     rw (
       ec,
       er,
       es,
-      lt-ltb _ _ in-range.node,
-      lt-ltb _ _ in-range.row,
-      le-leb _ _ in-range.row_type,
+      lt-ltb _ _ in_range_lem.node,
+      lt-ltb _ _ in_range_lem.row,
+      le-leb _ _ in_range_lem.row_type,
       ne_eqb _ _ else1.if1.false,
       lt-ltb _ _ else2.if2.false,
       c.row-holds.ensures,

@@ -2,8 +2,8 @@
 use mathlib.Core.Path.{sym}
 use Prim.Native.Nat.{◌+◌}
 use native.Mathlib.Omega.{arith}
-use Rattle.pywr.specs.Store.{columnsOfRow}
-use Rattle.pywr.specs.Misshapen.{rowColumnsRise}
+use Rattle.pywr.specs.Store.{columns_of_row}
+use Rattle.pywr.specs.Misshapen.{row_columns_rise}
 use Rattle.store_rows.proofs.Starts.{start_under}
 use Rattle.store_rows.proofs.Rising.{rising}
 use borrow.Author.Rules.{rules}
@@ -24,7 +24,7 @@ start-falls-requires c κs =
     (search rules, search rules, λ r lt. starts.rise r (omega arith), λ r lt. omega (arith, start_under starts (r + 1) (omega arith)))
 
 returns : tie.Need-returns
-unfolding rowColumnsRise columnsOfRow
+unfolding row_columns_rise columns_of_row
 returns c =
     let after-row-count = c.before in
     let after-falls = after-row-count.before in

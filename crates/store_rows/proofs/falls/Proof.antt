@@ -1,14 +1,14 @@
 -- `falls` meets its contract. The loop's invariant: `sum` counts the falls in front of i. Assumes nothing.
 use mathlib.Core.Path.{◌∙◌, sym}
 use Prim.Native.Nat.{◌-◌, ◌≤◌}
-use Rattle.store_rows.specs.Falls.{fallAt}
-use Rattle.store_rows.proofs.Sums.{Summed, summed-more, summed-all, falls-none, fall-is}
+use Rattle.store_rows.specs.Falls.{fall_at}
+use Rattle.store_rows.proofs.Sums.{Summed, summed_more, summed_all, falls_none, fall_is}
 use borrow.Author.Rules.{rules}
 use Rattle.store_rows.proofs.falls.Statement.{statement}
 use Rattle.store_rows.proofs.falls.Tie as tie
 
 abbrev invariant-loop : tie.invariant-loop
-invariant-loop columns n sum₀ i₀ sum i = (1 ≤ i) × Summed (fallAt columns) n sum i
+invariant-loop columns n sum₀ i₀ sum i = (1 ≤ i) × Summed (fall_at columns) n sum i
 
 abbrev decreases-loop : tie.decreases-loop
 decreases-loop columns n sum₀ i₀ sum i = n - i
@@ -21,16 +21,16 @@ to-loop c =
 
 loop-holds : tie.Need-loop-init invariant-loop decreases-loop
 loop-holds c =
-    (search rules, falls-none _ _)
+    (search rules, falls_none _ _)
 
 loop-again : tie.Need-loop-preserved invariant-loop decreases-loop
 loop-again c =
     let at-loop = to-loop c in
-    (search rules, summed-more at-loop.loop.inv.1 _ (c.fall-of.ensures.0 ∙ sym (fall-is _ _ at-loop.loop.inv.0)) c.fall-of.ensures.1 c.before.before.before.loop-test.true)
+    (search rules, summed_more at-loop.loop.inv.1 _ (c.fall-of.ensures.0 ∙ sym (fall_is _ _ at-loop.loop.inv.0)) c.fall-of.ensures.1 c.before.before.before.loop-test.true)
 
 returns : tie.Need-returns invariant-loop decreases-loop
 returns c =
-    summed-all c.before.loop.invariant.1 c.loop-test.false
+    summed_all c.before.loop.invariant.1 c.loop-test.false
 
 pub falls-spec : {M : Type 1} → statement M
 falls-spec =

@@ -9,10 +9,10 @@ use Rattle.store_rows.proofs.rows_from_zero.Statement.{statement}
 use Rattle.store_rows.proofs.rows_from_zero.Tie as tie
 
 abbrev invariant-loop : tie.invariant-loop
-invariant-loop row-starts rows r₀ r = (r ≤ rows) × ((k : ℕ) → k < r → get_or row-starts k 0 ≡ 0)
+invariant-loop row_starts_lem rows r₀ r = (r ≤ rows) × ((k : ℕ) → k < r → get_or row_starts_lem k 0 ≡ 0)
 
 abbrev decreases-loop : tie.decreases-loop
-decreases-loop row-starts rows r₀ r = rows - r
+decreases-loop row_starts_lem rows r₀ r = rows - r
 
 -- from a place to an earlier one
 abbrev to-loop : tie.Then1 invariant-loop decreases-loop → tie.At-loop invariant-loop decreases-loop

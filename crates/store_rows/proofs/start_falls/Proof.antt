@@ -6,17 +6,17 @@ use Prim.Native.Nat.{◌-◌, ◌<◌, zero-le}
 use native.Mathlib.Nat.{add-zero}
 use native.Mathlib.Omega.{arith}
 use lib.ListN.{length, get_or}
-use Rattle.store_rows.specs.Falls.{rowFall}
-use Rattle.store_rows.proofs.Sums.{Summed, summed-none, summed-more, summed-all, from-zero-none, empty-none, row-fall-is}
+use Rattle.store_rows.specs.Falls.{row_fall}
+use Rattle.store_rows.proofs.Sums.{Summed, summed_none, summed_more, summed_all, from_zero_none, empty_none, row_fall_is}
 use borrow.Author.Rules.{rules}
 use Rattle.store_rows.proofs.start_falls.Statement.{statement}
 use Rattle.store_rows.proofs.start_falls.Tie as tie
 
 abbrev invariant-loop : tie.invariant-loop
-invariant-loop columns row-starts rows sum₀ r₀ sum r = (r < rows → 0 < get_or row-starts r 0) × Summed (rowFall columns row-starts) rows sum r
+invariant-loop columns row_starts_lem rows sum₀ r₀ sum r = (r < rows → 0 < get_or row_starts_lem r 0) × Summed (row_fall columns row_starts_lem) rows sum r
 
 abbrev decreases-loop : tie.decreases-loop
-decreases-loop columns row-starts rows sum₀ r₀ sum r = rows - r
+decreases-loop columns row_starts_lem rows sum₀ r₀ sum r = rows - r
 
 -- from a place to an earlier one
 abbrev to_start : tie.After-rows-from-zero invariant-loop decreases-loop → tie.Start invariant-loop decreases-loop
@@ -31,7 +31,7 @@ to-in-loop c =
 loop-holds : tie.Need-loop-init invariant-loop decreases-loop
 loop-holds c =
     let found = c.rows-from-zero.ensures in
-    (found.next, summed-none _ _ _ found.few (λ k lt. from-zero-none _ _ k (found.from_zero k lt)))
+    (found.next, summed_none _ _ _ found.few (λ k lt. from_zero_none _ _ k (found.from_zero k lt)))
 
 sub-t17 : tie.Need-overflow-sub-t17 invariant-loop decreases-loop
 sub-t17 c =
@@ -70,14 +70,14 @@ loop-again c =
       λ lt. omega (arith, behind, start.pre.2 _ in-loop.loop-test.true),
       ⊎_elim
           (λ w. rw w.4
-          (summed-more at-loop.loop.invariant.1 _ (w.3.ensures.0 ∙ sym (row-fall-is _ _ _ _ after-wide32.wide32.ensures.0 (omega arith) w.0.taken)) w.3.ensures.1 in-loop.loop-test.true))
-          (λ w. rw (w.1 ∙ sym (add-zero _)) (summed-more at-loop.loop.invariant.1 0 (sym (empty-none _ _ _ w.0.left)) zero-le in-loop.loop-test.true))
+          (summed_more at-loop.loop.invariant.1 _ (w.3.ensures.0 ∙ sym (row_fall_is _ _ _ _ after-wide32.wide32.ensures.0 (omega arith) w.0.taken)) w.3.ensures.1 in-loop.loop-test.true))
+          (λ w. rw (w.1 ∙ sym (add-zero _)) (summed_more at-loop.loop.invariant.1 0 (sym (empty_none _ _ _ w.0.left)) zero-le in-loop.loop-test.true))
           c.if1.branch,
     )
 
 returns : tie.Need-returns invariant-loop decreases-loop
 returns c =
-    summed-all c.before.loop.invariant.1 c.loop-test.false
+    summed_all c.before.loop.invariant.1 c.loop-test.false
 
 pub start-falls-spec : {M : Type 1} → statement M
 start-falls-spec =

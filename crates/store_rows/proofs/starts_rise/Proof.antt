@@ -1,24 +1,24 @@
 -- `starts_rise` meets its contract. The loop's invariant: `good` says whether the starts up to r rise from 0. Assumes nothing.
 use mathlib.Core.List.{[]}
 use Prim.Native.Nat.{◌-◌}
-use Rattle.store_rows.proofs.Starts.{ofRuns, starts-same, Risen, risen-none, risen-more, risen-all}
+use Rattle.store_rows.proofs.Starts.{of_runs, starts_same, Risen, risen_none, risen_more, risen_all}
 use borrow.Author.Rules.{rules}
 use Rattle.store_rows.proofs.starts_rise.Statement.{statement}
 use Rattle.store_rows.proofs.starts_rise.Tie as tie
 
 abbrev invariant-loop : tie.invariant-loop
-invariant-loop row-starts shape rows good₀ r₀ good r = Risen (ofRuns [] row-starts shape) rows good r
+invariant-loop row_starts_lem shape rows good₀ r₀ good r = Risen (of_runs [] row_starts_lem shape) rows good r
 
 abbrev decreases-loop : tie.decreases-loop
-decreases-loop row-starts shape rows good₀ r₀ good r = rows - r
+decreases-loop row_starts_lem shape rows good₀ r₀ good r = rows - r
 
 loop-holds : tie.Need-loop-init invariant-loop decreases-loop
 loop-holds c =
-    risen-none _ _
+    risen_none _ _
 
 loop-again : tie.Need-loop-preserved invariant-loop decreases-loop
 loop-again c =
-    risen-more c.before.before.before.loop.invariant c.before.before.loop-test.true
+    risen_more c.before.before.before.loop.invariant c.before.before.loop-test.true
 
 returns : tie.Need-returns invariant-loop decreases-loop
 returns c =
@@ -26,7 +26,7 @@ returns c =
     let c4 = c2.before.before in
     let c5 = c4.before in
     let c7 = c5.before.before in
-    λ s er es. rw (starts-same s (ofRuns [] _ _) er es 0, er, es, ← c7.row_count.ensures, c2.wide32.ensures.0, c.wide16.ensures.0) (risen-all c5.loop.invariant c4.loop-test.false)
+    λ s er es. rw (starts_same s (of_runs [] _ _) er es 0, er, es, ← c7.row_count.ensures, c2.wide32.ensures.0, c.wide16.ensures.0) (risen_all c5.loop.invariant c4.loop-test.false)
 
 pub starts-rise-spec : {M : Type 1} → statement M
 starts-rise-spec =

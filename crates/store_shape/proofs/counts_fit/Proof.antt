@@ -1,11 +1,11 @@
 -- `counts_fit` meets its contract. Assumes nothing.
-use Rattle.pywr.specs.Misshapen.{countsFit}
+use Rattle.pywr.specs.Misshapen.{counts_fit}
 use borrow.Author.Rules.{rules}
 use Rattle.store_shape.proofs.counts_fit.Statement.{statement}
 use Rattle.store_shape.proofs.counts_fit.Tie as tie
 
 returns : tie.Need-returns
-unfolding countsFit
+unfolding counts_fit
 returns c =
     let after-shared-slice-known6 = c.before.before.before in
     let after-row-count = after-shared-slice-known6.before in

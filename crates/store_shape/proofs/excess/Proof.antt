@@ -1,14 +1,14 @@
 -- `excess` meets its contract. Assumes nothing.
 use mathlib.Core.Path.{sym}
 use borrow.Author.Tests.{le-leb}
-use Rattle.store_shape.proofs.LimitLaws.{over-most}
+use Rattle.store_shape.proofs.LimitLaws.{over_most}
 use borrow.Author.Rules.{rules}
 use Rattle.store_shape.proofs.excess.Statement.{statement}
 use Rattle.store_shape.proofs.excess.Tie as tie
 
 returns : tie.Need-returns
 returns c =
-    over-most _ _ c.if1.true
+    over_most _ _ c.if1.true
 
 returns-2 : tie.Need-returns-2
 returns-2 c =

@@ -1,12 +1,12 @@
 -- `flow_order_fits` meets its contract. Assumes nothing.
 use mathlib.Core.Path.{◌∙◌}
-use Rattle.pywr.specs.Misshapen.{flowOrderFits}
+use Rattle.pywr.specs.Misshapen.{flow_order_fits}
 use borrow.Author.Rules.{rules}
 use Rattle.store_shape.proofs.flow_order_fits.Statement.{statement}
 use Rattle.store_shape.proofs.flow_order_fits.Tie as tie
 
 returns : tie.Need-returns
-unfolding flowOrderFits
+unfolding flow_order_fits
 returns c =
     let after-wide16 = c.before in
     λ s e. c.words-under.ensures ∙ rw (e, after-wide16.wide16.ensures.0)

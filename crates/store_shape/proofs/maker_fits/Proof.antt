@@ -1,5 +1,5 @@
 -- `store_shape::maker_fits` meets its contract. Assumes nothing.
-use Rattle.store_shape.proofs.MakerLaws.{kind-out, index-out, by-sharers}
+use Rattle.store_shape.proofs.MakerLaws.{kind_out, index_out, by_sharers}
 use borrow.Author.Rules.{rules}
 use Rattle.store_shape.proofs.maker_fits.Statement.{statement}
 use Rattle.store_shape.proofs.maker_fits.Tie as tie
@@ -11,20 +11,20 @@ to-wide16 c =
 
 returns : tie.Need-returns
 returns c =
-    λ s e m. kind-out s _ (rw e c.if1.true)
+    λ s e m. kind_out s _ (rw e c.if1.true)
 
 returns-2 : tie.Need-returns-2
 returns-2 c =
     let after-wide16 = to-wide16 c.before in
     let else1 = after-wide16.before in
-    λ s e m. index-out s _ (rw e else1.if1.left) (rw (← m, e, ← after-wide16.wide16.ensures.0) c.if2.true)
+    λ s e m. index_out s _ (rw e else1.if1.left) (rw (← m, e, ← after-wide16.wide16.ensures.0) c.if2.true)
 
 returns-3 : tie.Need-returns-3
 returns-3 c =
     let else2 = c.before in
     let after-wide16 = to-wide16 else2.before in
     let else1 = after-wide16.before in
-    λ s e m. rw (← e) (by-sharers s _ (rw e else1.if1.left) (rw (← m, e, ← after-wide16.wide16.ensures.0) else2.if2.false))
+    λ s e m. rw (← e) (by_sharers s _ (rw e else1.if1.left) (rw (← m, e, ← after-wide16.wide16.ensures.0) else2.if2.false))
 
 pub maker-fits-spec : {M : Type 1} → statement M
 maker-fits-spec =

@@ -1,5 +1,5 @@
 -- `nodes_fit` meets its contract. Assumes nothing.
-use Rattle.store_shape.proofs.TableLaws.{nodes-within}
+use Rattle.store_shape.proofs.TableLaws.{nodes_within}
 use borrow.Author.Rules.{rules}
 use Rattle.store_shape.proofs.nodes_fit.Statement.{statement}
 use Rattle.store_shape.proofs.nodes_fit.Tie as tie
@@ -8,7 +8,7 @@ returns : tie.Need-returns
 returns c =
     let after-limits = c.before.before in
     let after-wide16 = after-limits.before in
-    λ s e. rw (c.words-within.ensures, after-limits.limits-of-2.ensures, after-wide16.wide16.ensures.0, ← e) (nodes-within s _)
+    λ s e. rw (c.words-within.ensures, after-limits.limits-of-2.ensures, after-wide16.wide16.ensures.0, ← e) (nodes_within s _)
 
 pub nodes-fit-spec : {M : Type 1} → statement M
 nodes-fit-spec =

@@ -2,9 +2,9 @@
 use Prim.Native.Nat.{ℕ, ◌+◌, ◌-◌}
 use lib.ListN.{get_or}
 use lib.Dec.{leb, eqb}
-use Rattle.store_shape.specs.Limits.{partWithin}
-use Rattle.store_shape.proofs.Entries.{Tested, tested-none, tested-all}
-use Rattle.store_shape.proofs.LimitLaws.{tested-over}
+use Rattle.store_shape.specs.Limits.{part_within}
+use Rattle.store_shape.proofs.Entries.{Tested, tested_none, tested_all}
+use Rattle.store_shape.proofs.LimitLaws.{tested_over}
 use borrow.Author.Rules.{rules}
 use Rattle.store_shape.proofs.part_excess.Statement.{statement}
 use Rattle.store_shape.proofs.part_excess.Tie as tie
@@ -17,18 +17,18 @@ decreases-loop words at most count over₀ j₀ over j = count - j
 
 loop-holds : tie.Need-loop-init invariant-loop decreases-loop
 loop-holds c =
-    tested-none _ _ _ _
+    tested_none _ _ _ _
 
 loop-again : tie.Need-loop-preserved invariant-loop decreases-loop
 loop-again c =
     let in-loop = c.before.before.before in
     let at-loop = in-loop.before in
-    tested-over at-loop.loop.over c.excess.result at-loop.loop.invariant in-loop.loop-test.true c.excess.ensures
+    tested_over at-loop.loop.over c.excess.result at-loop.loop.invariant in-loop.loop-test.true c.excess.ensures
 
 returns : tie.Need-returns invariant-loop decreases-loop
-unfolding partWithin
+unfolding part_within
 returns c =
-    tested-all c.before.loop.invariant c.loop-test.false
+    tested_all c.before.loop.invariant c.loop-test.false
 
 pub part-excess-spec : {M : Type 1} → statement M
 part-excess-spec =

@@ -1,31 +1,31 @@
 -- `virtual_storages_fit` meets its contract. The loop's invariant: i entries were tested, and `good` says whether all passed. Assumes nothing.
 use Prim.Native.Nat.{◌-◌}
-use Rattle.layout.specs.Layout.{virtualStoragesAt}
-use Rattle.pywr.specs.Misshapen.{virtualStorageFits}
-use Rattle.store_shape.proofs.Entries.{ofShape, Tested, tested-none, tested-more, tested-all}
+use Rattle.layout.specs.Layout.{virtual_storages_at}
+use Rattle.pywr.specs.Misshapen.{virtual_storage_fits}
+use Rattle.store_shape.proofs.Entries.{of_shape, Tested, tested_none, tested_more, tested_all}
 use borrow.Author.Rules.{rules}
 use Rattle.store_shape.proofs.virtual_storages_fit.Statement.{statement}
 use Rattle.store_shape.proofs.virtual_storages_fit.Tie as tie
 
 abbrev invariant-loop : tie.invariant-loop
-invariant-loop shape varying virtualStorages good₀ at₀ i₀ good at i = Tested (virtualStorageFits (ofShape shape)) 6 virtualStoragesAt virtualStorages good at i
+invariant-loop shape varying virtual_storages good₀ at₀ i₀ good at i = Tested (virtual_storage_fits (of_shape shape)) 6 virtual_storages_at virtual_storages good at i
 
 abbrev decreases-loop : tie.decreases-loop
-decreases-loop shape varying virtualStorages good₀ at₀ i₀ good at i = virtualStorages - i
+decreases-loop shape varying virtual_storages good₀ at₀ i₀ good at i = virtual_storages - i
 
 loop-holds : tie.Need-loop-init invariant-loop decreases-loop
 loop-holds c =
-    tested-none _ _ _ _
+    tested_none _ _ _ _
 
 loop-again : tie.Need-loop-preserved invariant-loop decreases-loop
-unfolding virtualStorageFits
+unfolding virtual_storage_fits
 loop-again c =
-    tested-more c.before.before.before.loop.invariant c.before.before.loop-test.true
+    tested_more c.before.before.before.loop.invariant c.before.before.loop-test.true
 
 returns : tie.Need-returns invariant-loop decreases-loop
-unfolding virtualStorageFits
+unfolding virtual_storage_fits
 returns c =
-    λ s e. rw (e, ← c.before.before.wide16.ensures.0) (tested-all c.before.loop.invariant c.loop-test.false)
+    λ s e. rw (e, ← c.before.before.wide16.ensures.0) (tested_all c.before.loop.invariant c.loop-test.false)
 
 pub virtual-storages-fit-spec : {M : Type 1} → statement M
 virtual-storages-fit-spec =

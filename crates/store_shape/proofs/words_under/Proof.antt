@@ -5,8 +5,8 @@ use native.Mathlib.Nat.{add-zero, add_assoc}
 use lib.Dec.{ltb, eqb}
 use lib.ListN.{get_or}
 use Rattle.store_shape.proofs.EntryLaws.{none_passes}
-use Rattle.store_shape.proofs.Entries.{Tested, tested-none, tested-all}
-use Rattle.store_shape.proofs.LimitLaws.{under_none, under-limit, tested-over}
+use Rattle.store_shape.proofs.Entries.{Tested, tested_none, tested_all}
+use Rattle.store_shape.proofs.LimitLaws.{under_none, under_limit, tested_over}
 use borrow.Author.Rules.{rules}
 use Rattle.store_shape.proofs.words_under.Statement.{statement}
 use Rattle.store_shape.proofs.words_under.Tie as tie
@@ -23,7 +23,7 @@ returns c =
 
 loop-holds : tie.Need-loop-init invariant-loop decreases-loop
 loop-holds c =
-    rw add-zero (tested-none _ _ _ _)
+    rw add-zero (tested_none _ _ _ _)
 
 loop-again : tie.Need-loop-preserved invariant-loop decreases-loop
 loop-again c =
@@ -31,11 +31,11 @@ loop-again c =
     let at-loop = in-loop.before in
     let else1 = at-loop.before in
     rw (← add_assoc)
-    (tested-over at-loop.loop.over c.excess.result at-loop.loop.invariant in-loop.loop-test.true (c.excess.ensures ∙ under-limit _ _ else1.if1.false))
+    (tested_over at-loop.loop.over c.excess.result at-loop.loop.invariant in-loop.loop-test.true (c.excess.ensures ∙ under_limit _ _ else1.if1.false))
 
 returns-2 : tie.Need-returns-2 invariant-loop decreases-loop
 returns-2 c =
-    tested-all c.before.loop.invariant c.loop-test.false
+    tested_all c.before.loop.invariant c.loop-test.false
 
 pub words-under-spec : {M : Type 1} → statement M
 words-under-spec =

@@ -1,5 +1,5 @@
 -- `words_within` meets its contract. The loop's invariant: whole parts were looked at, and `over` is 0 exactly if their words are at most their limits. Assumes nothing.
-use Rattle.store_shape.proofs.LimitLaws.{Looked, looked-none, looked-more, looked-all}
+use Rattle.store_shape.proofs.LimitLaws.{Looked, looked_none, looked_more, looked_all}
 use borrow.Author.Rules.{rules}
 use Rattle.store_shape.proofs.words_within.Statement.{statement}
 use Rattle.store_shape.proofs.words_within.Tie as tie
@@ -12,15 +12,15 @@ decreases-loop words first count most over₀ at₀ left₀ over at left = left
 
 loop-holds : tie.Need-loop-init invariant-loop decreases-loop
 loop-holds c =
-    looked-none _ _ _ _
+    looked_none _ _ _ _
 
 loop-again : tie.Need-loop-preserved invariant-loop decreases-loop
 loop-again c =
-    looked-more c.before.before.loop.invariant _ c.before.loop-test.true c.part-excess.ensures
+    looked_more c.before.before.loop.invariant _ c.before.loop-test.true c.part-excess.ensures
 
 returns : tie.Need-returns invariant-loop decreases-loop
 returns c =
-    looked-all c.before.before.loop.invariant _ c.before.loop-test.false c.part-excess2.ensures
+    looked_all c.before.before.loop.invariant _ c.before.loop-test.false c.part-excess2.ensures
 
 pub words-within-spec : {M : Type 1} → statement M
 words-within-spec =

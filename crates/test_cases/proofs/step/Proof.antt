@@ -3,7 +3,7 @@
 use mathlib.Core.Path.{◌≡◌}
 use lib.ListN.{length}
 use borrow.Author.Rules.{rules}
-use Rattle.layout.specs.Layout.{rowStartsLength, shapeLength}
+use Rattle.layout.specs.Layout.{row_starts_length, shape_length}
 use Rattle.test_cases.proofs.step.Statement.{statement}
 use Rattle.test_cases.proofs.step.Tie as tie
 
@@ -39,16 +39,16 @@ elements-length c = search (rules, elements-known (start (to-shape c)))
 columns-known : (s : tie.Start) → length s.args.store.columns ≡ 4096
 columns-known s = search rules
 
-columns-length : tie.Need-slice-aggregate-front-u16
-columns-length c = search (rules, columns-known (start (to-shape c.before.before)))
+columns_length : tie.Need-slice-aggregate-front-u16
+columns_length c = search (rules, columns-known (start (to-shape c.before.before)))
 
-row-starts-known : (s : tie.Start) → length s.args.store.row_starts ≡ rowStartsLength
+row-starts-known : (s : tie.Start) → length s.args.store.row_starts ≡ row_starts_length
 row-starts-known s = search rules
 
 row-starts-length : tie.Need-slice-aggregate-front-u32
 row-starts-length c = search (rules, row-starts-known (start (to-shape (to-elements2 c))))
 
-shape-known : (s : tie.Start) → length s.args.store.shape ≡ shapeLength
+shape-known : (s : tie.Start) → length s.args.store.shape ≡ shape_length
 shape-known s = search rules
 
 shape-length : tie.Need-slice-aggregate-front-u16-2
@@ -70,7 +70,7 @@ step_spec =
     (λ c κs. search rules)
     elements-length
     (λ c κs. search rules)
-    columns-length
+    columns_length
     (λ c κs. search rules)
     row-starts-length
     (λ c κs. search rules)

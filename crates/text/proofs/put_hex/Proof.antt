@@ -5,7 +5,7 @@ use mathlib.Core.List.{List}
 use native.Mathlib.Omega.{arith}
 use lib.Dec.{lit<, lit≤}
 use Rattle.io.specs.Digits.{last_digits}
-use Rattle.text.specs.Text.{sixteenDigits}
+use Rattle.text.specs.Text.{sixteen_digits}
 use Rattle.text.proofs.Placed.{put_as}
 use Rattle.text.proofs.Digits.{few}
 use borrow.Author.Rules.{rules}
@@ -28,7 +28,7 @@ to_start c =
     after-hex.before.before.before
 
 returns : tie.Need-returns
-unfolding sixteenDigits
+unfolding sixteen_digits
 returns c =
     let after-hex = to-hex c in
     let start = to_start c in
