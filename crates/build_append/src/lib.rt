@@ -1,4 +1,6 @@
 // The rows of a programme in the making (LpBuilder of builder.rs): a row becomes the last row. In proofs/ also rows that are appended in turn.
+#![tactic(auto)]
+
 ghost use Rattle.std.specs.Prelude.{◌≡◌, List, [], ◌∷◌, ◌++◌, ◌+◌, ◌<◌, ◌≤◌, length, take, drop, Float};
 ghost use Rattle.std.proofs.lemmas.List.Edits.{sets};
 ghost use Rattle.layout.specs.Layout.{column_ceiling, row_ceiling, element_ceiling, shape_made_at, words_length, elements_made_at, numbers_length};

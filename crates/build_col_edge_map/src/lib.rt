@@ -1,4 +1,6 @@
 // The columns of the edges: edges that a link with one edge in and one out joins share a column.
+#![tactic(auto)]
+
 ghost use Rattle.std.specs.Prelude.{◌≡◌, ℕ, suc, ◌+◌, ◌<◌, ◌≤◌, List, length, get_or};
 ghost use Rattle.layout.specs.Layout.{node_ceiling, edge_ceiling};
 ghost use Rattle.pywr.specs.Bytes.{byte, le16};

@@ -1,4 +1,6 @@
 // The rows of the constant nodes (SolverBuilder::create_node_constraints of builder.rs).
+#![tactic(auto)]
+
 ghost use Rattle.std.specs.Prelude.{◌≡◌, ◌<◌, List, [], ◌∷◌, ◌++◌};
 ghost use Rattle.pywr.specs.ExclusiveSets.{sets_with_node};
 ghost use Rattle.pywr.specs.Rows.{column_map, node_row};

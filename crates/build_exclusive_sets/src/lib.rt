@@ -1,5 +1,7 @@
 // The distinct exclusive sets of a network file, in order of first appearance, and the sets that list each node: the second half of
 // `create_columns`, and `node_bin_col_map`.
+#![tactic(auto)]
+
 ghost use Rattle.std.specs.Prelude.{◌≡◌, ℕ, ◌+◌, ◌*◌, ◌<◌, ◌≤◌, List, ◌++◌, length, get_or};
 ghost use Rattle.layout.specs.Layout.{node_ceiling, set_ceiling, set_size_ceiling, membership_ceiling};
 ghost use Rattle.pywr.specs.ExclusiveSets.{same_set, set_number, add_sets, exclusive_sets};

@@ -1,4 +1,6 @@
 // The fixed rows of a programme: mass balances, constant bounds, mutual exclusivity.
+#![tactic(auto)]
+
 ghost use Rattle.std.specs.Prelude.{◌≡◌, List, ◌++◌};
 ghost use Rattle.pywr.specs.Rows.{column_map};
 ghost use Rattle.pywr.specs.Programme.{Row, Maker};

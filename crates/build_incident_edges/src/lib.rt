@@ -1,4 +1,6 @@
 // The incoming or outgoing edges of every node, as lists in two tables.
+#![tactic(auto)]
+
 ghost use Rattle.std.specs.Prelude.{ℕ, ◌<◌, ◌≤◌, length};
 ghost use Rattle.layout.specs.Layout.{node_ceiling, edge_ceiling};
 ghost use Rattle.network_edge.specs.Edge.{edge_at, edge_place, end_of};

@@ -1,5 +1,7 @@
 // A varying row asked for (LpBuilder::add_variable_row of builder.rs): where an equal row stands among the rows made so far, else the row appended.
 // In specs/ and proofs/ also rows asked for in turn, which the makers of varying rows share.
+#![tactic(auto)]
+
 ghost use Rattle.std.specs.Prelude.{◌≡◌, List, [], map, ◌+◌, ◌<◌, ◌≤◌, length, get_or, drop};
 ghost use Rattle.layout.specs.Layout.{column_ceiling, words_length, elements_made_at, numbers_length};
 ghost use Rattle.pywr.specs.VariableRows.{same_row, position};

@@ -1,4 +1,6 @@
 // The mass rows of the links (SolverBuilder::create_mass_balance_constraints of builder.rs).
+#![tactic(auto)]
+
 ghost use Rattle.std.specs.Prelude.{ℕ, ◌<◌, ◌≤◌, List, [], ◌∷◌, ◌++◌, length};
 ghost use Rattle.std.specs.Float.Ieee.{neg};
 ghost use Rattle.layout.specs.Layout.{edge_ceiling, column_ceiling};

@@ -1,5 +1,7 @@
 // A node added to a row (SolverBuilder::add_node of builder.rs), and the row of a node with a coefficient on a set's column.
 // In specs/ the tables that rows are made from.
+#![tactic(auto)]
+
 ghost use Rattle.std.specs.Prelude.{◌≡◌, ℕ, ◌<◌, ◌≤◌, length, []};
 ghost use Rattle.layout.specs.Layout.{column_ceiling};
 ghost use Rattle.build_row.specs.RowBuilder.{Rising};

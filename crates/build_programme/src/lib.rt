@@ -1,4 +1,6 @@
 // A network file's programme assembled in the work runs of a build (SolverBuilder::create of builder.rs).
+#![tactic(auto)]
+
 ghost use Rattle.std.specs.Prelude.{◌≡◌, ◌≤◌, length};
 ghost use Rattle.layout.specs.Layout.{words_length, numbers_length};
 ghost use Rattle.pywr.specs.Result.{value};

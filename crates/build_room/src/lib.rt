@@ -1,4 +1,6 @@
 // The room that a build needs, and the work area zeroed.
+#![tactic(auto)]
+
 ghost use Rattle.std.specs.Prelude.{◌≡◌, ℕ, List, length, replicate, Float};
 ghost use Rattle.pywr.specs.Numbers.{zero64};
 ghost use Rattle.pywr.specs.Store.{Store};

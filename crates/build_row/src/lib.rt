@@ -1,4 +1,6 @@
 // One row gathered (RowBuilder of builder.rs): its columns rise in an array, its elements lie in the same order in the lent run of elements.
+#![tactic(auto)]
+
 ghost use Rattle.std.specs.Prelude.{◌≡◌, ◌<◌, ◌≤◌, length};
 ghost use Rattle.layout.specs.Layout.{column_ceiling};
 ghost use Rattle.build_row.specs.RowBuilder.{Rising, Place, insert_at, ElementAdded};

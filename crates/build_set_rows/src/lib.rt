@@ -1,4 +1,6 @@
 // The fixed rows of an exclusive constant node (SolverBuilder::create_node_constraints of builder.rs).
+#![tactic(auto)]
+
 ghost use Rattle.std.specs.Prelude.{◌≡◌, ◌<◌, ◌≤◌, List, [], ◌∷◌, ◌++◌, length};
 ghost use Rattle.layout.specs.Layout.{set_ceiling, column_ceiling, words_length, numbers_length};
 ghost use Rattle.pywr.specs.Numbers.{zero64, high};

@@ -1,4 +1,6 @@
 // The build: a network file's programme written into a lent store (SolverBuilder::create of builder.rs).
+#![tactic(auto)]
+
 ghost use Rattle.pywr.specs.Calls.{AfterBuild};
 
 use build_rows::Assembled;

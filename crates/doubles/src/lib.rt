@@ -1,1 +1,2 @@
 // Laws on doubles, cited by the proofs of the other crates. No code.
+#![tactic(auto)]

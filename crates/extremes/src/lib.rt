@@ -1,4 +1,6 @@
 // The smaller and the larger of two doubles, the first where they are equal.
+#![tactic(auto)]
+
 ghost use Rattle.std.specs.Prelude.{◌≡◌};
 ghost use Rattle.pywr.specs.Numbers.{lesser, greater};
 

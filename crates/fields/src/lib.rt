@@ -1,4 +1,6 @@
 // The fields of a record: little-endian numbers and bit patterns, doubles, and each field of the network file with its refusal.
+#![tactic(auto)]
+
 ghost use Rattle.std.specs.Prelude.{◌≡◌, ◌+◌, ◌*◌, ◌<◌, ◌≤◌, length};
 ghost use Rattle.pywr.specs.Bytes.{le16, le32, le64, within};
 ghost use Rattle.pywr.specs.NetworkFile.{active_fits};

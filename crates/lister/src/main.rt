@@ -1,5 +1,7 @@
 // lister [FILE]: reads a network from FILE, or from standard input, and lists its programme, or the refusal, on standard output.
 // What goes wrong is said on standard error, with nothing on standard output but what was written before: the program has no exit status.
+#![tactic(auto)]
+
 use libc::{STDERR_FILENO, STDIN_FILENO, STDOUT_FILENO};
 use program_words::{asks_help, is_option};
 use pywr::Sentinel;

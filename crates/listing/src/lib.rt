@@ -2,6 +2,8 @@
 // What stands in each line is proved, in `listing_lines` and `listing_stored`; the functions here answer how many bytes the text has that they hand to
 // standard output. That the bytes go out is not stated: output is outside the logic. Where a write fails the answer says so, the rest is not
 // written, and errno says why.
+#![tactic(auto)]
+
 ghost use Rattle.std.specs.Prelude.{◌≡◌, ◌+◌, ◌<◌, ◌≤◌, ◌^◌, min, length};
 ghost use Rattle.layout.specs.Layout.{edge_columns_in, sets_in};
 ghost use Rattle.pywr.specs.Store.{Store};

@@ -1,4 +1,6 @@
 // The fields of a listing's lines, each put into a buffer that the caller lends. Doubles are the sixteen digits of their bits, all else is decimal.
+#![tactic(auto)]
+
 ghost use Rattle.std.specs.Prelude.{◌≡◌, ◌+◌, ◌≤◌, length};
 ghost use Rattle.std.specs.Float.{binary64};
 ghost use Rattle.std.specs.Float.Ieee.{to_bits};

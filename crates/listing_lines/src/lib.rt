@@ -1,4 +1,6 @@
 // The lines of a listing, each put into a buffer that the caller lends.
+#![tactic(auto)]
+
 ghost use Rattle.std.specs.Prelude.{◌≡◌, ◌+◌, ◌≤◌, length};
 ghost use Rattle.listing_fields.specs.Fields.{PutWithin};
 ghost use Rattle.listing_lines.specs.Lines.{line_room, to_maker, kind_letter, varying_flag, programme_line, column_line, maker_fields, row_line, element_line, refusal_line, step_line};

@@ -1,6 +1,8 @@
 // The rows of a store written on standard output by their makers, in words, one row a line.
 // What stands in each line is proved, and how many bytes the lines have together. That the bytes go out is not stated: output is outside the logic.
 // Where a write fails the answer says so, the rest is not written, and errno says why.
+#![tactic(auto)]
+
 ghost use Rattle.std.specs.Prelude.{◌≡◌, ◌+◌, ◌<◌, ◌≤◌, ◌^◌, length};
 ghost use Rattle.pywr.specs.Store.{Store, row_count, row_maker};
 ghost use Rattle.text.specs.Text.{Put};

@@ -2,6 +2,8 @@
 // What stands in each line is proved, in `listing_lines` and `listing_stored`, and how many bytes the lines have together, here.
 // That the bytes go out is not stated: output is outside the logic. `written` says whether standard output took all that it was handed so far; where a
 // write failed, nothing more is written, and errno says why.
+#![tactic(auto)]
+
 ghost use Rattle.std.specs.Prelude.{◌≡◌, false, ◌+◌, ◌-◌, ◌*◌, ◌<◌, ◌≤◌, ◌^◌, min, length, get_or};
 ghost use Rattle.std.proofs.Math.Seq.{slice};
 ghost use Rattle.layout.specs.Layout.{varying_in, fixed_in};

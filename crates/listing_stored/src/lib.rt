@@ -1,4 +1,6 @@
 // The lines of what a store holds: its counts, a column, a row; and who made a row.
+#![tactic(auto)]
+
 ghost use Rattle.std.specs.Prelude.{◌≡◌, ◌+◌, ◌<◌, ◌≤◌, ◌^◌, length, get_or};
 ghost use Rattle.layout.specs.Layout.{varying_in, fixed_in};
 ghost use Rattle.pywr.specs.Store.{Store, column_count, row_count, varying_count, elements_kept, row_maker};

@@ -1,6 +1,8 @@
 // namer [FILE [ROW]]: reads a network from FILE, or from standard input, and names each row of its programme, or ROW alone, by who made it, on standard output.
 // A network that is refused gets its line N, and so does a ROW that the programme has not.
 // What goes wrong is said on standard error, with nothing on standard output but what was written before: the program has no exit status.
+#![tactic(auto)]
+
 use libc::{STDERR_FILENO, STDIN_FILENO, STDOUT_FILENO};
 use listing::Output;
 use program_store::Runs;

@@ -1,4 +1,6 @@
 // The network file: read once from the first record to the last, with its refusal or its counts.
+#![tactic(auto)]
+
 ghost use Rattle.std.specs.Prelude.{◌≡◌, ◌<◌, length};
 ghost use Rattle.pywr.specs.NetworkFile.{read_records, parse_network};
 ghost use Rattle.network.specs.Loaded.{start, result_of, Placed};

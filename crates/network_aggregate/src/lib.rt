@@ -1,4 +1,6 @@
 // An aggregated node of the network file: the check of its `AG` record, and its fields.
+#![tactic(auto)]
+
 ghost use Rattle.std.specs.Prelude.{◌≡◌, ◌+◌, ◌<◌, ◌≤◌, ◌^◌, length};
 ghost use Rattle.pywr.specs.Bytes.{byte, le16};
 ghost use Rattle.fields.specs.Field.{NextWithin};

@@ -1,4 +1,6 @@
 // An edge of the network file: the check of its `ED` record, and its ends by index.
+#![tactic(auto)]
+
 ghost use Rattle.std.specs.Prelude.{◌≡◌, ◌+◌, ◌*◌, ◌<◌, ◌≤◌, ◌^◌, length};
 ghost use Rattle.fields.specs.Field.{NextWithin};
 ghost use Rattle.network_node.specs.Node.{node_length, node_place};

@@ -1,4 +1,6 @@
 // A node of the network file: the check of its `ND` record, and its fields by index.
+#![tactic(auto)]
+
 ghost use Rattle.std.specs.Prelude.{◌≡◌, true, ◌+◌, ◌<◌, ◌≤◌, ◌^◌, length};
 ghost use Rattle.pywr.specs.Bytes.{le64};
 ghost use Rattle.pywr.specs.Numbers.{is_flow};

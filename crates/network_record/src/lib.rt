@@ -1,4 +1,6 @@
 // One record of the network file, behind the records before it: its mark, its count, its check.
+#![tactic(auto)]
+
 ghost use Rattle.std.specs.Prelude.{◌≡◌, ◌+◌, ◌<◌, ◌≤◌, length};
 ghost use Rattle.layout.specs.Layout.{node_ceiling};
 ghost use Rattle.fields.specs.Field.{NextWithin};

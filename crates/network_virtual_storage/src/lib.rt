@@ -1,4 +1,6 @@
 // A virtual storage of the network file: the check of its `VS` record, and its fields.
+#![tactic(auto)]
+
 ghost use Rattle.std.specs.Prelude.{◌≡◌, true, ◌+◌, ◌<◌, ◌≤◌, length};
 ghost use Rattle.pywr.specs.Bytes.{byte, le64};
 ghost use Rattle.pywr.specs.Numbers.{is_small};

@@ -1,4 +1,6 @@
 // The nine runs of a store as one value, for a program that holds one store: the build, the step, the listing and the rows' makers over it.
+#![tactic(auto)]
+
 ghost use Rattle.std.specs.Prelude.{◌≡◌, length};
 ghost use Rattle.pywr.specs.Cases.{blank};
 ghost use Rattle.pywr.specs.Store.{row_count};

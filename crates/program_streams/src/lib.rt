@@ -1,5 +1,7 @@
 // Bytes written whole, and files read whole: a call that moves a part is followed by one for the rest, one that a signal
 // interrupts is made again, and a failure is told apart from the end of a file. After a failure errno says why, and `os::fail` tells it.
+#![tactic(auto)]
+
 ghost use Rattle.std.specs.Prelude.{◌≡◌, true, ◌≤◌, length};
 
 // How often a call is made again that signals interrupt.

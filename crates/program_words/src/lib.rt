@@ -1,4 +1,6 @@
 // The words that a program is started with: what they ask for, and a number among them.
+#![tactic(auto)]
+
 ghost use Rattle.std.specs.Prelude.{◌≡◌, true};
 ghost use Rattle.program_words.specs.Words.{AsksHelp, is_option, number_in};
 

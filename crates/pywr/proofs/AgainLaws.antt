@@ -166,6 +166,7 @@ module _ (w : Sentinel) (e : ℕ) where
           → over_node_rows reset_of ns (adjust (reset_of m) m.row (change n h rows)) ≡ over_node_rows reset_of ns (adjust (reset_of m) m.row rows)
       go (inl q) ih = ap (over_node_rows reset_of ns) (q rows)
       go (inr q) ih = ap (over_node_rows reset_of ns) (q rows) ∙ ih (adjust (reset_of m) m.row rows)
+  binary_forgets n h b [] x' rows = elim x' [ ]
 
 -- ---- bounds are set past a coefficient
 
@@ -336,6 +337,10 @@ same_self (x ∷ xs) = SameColumns.more refl (same_self xs)
 same_then : (a b c : List Row) → SameColumns a b → SameColumns b c → SameColumns a c
 same_then [] [] [] SameColumns.none SameColumns.none = SameColumns.none
 same_then (x ∷ xs) (y ∷ ys) (z ∷ zs) (SameColumns.more p ps) (SameColumns.more q qs) = SameColumns.more (p ∙ q) (same_then xs ys zs ps qs)
+same_then [] [] (z ∷ zs) _ x7 = elim x7 [ ]
+same_then [] (y ∷ ys) c x5 _ = elim x5 [ ]
+same_then (x ∷ xs) [] c x6 _ = elim x6 [ ]
+same_then (x ∷ xs) (y ∷ ys) [] _ x10 = elim x10 [ ]
 
 adjust_columns : (g : Row → Row) → ((x : Row) → columns_in (g x) ≡ columns_in x) → (r : ℕ) (rows : List Row) → SameColumns (adjust g r rows) rows
 unfolding adjust

@@ -283,6 +283,7 @@ module _ (w : Sentinel) (e : ℕ) (is : List Interval) (p c : ℕ) (es : List El
           (λ t. ih (adjust (resets n) n.row rows) fresh
           (adjust_at (resets n) n.row p rows y a at ∙ some_is (reset_fresh n y t (on n (Memᴰ.head refl) t a) h)) fresh_same)
           (λ t. ih (adjust (resets n) n.row rows) y (adjust_at (resets n) n.row p rows y a at ∙ some_is (reset_none w n.row_type (e + n.set) y t)) h)
+  reset_at [] on m x6 b q rows y at h = elim x6 [ ]
 
   -- what stands on c after the coefficients, v before: the smallest of them all
   record Least (ns : List NodeRow) (v least : Float) : Type 0 where
@@ -596,6 +597,7 @@ module _ (w : Sentinel) (e : ℕ) where
           → HoldsAt OwnZeroToHigh (reset_of w e) ns next m.row
       go (no a) ih = ih x (adjust_apart (reset_of w e n) n.row m.row rows a ∙ at)
       go (yes a) ih = ih (reset_of w e n x) (adjust_at (reset_of w e n) n.row m.row rows x a at)
+  resets_zero_to_high [] m x5 b rows x at = elim x5 [ ]
 
 pub binary_bounds : (w : Sentinel) (shape : Shape) (i : Intervals) (rows : List Row) (n : NodeRow) → Memᴰ n shape.node_rows → Binary n
     → (x : Row) → get_elem? (step_rows w shape i rows) n.row ≡ some x → own x ≡ zero_to_high w

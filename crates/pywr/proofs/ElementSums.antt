@@ -68,6 +68,7 @@ absent column (e ∷ es) apart = other column e es (apart e (Memᴰ.head refl)) 
 rising_least : (n least : ℕ) (row : List Element) → Rising n least row → (e : Element) → Memᴰ e row → least ≤ e.column
 rising_least n least (x ∷ xs) (Rising.more a b r) e (Memᴰ.head q) = subst (λ (y : Element). least ≤ y.column) (sym q) a
 rising_least n least (x ∷ xs) (Rising.more a b r) e (Memᴰ.tail m) = let h = rising_least n (x.column + 1) xs r e m in omega arith
+rising_least n least [] _ e x3 = elim x3 [ ]
 
 pub rising_under : (n least : ℕ) (row : List Element) → Rising n least row → Under n row
 rising_under n least [] Rising.none = Under.none
@@ -85,6 +86,7 @@ alone n least (x ∷ xs) (Rising.more a b r) e (Memᴰ.head q) =
     ∙ ap (λ (y : Element). exact y.value) (sym q)
 alone n least (x ∷ xs) (Rising.more a b r) e (Memᴰ.tail m) =
     other e.column x xs (λ same. let h = rising_least n (x.column + 1) xs r e m in absurd (omega arith)) ∙ alone n (x.column + 1) xs r e m
+alone n least [] _ e x3 = elim x3 [ ]
 
 -- rows of the same columns rise alike
 pub rising_alike : (n least : ℕ) (a b : List Element) → cols a ≡ cols b → Rising n least b → Rising n least a
@@ -98,6 +100,7 @@ rising_alike n least (x ∷ xs) (y ∷ ys) e (Rising.more a b r) =
 upto_finite : {g b : ℕ} (row : List Element) → AllUpto g b row → (e : Element) → Memᴰ e row → is_finite e.value ≡ true
 upto_finite (x ∷ xs) (AllUpto.more u us) e (Memᴰ.head q) = ap (λ (y : Element). is_finite y.value) q ∙ finite_is x.value ∙ to_true _ u.grain.is_finite
 upto_finite (x ∷ xs) (AllUpto.more u us) e (Memᴰ.tail m) = upto_finite xs us e m
+upto_finite {g = g} {b = b} [] _ e x3 = elim x3 [ ]
 
 -- ---- a virtual storage's row, and every row that counts as it
 

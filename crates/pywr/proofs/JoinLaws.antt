@@ -151,11 +151,15 @@ placed_later rows (a ∷ as') (p ∷ ps) r (more h e rest) =
     let l = length-append rows (r ∷ []) in
     let k : p < length (rows ++ (r ∷ [])) = omega arith in
     more k (subst (λ (row : List Element). Alike row a) (sym (get_or-append rows (r ∷ []) [] p h)) e) (placed_later rows as' ps r rest)
+placed_later rows [] (p ∷ ps) r x'' = elim x'' [ ]
+placed_later rows (a ∷ as') [] r x3 = elim x3 [ ]
 
 placed_snoc : (rows asked : List (List Element)) (ps : List ℕ) (r : List Element) (p : ℕ) → Placed rows asked ps → p < length rows → Alike (get_or rows p []) r
     → Placed rows (asked ++ (r ∷ [])) (ps ++ (p ∷ []))
 placed_snoc rows [] [] r p none h e = more h e none
 placed_snoc rows (a ∷ as') (q ∷ ps) r p (more k e' rest) h e = more k e' (placed_snoc rows as' ps r p rest h e)
+placed_snoc rows [] (q ∷ ps) r p x6 h e = elim x6 [ ]
+placed_snoc rows (a ∷ as') [] r p x5 h e = elim x5 [ ]
 
 -- what the join keeps
 pub record JoinKept (asked : List (List Element)) (j : Joined) : Type 0 where
@@ -210,7 +214,11 @@ placed_stays asked ps (r ∷ rs) j p = placed_stays asked ps rs (add_variable_ro
 pub placed_length : (rows asked : List (List Element)) (ps : List ℕ) → Placed rows asked ps → length asked ≡ length ps
 placed_length rows [] [] none = refl
 placed_length rows (r ∷ rs) (p ∷ ps) (more h e rest) = ap suc (placed_length rows rs ps rest)
+placed_length rows [] (p ∷ ps) x'' = elim x'' [ ]
+placed_length rows (r ∷ rs) [] x3 = elim x3 [ ]
 
 pub places_under : (rows asked : List (List Element)) (ps : List ℕ) → Placed rows asked ps → AllMem (λ (p : ℕ). p < length rows) ps
 places_under rows [] [] none = all_none (λ (p : ℕ). p < length rows)
 places_under rows (r ∷ rs) (p ∷ ps) (more h e rest) = all_cons (λ (q : ℕ). q < length rows) p ps h (places_under rows rs ps rest)
+places_under rows [] (p ∷ ps) x'' = elim x'' [ ]
+places_under rows (r ∷ rs) [] x3 = elim x3 [ ]

@@ -96,6 +96,8 @@ placed_at : (rows wanted : List (List Element)) (ps : List ℕ) → Placed rows 
 placed_at rows [] [] Placed.none n r e = not_found r e
 placed_at rows (x ∷ xs) (p ∷ ps) (Placed.more h a rest) zero r e = (p, refl, h, subst (Alike (get_or rows p [])) (same_some x r e) a)
 placed_at rows (x ∷ xs) (p ∷ ps) (Placed.more h a rest) (suc n) r e = placed_at rows xs ps rest n r e
+placed_at rows [] (p ∷ ps) x4 n r e = elim x4 [ ]
+placed_at rows (x ∷ xs) [] x5 n r e = elim x5 [ ]
 
 -- ---- the store
 

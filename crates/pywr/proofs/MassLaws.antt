@@ -46,6 +46,7 @@ added c x (e ∷ es) = add_cases c x e es (HasColumn c) (λ h. here refl) (λ h.
 still : (c d : ℕ) (x : Float) (row : List Element) → HasColumn c row → HasColumn c (add_element d x row)
 still c d x (e ∷ es) (here q) = add_cases d x e es (HasColumn c) (λ h. there (here q)) (λ h. here (h ∙ q)) (λ h. here q)
 still c d x (e ∷ es) (there h) = add_cases d x e es (HasColumn c) (λ l. there (there h)) (λ l. there h) (λ l. there (still c d x es h))
+still c d x [] x'' = elim x'' [ ]
 
 still_on : (c : ℕ) (cs : List ℕ) (x : Float) (row : List Element) → HasColumn c row → HasColumn c (add_on cs x row)
 unfolding add_on
@@ -65,6 +66,9 @@ added_on c (d ∷ cs) x row m = go (λ k. added_on c cs x (add_element d x row) 
 alone : (row : List Element) (a b : ℕ) → length row ≡ 1 → HasColumn a row → HasColumn b row → a ≡ b
 alone (e ∷ []) a b l (here p) (here q) = sym p ∙ q
 alone (e ∷ d ∷ es) a b l h k = let z : suc (suc (length es)) ≡ 1 = l in absurd (omega arith)
+alone [] a b l h k = elim h [ ]
+alone (e ∷ []) a b l (here p) (there x16) = elim x16 [ ]
+alone (e ∷ []) a b l (there x16) k = elim x16 [ ]
 
 -- ---- pipes
 

@@ -219,22 +219,30 @@ same_size x y e = sym (columns_length x) ∙ ap length e ∙ columns_length y
 pub same_length : (xs ys : List Row) → SameColumns xs ys → length xs ≡ length ys
 same_length [] [] none = refl
 same_length (x ∷ xs) (y ∷ ys) (more e s) = ap suc (same_length xs ys s)
+same_length [] (y ∷ ys) x'' = elim x'' [ ]
+same_length (x ∷ xs) [] x4 = elim x4 [ ]
 
 same_columns : (xs ys : List Row) → SameColumns xs ys → flat_map columns_in xs ≡ flat_map columns_in ys
 unfolding flat_map
 same_columns [] [] none = refl
 same_columns (x ∷ xs) (y ∷ ys) (more e s) = ap₂ (λ a b. a ++ b) e (same_columns xs ys s)
+same_columns [] (y ∷ ys) x'' = elim x'' [ ]
+same_columns (x ∷ xs) [] x4 = elim x4 [ ]
 
 same_count : (xs ys : List Row) → SameColumns xs ys → element_count xs ≡ element_count ys
 unfolding element_count
 same_count [] [] none = refl
 same_count (x ∷ xs) (y ∷ ys) (more e s) = ap₂ (λ (a b : ℕ). a + b) (same_size x y e) (same_count xs ys s)
+same_count [] (y ∷ ys) x'' = elim x'' [ ]
+same_count (x ∷ xs) [] x4 = elim x4 [ ]
 
 same_starts : (xs ys f : List Row) (at : ℕ) → SameColumns xs ys → starts_from at (xs ++ f) ≡ starts_from at (ys ++ f)
 unfolding starts_from
 same_starts [] [] f at none = refl
 same_starts (x ∷ xs) (y ∷ ys) f at (more e s) =
     ap (λ (l : List ℕ). at ∷ l) (same_starts xs ys f (at + length x.elements) s ∙ ap (λ (n : ℕ). starts_from (at + n) (ys ++ f)) (same_size x y e))
+same_starts [] (y ∷ ys) f at x'' = elim x'' [ ]
+same_starts (x ∷ xs) [] f at x4 = elim x4 [ ]
 
 -- both halves held, where the first was stored anew
 anew : {A : Type 0} (d : A) (run new old rest : List A) → length new ≡ length old → length new ≤ length run → Holds d run 0 (old ++ rest) → Holds d (sets run 0 new) 0 (new ++ rest)

@@ -148,6 +148,8 @@ module _ (w : Sentinel) (f : ColumnMap) (plan : Plan) where
             ((q.0, applied_same (sums next) (sums rows) same rs is p.0), q.1),
         λ k. ih.1 (applied_same (sums rows) (sums next) (λ j. sym (same j)) rs is k.0.1, one.1 (k.0.0, k.1)),
       )
+  apply_met [] (i ∷ is) rows x4 ss n = elim x4 [ ]
+  apply_met (r ∷ rs) [] rows x4 ss n = elim x4 [ ]
 
 -- ---- the reset: both sentinels bind nothing
 

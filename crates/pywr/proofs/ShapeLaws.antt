@@ -236,6 +236,7 @@ module _ (net : Network) (sound : Sound net) where
   column_mem : (c : ℕ) (row : List Element) → HasColumn c row → Memᴰ c (cols row)
   column_mem c (e ∷ es) (HasColumn.here q) = Memᴰ.head (sym q)
   column_mem c (e ∷ es) (HasColumn.there h) = Memᴰ.tail (column_mem c es h)
+  column_mem c [] x' = elim x' [ ]
 
   exclusive_requests_ok : (n : ℕ) → n < length net.nodes → (ks : List ℕ) → AllMem (λ (k : ℕ). k < sets) ks → Every AskOk (exclusive_requests f n ks)
   unfolding exclusive_requests upper_row lower_row column_map

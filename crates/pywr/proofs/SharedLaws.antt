@@ -148,6 +148,8 @@ placed_from joined (r ∷ rs) (p ∷ ps) (Placed.more u k rest) q m = go (placed
     go : (Memᴰ q ps → AskedAt joined rs q) → (q ≡ p) ⊎ Memᴰ q ps → AskedAt joined (r ∷ rs) q
     go ih (inl e) = (r, Memᴰ.head refl, subst (λ (j : ℕ). Alike (get_or joined j []) r) (sym e) k)
     go ih (inr j) = let s = ih j in (s.0, Memᴰ.tail s.1, s.2)
+placed_from joined [] (p ∷ ps) x4 q m = elim x4 [ ]
+placed_from joined (r ∷ rs) [] x4 q m = elim x4 [ ]
 
 -- a continuous node row whose row is q
 abbrev ContinuousAt : List NodeRow → ℕ → Type 0

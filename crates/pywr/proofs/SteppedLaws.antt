@@ -76,6 +76,7 @@ continuous_placed joined (a ∷ wanted) (p ∷ ps) (Placed.more u k rest) = go (
         (node_places_lem (keep_if (not b) (placed_row a p) (continuous_rows (placed_node_rows wanted ps))))
     go true ih = ih
     go false ih = Placed.more u k ih
+continuous_placed joined (a ∷ wanted) [] h = elim h [ ]
 
 module _ (w : Sentinel) (joined : List (List Element)) where
   fit_nodes : (is : List Interval) → AllMem IsInterval is → (rows : List NodeRow) (wanted : List (List Element)) → Placed joined wanted (node_places_lem rows)
@@ -83,6 +84,8 @@ module _ (w : Sentinel) (joined : List (List Element)) where
   unfolding node_places_lem node_intervals_lem
   fit_nodes is ok [] [] Placed.none = Fitting.none
   fit_nodes is ok (n ∷ ns) (r ∷ rs) (Placed.more h e rest) = Fitting.more h (at_interval w is n.node ok) (fit_nodes is ok ns rs rest)
+  fit_nodes is ok [] (r ∷ rs) x'' = elim x'' [ ]
+  fit_nodes is ok (n ∷ ns) [] x3 = elim x3 [ ]
 
   fit_places : (ps : List ℕ) (is : List Interval) (wanted : List (List Element)) → Placed joined wanted ps → length is ≡ length ps → AllMem IsInterval is → Fitting (length joined) ps is
   fit_places [] [] [] Placed.none l ok = Fitting.none
@@ -91,6 +94,10 @@ module _ (w : Sentinel) (joined : List (List Element)) where
   fit_places (p ∷ ps) (i ∷ is) (r ∷ rs) (Placed.more h e rest) l ok =
       Fitting.more h (ok i (Memᴰ.head refl))
       (fit_places ps is rs rest (let z : suc (length is) ≡ suc (length ps) = l in omega arith) (λ x m. ok x (Memᴰ.tail m)))
+  fit_places [] [] (r ∷ rs) x9 l ok = elim x9 [ ]
+  fit_places [] (i ∷ is) (r ∷ rs) x8 l ok = elim x8 [ ]
+  fit_places (p ∷ ps) [] [] x6 l ok = elim x6 [ ]
+  fit_places (p ∷ ps) (i ∷ is) [] x7 l ok = elim x7 [ ]
 
 module _ (w : Sentinel) (f : ColumnMap) (plan : Plan) where
   pub asked_at : {A : Type 0} (row : A → List Element) (xs : List A) (is : List Interval) → length xs ≡ length is

@@ -84,6 +84,8 @@ module _ (w : Sentinel) (f : ColumnMap) (plan : Plan) where
       let ih = applied_asked rows sum e rs ps is rest in
       let s : sum p ≡ row_sum f plan r = e p h ∙ alike_row_sum f plan q in
       (λ k. (subst (λ (v : ℤ). T (meets w i v)) s k.0, ih.0 k.1), λ k. (subst (λ (v : ℤ). T (meets w i v)) (sym s) k.0, ih.1 k.1))
+  applied_asked rows sum e [] (p ∷ ps) is x'' = elim x'' [ ]
+  applied_asked rows sum e (r ∷ rs) [] is x3 = elim x3 [ ]
 
 -- ---- what a run of intervals leaves alone
 
@@ -103,6 +105,8 @@ apply_sane : (n : ℕ) (rs : List ℕ) (is : List Interval) (rows : List Row) �
 unfolding apply_intervals
 apply_sane n [] [] rows Fitting.none s = s
 apply_sane n (r ∷ rs) (i ∷ is) rows (Fitting.more h ii fs) s = apply_sane n rs is (adjust (apply_row_bounds i) r rows) fs (adjust_sane i ii r rows s)
+apply_sane n [] (i ∷ is) rows x4 s = elim x4 [ ]
+apply_sane n (r ∷ rs) [] rows x4 s = elim x4 [ ]
 
 pub adjust_apart : (g : Row → Row) (r p : ℕ) (rows : List Row) → ¬ (r ≡ p) → get_elem? (adjust g r rows) p ≡ get_elem? rows p
 unfolding adjust

@@ -139,6 +139,7 @@ module _ (net : Network) (sound : Sound net) (rows : List (List Element)) where
           → (a.row_type ≡ continuous) ⊎ ((a.set < length (exclusive_sets net)) × Memᴰ ((columns net).count + a.set) (cols (get_or rows p [])))
       moved (inl q) = inl q
       moved (inr q) = inr (q.0, subst (λ (l : List ℕ). Memᴰ ((columns net).count + a.set) l) (sym (alike_columns e)) q.1)
+  node_rows_ok_lem (a ∷ wanted) [] s h = elim s [ ]
 
 virtual_storages_under : (n : ℕ) (vs : List VirtualStorage) (ps : List ℕ) → AllMem (λ (p : ℕ). p < n) ps → AllMem (λ (v : VirtualStorageShape). v.row < n) (placed_virtual_storages vs ps)
 unfolding placed_virtual_storages

@@ -1,4 +1,6 @@
 // The types of the port, named after the Rust's, and the answers of its public calls.
+#![tactic(auto)]
+
 ghost use Rattle.std.specs.Prelude.{◌≡◌};
 ghost use Rattle.pywr.specs.Numbers.{high, low};
 

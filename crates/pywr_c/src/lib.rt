@@ -1,4 +1,6 @@
 // What C and Rust programs call. A slice crosses as a pointer and a length, an answer as its numbers.
+#![tactic(auto)]
+
 ghost use Rattle.pywr_c_answers.specs.Crossing.{picked, BuildCrossed, StepCrossed, RowCrossed};
 
 use pywr_c_answers::{Refusal, RowPart, part_of, refusal_of, sentinel};

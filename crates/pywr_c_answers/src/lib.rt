@@ -1,4 +1,6 @@
 // How the answers of the calls cross to C and Rust: each as its numbers.
+#![tactic(auto)]
+
 ghost use Rattle.std.specs.Prelude.{◌≡◌};
 ghost use Rattle.pywr.specs.Answers.{number_of, place_of, row_number_of, row_place_of};
 ghost use Rattle.pywr_c_answers.specs.Crossing.{picked, Rises, part_start, part_length};

@@ -1,4 +1,6 @@
 // The aggregates' intervals of a step, written into the lent work run. They are not compared.
+#![tactic(auto)]
+
 ghost use Rattle.std.specs.Prelude.{◌≤◌, length};
 ghost use Rattle.layout.specs.Layout.{node_ceiling, aggregate_ceiling, shape_length, nodes_in, aggregates_in, aggregates_held_at, step_work_length};
 ghost use Rattle.step_file.specs.Decoded.{virtual_storage_steps_at};

@@ -1,4 +1,6 @@
 // Bounds of nodes and of virtual storages, and the interval that they are over the days of a step (node.rs, virtual_storage.rs).
+#![tactic(auto)]
+
 ghost use Rattle.std.specs.Prelude.{◌≡◌};
 ghost use Rattle.pywr.specs.Interval.{sentinels, interval_of, storage_bounds, virtual_bounds};
 ghost use Rattle.pywr.specs.StepIntervals.{is_crossed, is_beyond};

@@ -1,4 +1,6 @@
 // The checks of a step: the room of the runs lent (16), then the store's shape and the file (17, 12 and 13, 14 and 21).
+#![tactic(auto)]
+
 ghost use Rattle.std.specs.Prelude.{◌≡◌, ◌≤◌, List, length, Float};
 ghost use Rattle.layout.specs.Layout.{element_ceiling, row_starts_length, shape_length, step_work_length};
 ghost use Rattle.pywr.specs.Store.{Store};

@@ -1,4 +1,6 @@
 // The coefficients of a step: one element of a row set or lowered (apply_updated_coefficients of builder.rs).
+#![tactic(auto)]
+
 ghost use Rattle.std.specs.Prelude.{◌≡◌, true, ◌+◌, ◌<◌, ◌≤◌, length, get_or};
 ghost use Rattle.std.proofs.Math.Seq.{slice};
 ghost use Rattle.layout.specs.Layout.{element_ceiling};

@@ -1,4 +1,6 @@
 // The fields of a step file, each read at its place; the offsets are those of step_record.
+#![tactic(auto)]
+
 ghost use Rattle.std.specs.Prelude.{◌≡◌, ◌+◌, ◌≤◌, length};
 ghost use Rattle.layout.specs.Layout.{node_ceiling, aggregate_ceiling, virtual_storage_ceiling};
 ghost use Rattle.pywr.specs.Bytes.{byte};

@@ -1,4 +1,6 @@
 // The step file: read left to right by the counts, kinds and flags of a store, or refused with 12 or 13.
+#![tactic(auto)]
+
 ghost use Rattle.std.specs.Prelude.{◌≡◌, ◌≤◌, length};
 ghost use Rattle.layout.specs.Layout.{node_ceiling, aggregate_ceiling, virtual_storage_ceiling, shape_length, nodes_in, aggregates_in, virtual_storages_in};
 ghost use Rattle.pywr.specs.Answers.{answer_of};

@@ -1,4 +1,6 @@
 // The intervals of a step, written into the lent work run, and refusals 14 and 21.
+#![tactic(auto)]
+
 ghost use Rattle.std.specs.Prelude.{◌≡◌, ◌≤◌, length};
 ghost use Rattle.layout.specs.Layout.{node_ceiling, aggregate_ceiling, virtual_storage_ceiling, node_row_ceiling, shape_length, nodes_in, node_rows_in, aggregates_in, virtual_storages_in, step_work_length};
 ghost use Rattle.pywr.specs.Store.{Store};

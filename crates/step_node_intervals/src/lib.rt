@@ -1,4 +1,6 @@
 // The nodes' intervals of a step, written into the lent work run, and refusals 14 and 21.
+#![tactic(auto)]
+
 ghost use Rattle.std.specs.Prelude.{◌≡◌, ◌+◌, ◌*◌, ◌≤◌, length};
 ghost use Rattle.layout.specs.Layout.{node_ceiling, node_row_ceiling, shape_length, nodes_at, node_width, node_row_width, nodes_in, node_rows_in, step_work_length};
 ghost use Rattle.pywr.specs.StepIntervals.{has_binary_row, bad_interval};

@@ -1,5 +1,7 @@
 // The node rows of a step, in three passes: bounds of continuous rows, then the binary rows reset, then their coefficients
 // (update_node_constraint_bounds and apply_updated_coefficients of builder.rs).
+#![tactic(auto)]
+
 ghost use Rattle.std.specs.Prelude.{◌≡◌, List, ℕ, ◌+◌, ◌*◌, ◌<◌, ◌≤◌, length, Float};
 ghost use Rattle.layout.specs.Layout.{column_ceiling, node_row_ceiling, row_ceiling, element_ceiling, shape_length, node_rows_at, node_row_width, node_rows_in, edge_columns_in, node_row_set, step_work_length};
 ghost use Rattle.pywr.specs.Store.{Store};

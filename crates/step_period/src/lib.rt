@@ -1,4 +1,6 @@
 // The active period of a virtual storage (VirtualStorageActivePeriod of virtual_storage.rs).
+#![tactic(auto)]
+
 ghost use Rattle.std.specs.Prelude.{◌≡◌, ◌+◌, ◌≤◌, length, eqb};
 ghost use Rattle.layout.specs.Layout.{virtual_storage_width};
 ghost use Rattle.pywr.specs.Period.{up_to, is_active};

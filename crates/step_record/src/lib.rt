@@ -1,4 +1,6 @@
 // The records of a step file, each checked where it stands: refusals 12 and 13 with the record's place.
+#![tactic(auto)]
+
 ghost use Rattle.std.specs.Prelude.{◌≡◌, ◌≤◌, eqb};
 ghost use Rattle.pywr.specs.Numbers.{is_days};
 ghost use Rattle.pywr.specs.StepFile.{days_in};

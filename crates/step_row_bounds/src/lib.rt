@@ -1,5 +1,7 @@
 // Row bounds of a step: varying rows reset to the sentinels, a row's bounds set or tightened by an interval (reset_row_bounds and apply_row_bounds of
 // builder.rs).
+#![tactic(auto)]
+
 ghost use Rattle.std.specs.Prelude.{◌≡◌, ◌+◌, ◌<◌, ◌≤◌, List, map, length, Float};
 ghost use Rattle.layout.specs.Layout.{row_ceiling, shape_length, sentinel_in, varying_in, entry_row, uppers_at, step_work_length};
 ghost use Rattle.pywr.specs.Interval.{tighten, sentinels};

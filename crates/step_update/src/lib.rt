@@ -1,4 +1,6 @@
 // The writing of a step whose file was judged: bounds, coefficients and costs (BuiltSolver::update of builder.rs).
+#![tactic(auto)]
+
 ghost use Rattle.step_update.specs.Updated.{CostsReady, RowsReady, CostsUpdated, RowsUpdated};
 
 // Writes the bounds and coefficients of a step's intervals, which stand in the work run, and the costs of its file, for which the work run is used

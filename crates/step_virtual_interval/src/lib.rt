@@ -1,4 +1,6 @@
 // The interval of a virtual storage on the date of a step (virtual_storage.rs).
+#![tactic(auto)]
+
 ghost use Rattle.std.specs.Prelude.{◌≡◌, ◌+◌, ◌≤◌, length};
 ghost use Rattle.layout.specs.Layout.{virtual_storage_width};
 ghost use Rattle.step_record.specs.Check.{days_offset, virtual_storage_step_length};

@@ -1,4 +1,6 @@
 // The virtual storages' intervals of a step, written into the lent work run. They are not compared: none is crossed (pywr's UncrossedLaws).
+#![tactic(auto)]
+
 ghost use Rattle.std.specs.Prelude.{◌≤◌, length};
 ghost use Rattle.layout.specs.Layout.{node_ceiling, aggregate_ceiling, virtual_storage_ceiling, shape_length, nodes_in, aggregates_in, virtual_storages_in, virtual_storages_held_at, step_work_length};
 ghost use Rattle.step_file.specs.Decoded.{file_length};

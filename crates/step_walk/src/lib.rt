@@ -1,5 +1,7 @@
 // A good step file walked once: each record is checked and its interval written into the lent work run in one look. At the first record that is not good the
 // walk stops; which refusal that is, the reading of the file (step_file) and of its intervals (step_intervals) says.
+#![tactic(auto)]
+
 ghost use Rattle.std.specs.Prelude.{◌≡◌, ◌≤◌, true, length};
 ghost use Rattle.layout.specs.Layout.{node_ceiling, aggregate_ceiling, virtual_storage_ceiling, node_row_ceiling, shape_length, nodes_in, node_rows_in, aggregates_in, virtual_storages_in};
 ghost use Rattle.layout.specs.Layout.{aggregates_held_at, virtual_storages_held_at, step_work_length};

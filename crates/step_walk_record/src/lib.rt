@@ -1,4 +1,6 @@
 // One record of a step file checked and turned into its interval in one look, in a file of the right length.
+#![tactic(auto)]
+
 ghost use Rattle.std.specs.Prelude.{◌≡◌, ◌+◌, ◌/◌, ◌%◌, ◌≤◌, eqb, length};
 ghost use Rattle.layout.specs.Layout.{virtual_storage_width};
 ghost use Rattle.pywr.specs.Bytes.{mark_is};

@@ -2,6 +2,8 @@
 // A step gets the line S with its number, from 0, and then the programme or, if it is refused, the line N: the store stays as it was.
 // Without steps the fresh build is listed; a network that is refused gets its line N alone. --finite picks the largest finite double as high
 // sentinel in place of infinity. What goes wrong is said on standard error and ends the run: the program has no exit status.
+#![tactic(auto)]
+
 ghost use Rattle.std.specs.Prelude.{◌≡◌, ◌<◌, ◌≤◌, length};
 
 use libc::{STDERR_FILENO, STDOUT_FILENO};

@@ -8,6 +8,8 @@
 //   Z 0 0   sets the whole store to zero, as it is at the start
 // A build and a step answer by the line A, or N with the refusal's number and place. The work run is lent as ones: where it is not all zero
 // after a step, the line `work` says how many of its elements are not.
+#![tactic(auto)]
+
 ghost use Rattle.std.specs.Prelude.{◌≤◌, length};
 
 use layout::{

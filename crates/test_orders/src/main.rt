@@ -1,6 +1,8 @@
 // Builds four networks, each with its edges keyed in every order. The line of an order has each edge as it is keyed, by its nodes, and its column; of
 // each mass row the link and the elements by column; and the counts of columns and mass rows. Behind these lines stands how many orders gave the same
 // counts; a refused build would count as no column. scripts/lines.py writes what must come out.
+#![tactic(auto)]
+
 ghost use Rattle.std.specs.Prelude.{◌<◌, ◌≤◌, length};
 
 use layout::{

@@ -1,5 +1,7 @@
 // Reads rows of a small store: as it stands, with each run one short, and with one word changed.
 // A line is what was changed, then the number and the place of the answer and the length of the part.
+#![tactic(auto)]
+
 ghost use Rattle.std.specs.Prelude.{◌≡◌, length};
 ghost use Rattle.layout.specs.Layout.{element_ceiling, row_starts_length, shape_length};
 

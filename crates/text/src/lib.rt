@@ -1,4 +1,6 @@
 // Text gathered in a buffer that the caller lends.
+#![tactic(auto)]
+
 ghost use Rattle.std.specs.Prelude.{◌≡◌, ◌<◌, ◌≤◌, ◌+◌, List, [], ◌∷◌, length};
 ghost use Rattle.text.specs.Text.{Put, DecimalPut, sixteen_digits};
 

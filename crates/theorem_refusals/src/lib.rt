@@ -1,1 +1,2 @@
 // Laws of the numbers with which the calls refuse. No code.
+#![tactic(auto)]
