@@ -83,7 +83,7 @@ EXPLICIT = {"setAt": "aggregate_set_at", "magIs": "mag_given", "nodeRows-ok": "n
 # Record fields and Rust's parameters of one name: a field stands behind a dot or before '=', so neither hides the other.
 FIELDS = set(
     "col_lower col_upper col_obj_coef row_lower row_upper row_starts start_day start_month end_day end_month shared_by "
-    "virtual_storages node_rows row_type row_count edge_columns".split()
+    "virtual_storages node_rows row_type row_count edge_columns virtual_storages_at".split()
 )
 # Lemmas that were in snake case already and would now have their definition's name, in these files alone.
 LEMMAS = {

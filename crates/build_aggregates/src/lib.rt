@@ -1,9 +1,7 @@
 // The rows of the aggregated nodes (SolverBuilder::create_aggregated_node_constraints of builder.rs).
-#![tactic(auto)]
-
 ghost use Rattle.std.specs.Prelude.{◌≡◌, List, [], ◌∷◌, map, ℕ, ◌+◌, ◌<◌, ◌≤◌, length};
 ghost use Rattle.std.proofs.lemmas.List.Edits.{sets};
-ghost use Rattle.layout.specs.Layout.{column_ceiling, aggregates_packed_at, aggregates_made_at, words_length, numbers_length};
+ghost use Rattle.layout.specs.Layout.{column_ceiling, aggregates_at, aggregates_made_at, words_length, numbers_length};
 ghost use Rattle.pywr.specs.Bytes.{byte, le16};
 ghost use Rattle.pywr.specs.Rows.{Element, column_map, add_nodes, aggregate_row};
 ghost use Rattle.pywr.specs.VaryingRows.{fresh_row};
@@ -21,8 +19,7 @@ ghost use Rattle.layout.specs.WorkRoom.{WorkRoom};
 use build_append::{Filled, RowsAdded};
 use build_join::VariableRow;
 use layout::{
-    AGGREGATES_PACKED_AT, COLUMN_CEILING, EDGE_CEILING, ELEMENTS_MADE_AT, NODE_CEILING,
-    SHAPE_MADE_AT,
+    AGGREGATES_AT, COLUMN_CEILING, EDGE_CEILING, ELEMENTS_MADE_AT, NODE_CEILING, SHAPE_MADE_AT,
 };
 use network_record::Counts;
 use pywr::{ColumnNumber, Sentinel};
@@ -153,10 +150,10 @@ fn add_aggregate_row(
 
 // Aggregate i of the table: its row.
 fn put_aggregate(shape: &mut [u16], i: usize, row: u16)
-    requires { aggregates_packed_at + i < length shape.old }
-    ensures { shape.new ≡ sets shape.old (aggregates_packed_at + i) (row ∷ []) }
+    requires { aggregates_at + i < length shape.old }
+    ensures { shape.new ≡ sets shape.old (aggregates_at + i) (row ∷ []) }
 {
-    shape[AGGREGATES_PACKED_AT + i] = row;
+    shape[AGGREGATES_AT + i] = row;
 }
 
 // Each aggregate asks for its row; the row's number is written to the aggregates' table.

@@ -10,7 +10,7 @@ use lib.ListN.{length, drop, replicate}
 use lib.Seq.{sets}
 use lib.Ieee.{Float}
 use borrow.Rule.Slice.PartMut.{put_mid}
-use Rattle.layout.specs.Layout.{makers_packed_at, shape_made_at, words_length}
+use Rattle.layout.specs.Layout.{makers_at, shape_made_at, words_length}
 use Rattle.laws.proofs.Tails.{tail, put_tail}
 use Rattle.pywr.specs.Numbers.{double}
 use Rattle.pywr.specs.Network.{Aggregate}
@@ -127,7 +127,7 @@ module _ (file : List ℕ) (MapIs : ColumnMap → Type 0) (start count : ℕ) (w
             (here map m rows makers held) r words₁ numbers' (added map m) g e
 
         pub aggregate_more : (shape : List ℕ) → words_length ≤ length words₁
-            → shape ≡ sets (tail shape_made_at words₁) (makers_packed_at + 3 * f.rows)
+            → shape ≡ sets (tail shape_made_at words₁) (makers_at + 3 * f.rows)
             (flat_map maker_words (replicate (g.rows - f.rows) (record { kind = by_exclusivity; index = k; shared_by = 1 })))
             → AddingAggregates file MapIs start count words₀ numbers₀ f₀ (put_tail shape_made_at words₁ shape) numbers' g (aggregate_end file at) (i + 1)
         aggregate_more shape room w =

@@ -11,7 +11,7 @@ use lib.Seq.{get_or-set_same, get_or-set_other}
 use borrow.Author.Tests.{ne_eqb}
 use Rattle.laws.proofs.Sets.{sets_snoc}
 use Rattle.laws.proofs.Tests.{to_true}
-use Rattle.layout.specs.Layout.{edge_ceiling, flow_order_packed_at}
+use Rattle.layout.specs.Layout.{edge_ceiling, flow_order_at}
 use Rattle.pywr.specs.Network.{listed}
 use Rattle.pywr.proofs.OnceLaws.{listed_append, listed_last}
 use Rattle.build_flow_order.specs.Ordered.{Ordered, Marked, unseen}
@@ -64,10 +64,10 @@ listed_other x e order f = listed_append x order (e ∷ []) ∙ rw (ne_eqb x e f
     or_no false = refl
 
 pub one_ordered : (edges e count : ℕ) (shape₀ order shape : List ℕ) (seen : List Bool) → Ordered edges shape₀ order shape seen count → e < length seen
-    → Ordered edges shape₀ (order ++ e ∷ []) (set shape (flow_order_packed_at + count) e) (set seen e true) (count + 1)
+    → Ordered edges shape₀ (order ++ e ∷ []) (set shape (flow_order_at + count) e) (set seen e true) (count + 1)
 one_ordered edges e count shape₀ order shape seen h i =
     record {
-      written = rw (h.written, h.count_is) (sym (sets_snoc shape₀ flow_order_packed_at order e));
+      written = rw (h.written, h.count_is) (sym (sets_snoc shape₀ flow_order_at order e));
       count_is = omega (arith, h.count_is, length-append order (e ∷ []));
       seen_is = λ x lt. go x lt (ℕ_discrete x e);
     }

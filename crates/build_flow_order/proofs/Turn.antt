@@ -7,7 +7,7 @@ use mathlib.Core.Bool.{Bool, true, false}
 use mathlib.Core.Option.{Option, none, some}
 use native.Mathlib.Omega.{arith}
 use lib.ListN.{length, get_or, set, length-set}
-use Rattle.layout.specs.Layout.{flow_order_packed_at}
+use Rattle.layout.specs.Layout.{flow_order_at}
 use Rattle.laws.specs.Linked.{Linked}
 use Rattle.pywr.specs.Bytes.{byte, le16}
 use Rattle.pywr.specs.Network.{Network, listed}
@@ -67,11 +67,11 @@ module _ (net : Network) where
           rw all h.held
 
       pub follows : (next' : ℕ) → get_or seen e false ≡ false → e < length seen → count < edges → next' ≡ code (next_edge net (edge_numbered net e))
-          → Following edges whole shape₀ (set shape (flow_order_packed_at + count) e) (set seen e true) (count + 1) next'
+          → Following edges whole shape₀ (set shape (flow_order_at + count) e) (set seen e true) (count + 1) next'
       follows next' z i few n = go h.most h.enough at_edge
         where
           go : (most : ℕ) → edges ≤ most + count → whole ≡ follow net most (some e) h.order
-              → Following edges whole shape₀ (set shape (flow_order_packed_at + count) e) (set seen e true) (count + 1) next'
+              → Following edges whole shape₀ (set shape (flow_order_at + count) e) (set seen e true) (count + 1) next'
           go zero enough r = absurd (omega arith)
           go (suc most) enough r =
               record {
@@ -115,7 +115,7 @@ module _ (file : List ℕ) (nodes edges : ℕ) where
         → (e to next' : ℕ) → next ≢ 0 → e ≡ next - 1 → get_or seen e false ≡ false → to ≡ le16 file (20 * nodes + 6 * (next - 1) + 4)
         → ((size : ℕ) (into out : List ℕ) → Linked size next_out (get_or first_out to 0) into → Linked size next_in (get_or first_in to 0) out
         → next' ≡ code (shares_across (byte file (20 * to + 2)) into out))
-        → FollowedTo seen₀ shape₀ count₀ next₀ (set seen e true) (set shape (flow_order_packed_at + count) (next - 1)) (count + 1) next'
+        → FollowedTo seen₀ shape₀ count₀ next₀ (set seen e true) (set shape (flow_order_at + count) (next - 1)) (count + 1) next'
     one_followed lists e to next' f i z t r =
         let lt : e < edges = omega (arith, h.under) in
         let last : next ≡ suc e = omega arith in
@@ -126,7 +126,7 @@ module _ (file : List ℕ) (nodes edges : ℕ) where
         (record {
           under = next_most file nodes edges e next' n;
           marked = one_marked h.marked lists.few_edges lt z;
-          long = length-set shape (flow_order_packed_at + count) e ∙ h.long;
+          long = length-set shape (flow_order_at + count) e ∙ h.long;
           following = λ start a v base order q o.
               follows (net a v) (h.following start a v base order q o) e last lt next' z (omega (arith, h.marked.long, lists.few_edges)) few (n a v);
         })

@@ -1,7 +1,7 @@
 -- What the flow order is made from, and how much of it stands in the runs. Assumes nothing.
 use Rattle.std.specs.Prelude.{ℕ, zero, suc, ◌+◌, ◌<◌, ◌≤◌, ◌≡◌, List, [], ◌∷◌, Bool, true, false, length, get_or}
 use Rattle.std.proofs.lemmas.List.Edits.{sets}
-use Rattle.layout.specs.Layout.{node_ceiling, edge_ceiling, flow_order_packed_at}
+use Rattle.layout.specs.Layout.{node_ceiling, edge_ceiling, flow_order_at}
 use Rattle.pywr.specs.Bytes.{le16}
 use Rattle.pywr.specs.Network.{source, target, listed}
 use Rattle.network_edge.specs.Edge.{from_offset, to_offset, edge_place}
@@ -19,7 +19,7 @@ pub record EdgeLists (file : List ℕ) (nodes edges : ℕ) (first_in next_in fir
 
 -- the order so far, of `count` edges: the shape run, which was `shape₀`, has it at its place, and `seen` marks its edges
 pub record Ordered (edges : ℕ) (shape₀ order shape : List ℕ) (seen : List Bool) (count : ℕ) : Type 0 where
-  pub written : shape ≡ sets shape₀ flow_order_packed_at order
+  pub written : shape ≡ sets shape₀ flow_order_at order
   pub count_is : count ≡ length order
   pub seen_is : (e : ℕ) → e < edges → get_or seen e false ≡ listed e order
 

@@ -1,10 +1,8 @@
 // The edges in flow order: "Sum each column in flow order; a closed ring starts at its lowest edge." (document 02, L10)
-#![tactic(auto)]
-
 ghost use Rattle.std.specs.Prelude.{◌≡◌, ℕ, ◌+◌, ◌<◌, ◌≤◌, List, [], length};
 ghost use Rattle.std.proofs.Math.Option.{some};
 ghost use Rattle.std.proofs.lemmas.List.Edits.{sets};
-ghost use Rattle.layout.specs.Layout.{node_ceiling, edge_ceiling, packed_shape_length, flow_order_packed_at};
+ghost use Rattle.layout.specs.Layout.{node_ceiling, edge_ceiling, shape_length, flow_order_at};
 ghost use Rattle.pywr.specs.Bytes.{le16};
 ghost use Rattle.pywr.specs.Network.{source, target};
 ghost use Rattle.pywr.specs.FlowOrder.{follow, paths, flow_order};
@@ -13,7 +11,7 @@ ghost use Rattle.network_edge.specs.Edge.{from_offset, to_offset, edge_place};
 ghost use Rattle.build_incident_edges.specs.IncidentEdges.{EdgesListed};
 ghost use Rattle.build_flow_order.specs.Ordered.{EdgeLists, Ordered, Marked};
 
-use layout::{EDGE_CEILING, FLOW_ORDER_PACKED_AT, NODE_CEILING};
+use layout::{EDGE_CEILING, FLOW_ORDER_AT, NODE_CEILING};
 use pywr::EdgeIndex;
 
 // Edge `start` and those after it in its column go behind the order's `count` edges, up to one that is in the order already. `seen` marks the edges of the
@@ -32,7 +30,7 @@ fn follow(
     start: EdgeIndex,
 ) -> usize
     requires { EdgeLists s.now nodes edges first_in.now next_in.now first_out.now next_out.now
-        × (packed_shape_length ≤ length shape.old) × Marked edges seen.old count × (start.0 < edges) }
+        × (shape_length ≤ length shape.old) × Marked edges seen.old count × (start.0 < edges) }
     ensures { Marked edges seen.new result
         × ((a v : ℕ) (shape₀ order : List ℕ) → Ordered edges shape₀ order shape.old seen.old count
         → Ordered edges shape₀ (follow (network_at s.now nodes edges a v) edges (some start.0) order)
@@ -47,7 +45,7 @@ fn follow(
         if seen[e] {
             return n;
         }
-        shape[FLOW_ORDER_PACKED_AT + n] = edge.0;
+        shape[FLOW_ORDER_AT + n] = edge.0;
         seen[e] = true;
         n += 1;
         let to = network_edge::to_node_index(s, nodes, edge);
@@ -70,7 +68,7 @@ fn follow_paths(
     shape: &mut [u16],
 ) -> usize
     requires { EdgeLists s.now nodes edges first_in.now next_in.now first_out.now next_out.now
-        × (packed_shape_length ≤ length shape.old) × Marked edges seen.old 0 }
+        × (shape_length ≤ length shape.old) × Marked edges seen.old 0 }
     ensures { Marked edges seen.new result
         × ((a v : ℕ) (shape₀ : List ℕ) → Ordered edges shape₀ [] shape.old seen.old 0
         → Ordered edges shape₀ (paths (network_at s.now nodes edges a v)) shape.new seen.new result) }
@@ -109,10 +107,10 @@ fn follow_rings(
     count: usize,
 )
     requires { EdgeLists s.now nodes edges first_in.now next_in.now first_out.now next_out.now
-        × (packed_shape_length ≤ length shape.old) × Marked edges seen.old count }
+        × (shape_length ≤ length shape.old) × Marked edges seen.old count }
     ensures { (a v : ℕ) (shape₀ : List ℕ)
         → Ordered edges shape₀ (paths (network_at s.now nodes edges a v)) shape.old seen.old count
-        → shape.new ≡ sets shape₀ flow_order_packed_at (flow_order (network_at s.now nodes edges a v)) }
+        → shape.new ≡ sets shape₀ flow_order_at (flow_order (network_at s.now nodes edges a v)) }
 {
     let mut n = count;
     let mut start: usize = 0;
@@ -140,9 +138,9 @@ pub fn write_flow_order(
         × ((e : ℕ) → e < edges → le16 s.now (edge_place nodes e + from_offset) < nodes)
         × ((e : ℕ) → e < edges → le16 s.now (edge_place nodes e + to_offset) < nodes)
         × EdgesListed target s.now nodes edges first_in.now next_in.now
-        × EdgesListed source s.now nodes edges first_out.now next_out.now × (packed_shape_length ≤ length shape.old) }
+        × EdgesListed source s.now nodes edges first_out.now next_out.now × (shape_length ≤ length shape.old) }
     ensures { (a v : ℕ)
-        → shape.new ≡ sets shape.old flow_order_packed_at (flow_order (network_at s.now nodes edges a v)) }
+        → shape.new ≡ sets shape.old flow_order_at (flow_order (network_at s.now nodes edges a v)) }
 {
     let mut seen = [false; EDGE_CEILING];
     let count = follow_paths(

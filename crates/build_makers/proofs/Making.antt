@@ -6,7 +6,7 @@ use mathlib.Core.List.{List, [], ◌++◌, flat_map, append_assoc, append-nil}
 use lib.ListN.{length, take, replicate, length-append}
 use lib.Seq.{sets}
 use lib.Ieee.{Float}
-use Rattle.layout.specs.Layout.{makers_packed_at, makers_made_at, shape_made_at, words_length}
+use Rattle.layout.specs.Layout.{makers_at, makers_made_at, shape_made_at, words_length}
 use Rattle.laws.specs.Part.{part}
 use Rattle.laws.proofs.Runs.{flat_append}
 use Rattle.laws.proofs.Sets.{part_same, part_before}
@@ -32,7 +32,7 @@ pub record Making (whole rest : List Row) (makers others : List Maker) (words₀
   pub whole_is : whole ≡ rows ++ rest
   pub makers_is : makers ≡ theirs ++ others
   pub held : MadeHeld rows theirs words numbers f
-  pub kept : part shape_made_at makers_packed_at words ≡ part shape_made_at makers_packed_at words₀
+  pub kept : part shape_made_at makers_at words ≡ part shape_made_at makers_at words₀
 
 -- what adding these rows with these makers promises, whatever rows are held
 abbrev pub Makes : List Row → List Maker → List ℕ → List Float → Filled → RowsAdded → List ℕ → List Float → Type 0
@@ -53,8 +53,8 @@ module _ (whole new rest : List Row) (makers others : List Maker) (kind index : 
   is : whole ≡ (h.rows ++ new) ++ rest
   is = h.whole_is ∙ sym (append_assoc h.rows new rest)
 
-  kept : part shape_made_at makers_packed_at words₁ ≡ part shape_made_at makers_packed_at words₀
-  kept = part_behind shape_made_at makers_packed_at shape_made_at words words₁ (omega arith) after.kept ∙ h.kept
+  kept : part shape_made_at makers_at words₁ ≡ part shape_made_at makers_at words₀
+  kept = part_behind shape_made_at makers_at shape_made_at words words₁ (omega arith) after.kept ∙ h.kept
 
   pub making_over : r ≡ Full → AfterMade whole makers words₀ Full words₁ numbers'
   making_over e =
@@ -91,7 +91,7 @@ module _ (whole new rest : List Row) (makers others : List Maker) (kind index : 
     theirs_long : length h.theirs ≡ f.rows
     theirs_long = h.held.each ∙ sym h.held.held.row_count
 
-    module _ (shape : List ℕ) (room : words_length ≤ length words₁) (w : shape ≡ sets (tail shape_made_at words₁) (makers_packed_at + 3 * f.rows) entries) where
+    module _ (shape : List ℕ) (room : words_length ≤ length words₁) (w : shape ≡ sets (tail shape_made_at words₁) (makers_at + 3 * f.rows) entries) where
       abbrev words₂ : List ℕ
       words₂ = put_tail shape_made_at words₁ shape
 
@@ -99,7 +99,7 @@ module _ (whole new rest : List Row) (makers others : List Maker) (kind index : 
       place = makers_made_at + 3 * f.rows
 
       words₂-are : words₂ ≡ sets words₁ place (flat_map maker_words (made_by kind index new))
-      words₂-are = tail_written shape_made_at words₁ (makers_packed_at + 3 * f.rows) place shape entries (omega arith) w ∙ ap (sets words₁ place) entries_are
+      words₂-are = tail_written shape_made_at words₁ (makers_at + 3 * f.rows) place shape entries (omega arith) w ∙ ap (sets words₁ place) entries_are
 
       held₂ : RowsHeld (h.rows ++ new) words₂ numbers' g
       held₂ =
@@ -137,8 +137,8 @@ module _ (whole new rest : List Row) (makers others : List Maker) (kind index : 
                       ∙ sym (flat_append maker_words h.theirs (made_by kind index new));
                 };
             kept =
-                ap (part shape_made_at makers_packed_at) words₂-are
-                ∙ part_before words₁ (flat_map maker_words (made_by kind index new)) place shape_made_at makers_packed_at (omega arith)
+                ap (part shape_made_at makers_at) words₂-are
+                ∙ part_before words₁ (flat_map maker_words (made_by kind index new)) place shape_made_at makers_at (omega arith)
                 ∙ kept;
           }
 

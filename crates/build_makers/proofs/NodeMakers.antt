@@ -7,7 +7,7 @@ use mathlib.Core.List.{List, [], ◌∷◌, ◌++◌, flat_map}
 use lib.ListN.{length, drop, replicate, drop_of_length-le}
 use lib.Seq.{sets}
 use lib.Ieee.{Float}
-use Rattle.layout.specs.Layout.{makers_packed_at, shape_made_at, words_length}
+use Rattle.layout.specs.Layout.{makers_at, shape_made_at, words_length}
 use Rattle.laws.proofs.Runs.{drop_next}
 use Rattle.laws.proofs.Tails.{tail, put_tail}
 use Rattle.pywr.specs.Network.{Node, no_node}
@@ -62,7 +62,7 @@ module _ (kind : ℕ) (rows_from : ℕ → List Node → List Row) (turn : InTur
       node_rise = rows_rise whole new _ makers _ kind k words₀ words numbers f here r words₁ numbers' added
 
       pub node_more : (g : Filled) → r ≡ Done g → (shape : List ℕ) → words_length ≤ length words₁
-          → shape ≡ sets (tail shape_made_at words₁) (makers_packed_at + 3 * f.rows) (flat_map maker_words (replicate (g.rows - f.rows) (record { kind = kind; index = k; shared_by = 1 })))
+          → shape ≡ sets (tail shape_made_at words₁) (makers_at + 3 * f.rows) (flat_map maker_words (replicate (g.rows - f.rows) (record { kind = kind; index = k; shared_by = 1 })))
           → Making whole (rows_from (i + 1) (drop (i + 1) nodes)) makers (makers_from (i + 1) (drop (i + 1) nodes)) words₀ (put_tail shape_made_at words₁ shape) numbers' g
       node_more = making_more whole new _ makers _ kind k words₀ words numbers f here r words₁ numbers' added
 

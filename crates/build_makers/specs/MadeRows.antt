@@ -1,7 +1,7 @@
 -- Rows with their makers as the work runs of a build hold them: entry r of the table of makers is that of row r. Assumes nothing.
 use Rattle.std.specs.Prelude.{◌≡◌, ℕ, ◌*◌, false, length, Float}
 use mathlib.Core.List.{List, flat_map}
-use Rattle.layout.specs.Layout.{makers_packed_at, maker_width, shape_made_at, makers_made_at}
+use Rattle.layout.specs.Layout.{makers_at, maker_width, shape_made_at, makers_made_at}
 use Rattle.laws.specs.Part.{part}
 use Rattle.pywr.specs.Programme.{Row, Maker}
 use Rattle.pywr.specs.Written.{maker_words}
@@ -25,4 +25,4 @@ pub record MadeHolding (words : List ℕ) (numbers : List Float) (f : Filled) : 
 pub record AfterMade (rows : List Row) (makers : List Maker) (words : List ℕ) (r : RowsAdded) (words' : List ℕ) (numbers' : List Float) : Type 0 where
   pub held : (f : Filled) → r ≡ Done f → MadeHeld rows makers words' numbers' f
   pub full : r ≡ Full → within_ceilings rows ≡ false
-  pub kept : part shape_made_at makers_packed_at words' ≡ part shape_made_at makers_packed_at words
+  pub kept : part shape_made_at makers_at words' ≡ part shape_made_at makers_at words

@@ -1,8 +1,6 @@
 // One node's request for one row: its own row, or its row with a set's column.
-#![tactic(auto)]
-
 ghost use Rattle.std.specs.Prelude.{◌≡◌, List, [], ◌∷◌, ◌++◌, ◌<◌, ◌≤◌, length};
-ghost use Rattle.layout.specs.Layout.{set_ceiling, column_ceiling, node_row_ceiling, words_length, numbers_length};
+ghost use Rattle.layout.specs.Layout.{column_ceiling, node_row_ceiling, words_length, numbers_length};
 ghost use Rattle.pywr.specs.Rows.{column_map, add_element, add_node, node_row};
 ghost use Rattle.pywr.specs.Programme.{RowType, continuous};
 ghost use Rattle.pywr.specs.VaryingRows.{RowRequest};
@@ -84,7 +82,7 @@ pub fn request_bounded_row(
     rows: NodeRows,
 ) -> NodeRowsAdded
     requires { EdgeTables s.now c first_in.now next_in.now first_out.now next_out.now edge_to_col.now × (node.0 < c.nodes) × (column.0 < column_ceiling)
-        × (set < set_ceiling) × (row_type < 3) × WorkRoom words.old numbers.old × NodeRowsHolding sentinel words.old numbers.old rows × (rows.count < node_row_ceiling) }
+        × WorkRoom words.old numbers.old × NodeRowsHolding sentinel words.old numbers.old rows × (rows.count < node_row_ceiling) }
     ensures { (t : RowType) → row_type_word t ≡ row_type → (asks : List RowRequest) → NodeRowsHeld sentinel asks words.old numbers.old rows
         → AfterRequests sentinel
         (asks ++ (record { node = node.0; row_type = t; set = set; row = add_element column.0 coefficient (add_node (column_map (network_of s.now c)) node.0 factor []) } ∷ []))

@@ -1,24 +1,20 @@
--- One node row more: its row joins an equal one or becomes the last, and its two words come behind the others. Assumes nothing.
-use mathlib.Core.Path.{◌≡◌, refl, sym, ap, ap₂, ◌∙◌, subst}
+-- One node row more: its row joins an equal one or becomes the last, and its four words come behind the others. Assumes nothing.
+use mathlib.Core.Path.{◌≡◌, refl, sym, ap, ◌∙◌, subst}
 use Prim.Native.Nat.{ℕ, suc, ◌+◌, ◌*◌, ◌-◌, ◌<◌, ◌≤◌}
 use native.Mathlib.Omega.{arith}
-use mathlib.Core.Bool.{Bool, true, false, cond}
+use mathlib.Core.Bool.{false}
 use mathlib.Core.List.{List, [], ◌∷◌, ◌++◌, map, flat_map}
 use lib.ListN.{length, drop, set, length-append, length-map}
-use lib.Dec.{ltb}
 use lib.Seq.{sets}
 use lib.Ieee.{Float}
-use borrow.Author.Tests.{ltb-true}
 use borrow.Rule.Slice.PartMut.{put_mid}
 use Rattle.layout.specs.Layout.{node_rows_at, node_rows_made_at, numbers_length, shape_made_at}
-use Rattle.layout.specs.PackedNodeRow.{packed_node_row, unpacked_node_rows}
-use Rattle.layout.proofs.PackedLaws.{unpacked_row, unpacked_append}
 use Rattle.laws.specs.Part.{part}
-use Rattle.laws.proofs.Sets.{part_same, part_before, length_part}
+use Rattle.laws.proofs.Sets.{part_same, part_before}
 use Rattle.laws.proofs.Tails.{tail, put_tail, tail_written}
 use Rattle.pywr.specs.declared.Sentinel.{Sentinel}
 use Rattle.pywr.specs.Rows.{Element}
-use Rattle.pywr.specs.VariableRows.{Joined, position, add_variable_row}
+use Rattle.pywr.specs.VariableRows.{Joined, add_variable_row}
 use Rattle.pywr.specs.VaryingRows.{RowRequest, fresh_row}
 use Rattle.pywr.specs.Programme.{Row, RowType}
 use Rattle.pywr.specs.Build.{placed_node_rows}
@@ -38,9 +34,13 @@ use Rattle.build_node_table.specs.declared.NodeRowsAdded.{NodeRowsAdded}
 use Rattle.build_node_table.specs.declared.NodeRowsAdded.TheVariants.{Done, Full}
 use Rattle.build_node_table.proofs.Requests.{joined_more, joined_places, placed_at, placed_snoc, over_later}
 
--- two words stored one behind the other
-pub two_words : (l : List ℕ) (at a b : ℕ) → set (set l at a) (at + 1) b ≡ sets l at (a ∷ b ∷ [])
-two_words l at a b = let one : at + 1 ≡ suc at = omega arith in rw one
+-- four words stored one behind the other
+pub four_words : (l : List ℕ) (at a b c d : ℕ) → set (set (set (set l at a) (at + 1) b) (at + 2) c) (at + 3) d ≡ sets l at (a ∷ b ∷ c ∷ d ∷ [])
+four_words l at a b c d =
+    let one : at + 1 ≡ suc at = omega arith in
+    let two : at + 2 ≡ suc (suc at) = omega arith in
+    let three : at + 3 ≡ suc (suc (suc at)) = omega arith in
+    rw (one, two, three)
 
 held_sets : (rows : List Row) (words : List ℕ) (numbers : List Float) (f : Filled) (b : ℕ) (vs : List ℕ) → shape_made_at ≤ b → RowsHeld rows words numbers f → RowsHeld rows (sets words b vs) numbers f
 held_sets rows words numbers f b vs hb h = held_agrees rows words (sets words b vs) numbers numbers f h (part_before words vs b 0 shape_made_at (omega arith)) refl
@@ -61,20 +61,10 @@ requests_full s asks words numbers over = record { done = λ r' e. absurd (let z
 
 -- ---- a row is asked for
 
--- the row asked for is one of the rows
-place_under : (row : List Element) (rows : List (List Element)) → position row rows < length (add_variable_row row (record { rows = rows; places = [] })).rows
-unfolding add_variable_row
-place_under row rows = go (ltb (position row rows) (length rows)) refl
-  where
-    go : (b : Bool) → ltb (position row rows) (length rows) ≡ b → position row rows < length (cond b rows (rows ++ (row ∷ [])))
-    go true e = ltb-true (position row rows) (length rows) e
-    go false e = omega (arith, position_most row rows, length-append rows (row ∷ []))
-
-pub place_fits : (s : Sentinel) (rows : List (List Element)) (row : List Element) (words : List ℕ) (v : VariableRow) (words₁ : List ℕ) (numbers₁ : List Float)
-    → AfterVariableRow s rows row words v words₁ numbers₁ → (k : ℕ) (g : Filled) → v ≡ At k g → k < 1024
-place_fits s rows row words v words₁ numbers₁ after k g e =
-    let more : List (List Element) = (add_variable_row row (record { rows = rows; places = [] })).rows in
-    omega (arith, after.place k g e, place_under row rows, (after.held k g e).few_rows, length-map more (fresh_row s))
+-- a row's number fits a word
+pub place_fits : (s : Sentinel) (rows : List (List Element)) (row : List Element) (words : List ℕ) (numbers : List Float) (f : Filled) (v : VariableRow) (words₁ : List ℕ) (numbers₁ : List Float)
+    → RowsHeld (map (fresh_row s) rows) words numbers f → AfterVariableRow s rows row words v words₁ numbers₁ → (k : ℕ) (g : Filled) → v ≡ At k g → k < 65536
+place_fits s rows row words numbers f v words₁ numbers₁ h after k g e = omega (arith, after.place k g e, position_most row rows, h.few_rows, length-map rows (fresh_row s))
 
 module _ (s : Sentinel) (asks : List RowRequest) (a : RowRequest) (words : List ℕ) (numbers : List Float) (r : NodeRows) (v : VariableRow) (words₁ : List ℕ) (numbers₁ : List Float)
     (h : NodeRowsHeld s asks words numbers r) (after : AfterVariableRow s (joined asks).rows a.row words v words₁ numbers₁) where
@@ -94,30 +84,25 @@ module _ (s : Sentinel) (asks : List RowRequest) (a : RowRequest) (words : List 
         ∙ placed_snoc asks (joined asks).places a k (joined_places asks)
 
     -- the shape run's words come back as `shape`, with the entry
-    pub row_placed : (w t : ℕ) (shape : List ℕ) → w ≡ k → row_type_word a.row_type ≡ t → a.node < 256 → node_rows_made_at + 2 * r.count + 2 ≤ length words₁
-        → shape ≡ sets (tail shape_made_at words₁) (node_rows_at + 2 * r.count) (packed_node_row a.node w t a.set)
+    pub row_placed : (w t : ℕ) (shape : List ℕ) → w ≡ k → row_type_word a.row_type ≡ t → node_rows_made_at + 4 * r.count + 4 ≤ length words₁
+        → shape ≡ sets (tail shape_made_at words₁) (node_rows_at + 4 * r.count) (a.node ∷ w ∷ t ∷ a.set ∷ [])
         → AfterRequests s (asks ++ (a ∷ [])) (Done (record { filled = f; count = r.count + 1 })) (put_tail shape_made_at words₁ shape) numbers₁
     unfolding node_row_words
-    row_placed w t shape ew et under room written =
-        let entry : List ℕ = packed_node_row a.node k (row_type_word a.row_type) a.set in
-        let b : ℕ = node_rows_made_at + 2 * r.count in
+    row_placed w t shape ew et room written =
+        let entry : List ℕ = node_row_words (placed_at a k) in
+        let b : ℕ = node_rows_made_at + 4 * r.count in
         let words₂ : List ℕ = put_tail shape_made_at words₁ shape in
-        let is : words₂ ≡ sets words₁ b entry = tail_written shape_made_at words₁ (node_rows_at + 2 * r.count) b shape entry (omega arith) (written ∙ rw (ew, ← et)) in
-        let two : 2 * r.count + 2 ≡ 2 * (r.count + 1) = omega arith in
-        let before : List ℕ = part node_rows_made_at (2 * r.count) words₁ in
+        let is : words₂ ≡ sets words₁ b entry = tail_written shape_made_at words₁ (node_rows_at + 4 * r.count) b shape entry (omega arith) (written ∙ rw (ew, ← et)) in
+        let four : 4 * r.count + 4 ≡ 4 * (r.count + 1) = omega arith in
         requests_done s (asks ++ (a ∷ [])) words₂ numbers₁ (record { filled = f; count = r.count + 1 })
         (rw is
         (record {
           held = held_sets (map (fresh_row s) (joined (asks ++ (a ∷ []))).rows) words₁ numbers₁ f b entry (omega arith) (rw rows_are at (after.held k f e));
           counted = sym (length-append asks (a ∷ []) ∙ ap (λ (n : ℕ). n + 1) (sym h.counted));
           table =
-              ap unpacked_node_rows
-              (part_more (sets words₁ b entry) before entry node_rows_made_at (2 * r.count) b 2 (2 * (r.count + 1)) refl two
-              (part_before words₁ entry b node_rows_made_at (2 * r.count) (omega arith)) (part_same words₁ entry b 2 refl room))
-              ∙ unpacked_append r.count before entry (length_part words₁ node_rows_made_at (2 * r.count) (omega arith))
-              ∙ ap₂ (λ (xs ys : List ℕ). xs ++ ys)
-              (ap unpacked_node_rows (part_behind node_rows_made_at (2 * r.count) shape_made_at words words₁ (omega arith) after.kept) ∙ h.table)
-              (unpacked_row a.node k (row_type_word a.row_type) a.set under (place_fits s (joined asks).rows a.row words v words₁ numbers₁ after k f e))
+              part_more (sets words₁ b entry) (flat_map node_row_words (placed_node_rows asks (joined asks).places)) entry node_rows_made_at (4 * r.count) b 4 (4 * (r.count + 1)) refl four
+              (part_before words₁ entry b node_rows_made_at (4 * r.count) (omega arith) ∙ part_behind node_rows_made_at (4 * r.count) shape_made_at words words₁ (omega arith) after.kept ∙ h.table)
+              (part_same words₁ entry b 4 refl room)
               ∙ sym (ap (flat_map node_row_words) placed ∙ flat_snoc node_row_words (placed_node_rows asks (joined asks).places) (placed_at a k));
         }))
 

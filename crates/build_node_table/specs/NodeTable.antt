@@ -2,8 +2,7 @@
 -- Assumes nothing.
 use Rattle.std.specs.Prelude.{◌≡◌, ℕ, ◌*◌, false, length, take, Float}
 use mathlib.Core.List.{List, [], map, flat_map}
-use Rattle.layout.specs.Layout.{packed_node_row_width, node_rows_made_at}
-use Rattle.layout.specs.PackedNodeRow.{unpacked_node_rows}
+use Rattle.layout.specs.Layout.{node_row_width, node_rows_made_at}
 use Rattle.laws.specs.Part.{part}
 use Rattle.pywr.specs.declared.Sentinel.{Sentinel}
 use Rattle.pywr.specs.ExclusiveSets.{sets_with_node}
@@ -29,11 +28,11 @@ requests_before f n = requests_from f 0 (take n f.nodes)
 abbrev pub listed_requests : ColumnMap → ℕ → List RowRequest
 listed_requests f n = exclusive_requests f n (sets_with_node n 0 f.sets)
 
--- the rows asked for are held, and so are the node rows, packed
+-- the rows asked for are held, and so are the node rows
 pub record NodeRowsHeld (s : Sentinel) (asks : List RowRequest) (words : List ℕ) (numbers : List Float) (r : NodeRows) : Type 0 where
   pub held : RowsHeld (map (fresh_row s) (joined asks).rows) words numbers r.filled
   pub counted : r.count ≡ length asks
-  pub table : unpacked_node_rows (part node_rows_made_at (packed_node_row_width * r.count) words) ≡ flat_map node_row_words (placed_node_rows asks (joined asks).places)
+  pub table : part node_rows_made_at (node_row_width * r.count) words ≡ flat_map node_row_words (placed_node_rows asks (joined asks).places)
 
 -- some rows asked for are held
 pub record NodeRowsHolding (s : Sentinel) (words : List ℕ) (numbers : List Float) (r : NodeRows) : Type 0 where

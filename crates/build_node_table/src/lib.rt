@@ -1,10 +1,7 @@
 // The table of node rows: a row that a node asks for, and its entry.
-#![tactic(auto)]
-
 ghost use Rattle.std.specs.Prelude.{◌≡◌, List, [], ◌∷◌, ◌++◌, ◌+◌, ◌*◌, ◌<◌, ◌≤◌, length, drop};
 ghost use Rattle.std.proofs.lemmas.List.Edits.{sets};
-ghost use Rattle.layout.specs.Layout.{node_ceiling, set_ceiling, column_ceiling, row_ceiling, node_row_ceiling, packed_node_row_width, node_rows_at, words_length, elements_made_at, numbers_length};
-ghost use Rattle.layout.specs.PackedNodeRow.{packed_node_row};
+ghost use Rattle.layout.specs.Layout.{column_ceiling, node_row_ceiling, node_row_width, node_rows_at, words_length, elements_made_at, numbers_length};
 ghost use Rattle.pywr.specs.Programme.{RowType};
 ghost use Rattle.pywr.specs.VaryingRows.{RowRequest};
 ghost use Rattle.pywr.specs.Written.{row_type_word};
@@ -15,7 +12,7 @@ ghost use Rattle.layout.specs.WorkRoom.{WorkRoom};
 use build_append::Filled;
 use build_join::VariableRow;
 use layout::{
-    COLUMN_CEILING, NODE_ROWS_AT, PACKED_NODE_ROW_WIDTH, PACKED_ROW, PACKED_SET, PACKED_TYPE,
+    COLUMN_CEILING, NODE_ROW_ROW, NODE_ROW_SET, NODE_ROW_TYPE, NODE_ROW_WIDTH, NODE_ROWS_AT,
     SHAPE_MADE_AT,
 };
 use pywr::{ColumnNumber, NodeIndex, Sentinel};
@@ -34,15 +31,16 @@ pub enum NodeRowsAdded {
     Full,
 }
 
-// Node row i of the table, packed: the node and the set's number, the row and its type.
+// Node row i of the table: the node, its row, the row's type and the set's number.
 fn put_node_row(shape: &mut [u16], i: usize, node: NodeIndex, row: u16, row_type: u16, set: u16)
-    requires { (node_rows_at + packed_node_row_width * i + packed_node_row_width ≤ length shape.old)
-        × (node.0 < node_ceiling) × (set < set_ceiling) × (row < row_ceiling) × (row_type < 3) }
-    ensures { shape.new ≡ sets shape.old (node_rows_at + packed_node_row_width * i) (packed_node_row node.0 row row_type set) }
+    requires { node_rows_at + node_row_width * i + node_row_width ≤ length shape.old }
+    ensures { shape.new ≡ sets shape.old (node_rows_at + node_row_width * i) (node.0 ∷ row ∷ row_type ∷ set ∷ []) }
 {
-    let at = NODE_ROWS_AT + PACKED_NODE_ROW_WIDTH * i;
-    shape[at] = node.0 + PACKED_SET * set;
-    shape[at + PACKED_ROW] = row + PACKED_TYPE * row_type;
+    let at = NODE_ROWS_AT + NODE_ROW_WIDTH * i;
+    shape[at] = node.0;
+    shape[at + NODE_ROW_ROW] = row;
+    shape[at + NODE_ROW_TYPE] = row_type;
+    shape[at + NODE_ROW_SET] = set;
 }
 
 // A node asks for the gathered row, whose elements are already in place: an equal row that stands already serves, else it becomes the last row.
@@ -58,8 +56,7 @@ pub fn add_node_row(
     rows: NodeRows,
 ) -> NodeRowsAdded
     requires { WorkRoom words.old numbers.old × (n ≤ column_ceiling) × Rising columns.now n
-        × NodeRowsHolding sentinel words.old numbers.old rows × (rows.count < node_row_ceiling)
-        × (node.0 < node_ceiling) × (set < set_ceiling) × (row_type < 3) }
+        × NodeRowsHolding sentinel words.old numbers.old rows × (rows.count < node_row_ceiling) }
     ensures { (t : RowType) → row_type_word t ≡ row_type → (asks : List RowRequest) → NodeRowsHeld sentinel asks words.old numbers.old rows
         → AfterRequests sentinel (asks ++ (record {
           node = node.0;

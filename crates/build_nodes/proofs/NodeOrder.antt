@@ -10,7 +10,6 @@ use lib.ListN.{length, get_or, take, drop, length-append, length-map, take-appen
 use lib.Seq.{take_all, length-take-le}
 use lib.Ieee.{Float}
 use Rattle.layout.specs.Layout.{node_row_ceiling}
-use Rattle.layout.specs.PackedNodeRow.{unpacked_node_rows}
 use Rattle.laws.proofs.Runs.{take_more}
 use Rattle.pywr.specs.declared.Sentinel.{Sentinel}
 use Rattle.pywr.specs.Network.{Node, no_node}
@@ -95,7 +94,7 @@ module _ (file : List ℕ) (c : Counts) (first_in next_in first_out next_out edg
 
   module _ (s : Sentinel) (words : List ℕ) (numbers : List Float) where
     pub order_first : (g : Filled) → RowsHeld [] words numbers g → NodeRowsHeld s (requests_before f 0) words numbers (record { filled = g; count = 0 })
-    unfolding requests_from add_variable_rows placed_node_rows flat_map unpacked_node_rows
+    unfolding requests_from add_variable_rows placed_node_rows flat_map
     order_first g h = record { held = h; counted = refl; table = refl }
 
     pub order_full : (n : ℕ) (v : NodeRowsAdded) → AfterRequests s (requests_before f n) v words numbers → v ≡ Full → AfterRequests s (requests_from f 0 (network_of file c).nodes) Full words numbers

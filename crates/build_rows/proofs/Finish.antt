@@ -7,8 +7,7 @@ use native.Mathlib.Omega.{arith}
 use lib.ListN.{length, take, length-append, length-map}
 use lib.Seq.{sets, length-take-le}
 use lib.Ieee.{Float}
-use Rattle.layout.specs.Layout.{aggregates_made_at, makers_packed_at, makers_made_at, node_rows_made_at, shape_made_at, virtual_storages_made_at, words_length}
-use Rattle.layout.specs.PackedNodeRow.{unpacked_node_rows}
+use Rattle.layout.specs.Layout.{aggregates_made_at, makers_at, makers_made_at, node_rows_made_at, shape_made_at, virtual_storages_made_at, words_length}
 use Rattle.laws.specs.Part.{part}
 use Rattle.pywr.specs.declared.Sentinel.{Sentinel}
 use Rattle.pywr.specs.Result.{value, refused}
@@ -171,7 +170,7 @@ module _ (s : Sentinel) (file : List ℕ) (c : Counts) (first_in next_in first_o
           let rows-laid : RowsLaid b sizes words₂ numbers₂ =
           record {
             rows = held;
-            node_rows = ap unpacked_node_rows (kept_part node_rows_made_at (2 * n.count) (omega arith) (omega (arith, few.node_rows))) ∙ v.node_rows;
+            node_rows = kept_part node_rows_made_at (4 * n.count) (omega arith) (omega (arith, few.node_rows)) ∙ v.node_rows;
             aggregates = ap (λ (k : ℕ). part aggregates_made_at k words₂) are.aggregates
                 ∙ kept_part aggregates_made_at (length net.aggregates) (omega arith) (omega (arith, are.aggregates, few.aggregates)) ∙ v.aggregates;
             virtual_storages = ap (λ (k : ℕ). part virtual_storages_made_at (6 * k) words₂) are.virtual_storages
@@ -191,7 +190,7 @@ module _ (s : Sentinel) (file : List ℕ) (c : Counts) (first_in next_in first_o
         where
           -- the words before the table of makers stay
           kept_part : (p k : ℕ) → shape_made_at ≤ p → p + k ≤ makers_made_at → part p k words₂ ≡ part p k words₁
-          kept_part p k hp hk = inside words₁ words₂ shape_made_at makers_packed_at p k hp hk (omega arith) (omega arith) a.kept
+          kept_part p k hp hk = inside words₁ words₂ shape_made_at makers_at p k hp hk (omega arith) (omega arith) a.kept
 
           nodes_are : flat_map node_words (map node_shape (node_records file c.nodes)) ≡ flat_map node_words b.shape.nodes
           nodes_are = shape_nodes

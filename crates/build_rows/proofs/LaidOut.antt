@@ -6,8 +6,7 @@ use native.Mathlib.Omega.{arith}
 use lib.ListN.{length, take}
 use lib.Seq.{sets, length-sets}
 use lib.Ieee.{Float}
-use Rattle.layout.specs.Layout.{aggregates_made_at, edges_at, edges_made_at, flow_order_made_at, makers_made_at, node_rows_made_at, nodes_at, nodes_made_at, sentinel_at, packed_shape_length, shape_made_at, virtual_storages_made_at, words_length}
-use Rattle.layout.specs.PackedNodeRow.{unpacked_node_rows}
+use Rattle.layout.specs.Layout.{aggregates_made_at, edges_at, edges_made_at, flow_order_made_at, makers_made_at, node_rows_made_at, nodes_at, nodes_made_at, sentinel_at, shape_length, shape_made_at, virtual_storages_made_at, words_length}
 use Rattle.laws.specs.Part.{part}
 use Rattle.laws.proofs.Sets.{part_same, part_before, part_after}
 use Rattle.laws.proofs.Tails.{tail, put_tail, tail_length, tail_written}
@@ -25,7 +24,7 @@ use Rattle.build_rows.specs.Assembled.{Laid, tables_written}
 
 -- ---- the shape run's words, lent
 
-pub shape_room : (words : List ℕ) → words_length ≤ length words → packed_shape_length ≤ length (tail shape_made_at words)
+pub shape_room : (words : List ℕ) → words_length ≤ length words → shape_length ≤ length (tail shape_made_at words)
 shape_room words h = omega (arith, tail_length shape_made_at words)
 
 -- the part comes back with the nodes' table, with the edges' and with the counts
@@ -54,7 +53,7 @@ module _ (s : Sentinel) (file table : List ℕ) (z : Sizes) (varying : ℕ) (wor
 -- what the passes over the rows leave: the rows, and the tables of node rows, aggregates, virtual storages and makers
 pub record RowsLaid (b : Built) (z : Sizes) (words : List ℕ) (numbers : List Float) : Type 0 where
   pub rows : RowsHeld (rows_of b.programme) words numbers (record { rows = z.rows; elements = z.elements })
-  pub node_rows : unpacked_node_rows (part node_rows_made_at (2 * z.node_rows) words) ≡ flat_map node_row_words b.shape.node_rows
+  pub node_rows : part node_rows_made_at (4 * z.node_rows) words ≡ flat_map node_row_words b.shape.node_rows
   pub aggregates : part aggregates_made_at z.aggregates words ≡ b.shape.aggregates
   pub virtual_storages : part virtual_storages_made_at (6 * z.virtual_storages) words ≡ flat_map virtual_storage_words b.shape.virtual_storages
   pub makers : part makers_made_at (3 * z.rows) words ≡ flat_map maker_words b.makers
@@ -130,7 +129,7 @@ laid_out s b z words numbers ns es cs os few cols room ln le lc lo en ee ec eo r
       counts = counts_there words ns es cs os z.nodes z.edges ln le lc lo few.nodes few.edges room ∙ ec;
       nodes = nodes_there words ns es cs os z.nodes z.edges ln le lc lo few.nodes few.edges room ∙ en;
       edges = edges_there words ns es cs os z.nodes z.edges ln le lc lo few.nodes few.edges room ∙ ee;
-      node_rows = ap unpacked_node_rows (stays node_rows_made_at (2 * z.node_rows) (omega arith) (omega (arith, few.node_rows))) ∙ r.node_rows;
+      node_rows = stays node_rows_made_at (4 * z.node_rows) (omega arith) (omega (arith, few.node_rows)) ∙ r.node_rows;
       aggregates = stays aggregates_made_at z.aggregates (omega arith) (omega (arith, few.aggregates)) ∙ r.aggregates;
       virtual_storages = stays virtual_storages_made_at (6 * z.virtual_storages) (omega arith) (omega (arith, few.virtual_storages)) ∙ r.virtual_storages;
       makers = stays makers_made_at (3 * z.rows) (omega arith) (omega (arith, few.rows)) ∙ r.makers;

@@ -7,10 +7,9 @@ use lib.ListN.{length, take, drop, length-map}
 use lib.Seq.{drop-drop}
 use lib.Ieee.{Float}
 use borrow.Rule.Slice.PartMut.{take_put}
-use Rattle.layout.specs.Layout.{aggregates_packed_at, makers_packed_at, makers_made_at, node_row_ceiling, node_rows_at, shape_made_at, virtual_storages_packed_at, words_length}
-use Rattle.layout.specs.PackedNodeRow.{unpacked_node_rows}
+use Rattle.layout.specs.Layout.{aggregates_at, makers_at, makers_made_at, node_row_ceiling, node_rows_at, shape_made_at, virtual_storages_at, words_length}
 use Rattle.laws.specs.Part.{part}
-use Rattle.laws.proofs.Tails.{tail, put_tail, tail_length, tail_back, tail_part}
+use Rattle.laws.proofs.Tails.{tail, put_tail, tail_back, tail_part}
 use Rattle.pywr.specs.declared.Sentinel.{Sentinel}
 use Rattle.pywr.specs.Network.{Network}
 use Rattle.pywr.specs.Rows.{Element, column_map}
@@ -56,7 +55,7 @@ module _ (s : Sentinel) (net : Network) where
 
 -- ---- the tables, and the run with the makers put
 
-module _ (s : Sentinel) (net : Network) (n : NodeRows) (words : List ℕ) (numbers : List Float) (v : VaryingLaid s net n words numbers) (room : words_length ≤ length words) (few : n.count ≤ node_row_ceiling)
+module _ (s : Sentinel) (net : Network) (n : NodeRows) (words : List ℕ) (numbers : List Float) (v : VaryingLaid s net n words numbers) (room : words_length ≤ length words)
     (aggregates virtual_storages : ℕ) (ca : aggregates ≡ length net.aggregates) (cv : virtual_storages ≡ length net.virtual_storages) where
   abbrev shape : List ℕ
   shape = tail shape_made_at words
@@ -67,10 +66,10 @@ module _ (s : Sentinel) (net : Network) (n : NodeRows) (words : List ℕ) (numbe
       let aggregates_many : length (b s net).shape.aggregates ≡ length net.aggregates = aggregates_count s net in
       let virtual_storages_many : length (b s net).shape.virtual_storages ≡ length net.virtual_storages = virtual_storages_count s net in
       rw (ca, cv, ← nodes, ← aggregates_many, ← virtual_storages_many)
-      (askers_are shape (b s net).shape (omega (arith, nodes, tail_length shape_made_at words))
-      (rw nodes (ap unpacked_node_rows (tail_part shape_made_at words node_rows_at (2 * n.count)) ∙ v.node_rows))
-      (rw aggregates_many (tail_part shape_made_at words aggregates_packed_at (length net.aggregates) ∙ v.aggregates))
-      (rw virtual_storages_many (tail_part shape_made_at words virtual_storages_packed_at (6 * length net.virtual_storages) ∙ v.virtual_storages)))
+      (askers_are shape (b s net).shape
+      (rw nodes (tail_part shape_made_at words node_rows_at (4 * n.count) ∙ v.node_rows))
+      (rw aggregates_many (tail_part shape_made_at words aggregates_at (length net.aggregates) ∙ v.aggregates))
+      (rw virtual_storages_many (tail_part shape_made_at words virtual_storages_at (6 * length net.virtual_storages) ∙ v.virtual_storages)))
 
   pub rows_count : n.filled.rows ≡ length (programme_of s net).programme.varying
   rows_count = v.held.row_count
@@ -78,28 +77,28 @@ module _ (s : Sentinel) (net : Network) (n : NodeRows) (words : List ℕ) (numbe
   pub rows_under : RowsUnder n.filled.rows (askers_in shape n.count aggregates virtual_storages)
   rows_under = rw (askers_of, rows_count) (all_under (length (b s net).programme.varying) (askers (b s net).shape) (asked_under s net))
 
-  module _ (shape' : List ℕ) (put : part makers_packed_at (3 * n.filled.rows) shape' ≡ flat_map maker_words (varying_makers (askers_in shape n.count aggregates virtual_storages) 0 n.filled.rows))
-      (kept : take makers_packed_at shape' ≡ take makers_packed_at shape) where
+  module _ (shape' : List ℕ) (put : part makers_at (3 * n.filled.rows) shape' ≡ flat_map maker_words (varying_makers (askers_in shape n.count aggregates virtual_storages) 0 n.filled.rows))
+      (kept : take makers_at shape' ≡ take makers_at shape) where
     abbrev words' : List ℕ
     words' = put_tail shape_made_at words shape'
 
     there : (k m : ℕ) → part (shape_made_at + k) m words' ≡ part k m shape'
     there k m = ap (take m) (sym (drop-drop k shape_made_at words') ∙ ap (drop k) (tail_back shape_made_at words shape' (omega arith)))
 
-    stays : (k m : ℕ) → k + m ≤ makers_packed_at → part (shape_made_at + k) m words' ≡ part (shape_made_at + k) m words
-    stays k m h = there k m ∙ part_agrees k m makers_packed_at shape shape' h kept ∙ tail_part shape_made_at words k m
+    stays : (k m : ℕ) → k + m ≤ makers_at → part (shape_made_at + k) m words' ≡ part (shape_made_at + k) m words
+    stays k m h = there k m ∙ part_agrees k m makers_at shape shape' h kept ∙ tail_part shape_made_at words k m
 
     front : take shape_made_at words' ≡ take shape_made_at words
     front = take_put shape_made_at (length words - shape_made_at) words shape' (omega arith)
 
-    pub still_laid : aggregates ≤ 64 → virtual_storages ≤ 32 → VaryingLaid s net n words' numbers
-    still_laid fa fv =
+    pub still_laid : n.count ≤ node_row_ceiling → aggregates ≤ 64 → virtual_storages ≤ 32 → VaryingLaid s net n words' numbers
+    still_laid fn fa fv =
         record {
           held = held_agrees (b s net).programme.varying words words' numbers numbers n.filled v.held front refl;
           counted = v.counted;
-          node_rows = ap unpacked_node_rows (stays node_rows_at (2 * n.count) (omega arith)) ∙ v.node_rows;
-          aggregates = stays aggregates_packed_at (length net.aggregates) (omega arith) ∙ v.aggregates;
-          virtual_storages = stays virtual_storages_packed_at (6 * length net.virtual_storages) (omega arith) ∙ v.virtual_storages;
+          node_rows = stays node_rows_at (4 * n.count) (omega arith) ∙ v.node_rows;
+          aggregates = stays aggregates_at (length net.aggregates) (omega arith) ∙ v.aggregates;
+          virtual_storages = stays virtual_storages_at (6 * length net.virtual_storages) (omega arith) ∙ v.virtual_storages;
         }
 
     pub varying_made : MadeHeld (programme_of s net).programme.varying (makers_of_varying s net) words' numbers n.filled
@@ -110,7 +109,7 @@ module _ (s : Sentinel) (net : Network) (n : NodeRows) (words : List ℕ) (numbe
           each = varying_makers_length (askers (b s net).shape) 0 (length (b s net).programme.varying);
           made =
               ap (λ (k : ℕ). part makers_made_at (3 * k) words') count
-              ∙ there makers_packed_at (3 * n.filled.rows)
+              ∙ there makers_at (3 * n.filled.rows)
               ∙ put
               ∙ ap₂ (λ (l : List _) (k : ℕ). flat_map maker_words (varying_makers l 0 k)) askers_of rows_count;
         }

@@ -3,9 +3,8 @@
 use Rattle.std.specs.Prelude.{◌≡◌, ℕ, ◌*◌, Float}
 use mathlib.Core.List.{List, map, flat_map}
 use Rattle.std.proofs.lemmas.List.Edits.{sets}
-use Rattle.layout.specs.Layout.{counts_length, node_width, edge_width, packed_node_row_width, virtual_storage_width, maker_width}
+use Rattle.layout.specs.Layout.{counts_length, node_width, edge_width, node_row_width, virtual_storage_width, maker_width}
 use Rattle.layout.specs.Layout.{shape_made_at, nodes_made_at, edges_made_at, node_rows_made_at, aggregates_made_at, virtual_storages_made_at, makers_made_at, flow_order_made_at}
-use Rattle.layout.specs.PackedNodeRow.{unpacked_node_rows}
 use Rattle.laws.specs.Part.{part}
 use Rattle.pywr.specs.declared.Sentinel.{Sentinel}
 use Rattle.pywr.specs.Result.{value, refused}
@@ -27,7 +26,7 @@ pub record Laid (s : Sentinel) (b : Built) (z : Sizes) (words : List ℕ) (numbe
   pub counts : part shape_made_at counts_length words ≡ count_words b
   pub nodes : part nodes_made_at (node_width * z.nodes) words ≡ flat_map node_words b.shape.nodes
   pub edges : part edges_made_at (edge_width * z.edges) words ≡ flat_map edge_words b.shape.mapped_edges
-  pub node_rows : unpacked_node_rows (part node_rows_made_at (packed_node_row_width * z.node_rows) words) ≡ flat_map node_row_words b.shape.node_rows
+  pub node_rows : part node_rows_made_at (node_row_width * z.node_rows) words ≡ flat_map node_row_words b.shape.node_rows
   pub aggregates : part aggregates_made_at z.aggregates words ≡ b.shape.aggregates
   pub virtual_storages : part virtual_storages_made_at (virtual_storage_width * z.virtual_storages) words ≡ flat_map virtual_storage_words b.shape.virtual_storages
   pub makers : part makers_made_at (maker_width * z.rows) words ≡ flat_map maker_words b.makers

@@ -1,10 +1,8 @@
 // The tables of the shape run that follow from the network file and its columns. `shape` is the part of a build's work run where the shape run is made.
-#![tactic(auto)]
-
 ghost use Rattle.std.specs.Prelude.{◌≡◌, ℕ, suc, ◌<◌, ◌≤◌, length, get_or};
 ghost use mathlib.Core.List.{List, [], ◌∷◌, map, flat_map};
 ghost use Rattle.std.proofs.lemmas.List.Edits.{sets};
-ghost use Rattle.layout.specs.Layout.{node_ceiling, edge_ceiling, packed_shape_length, sentinel_at, nodes_at, edges_at};
+ghost use Rattle.layout.specs.Layout.{node_ceiling, edge_ceiling, shape_length, sentinel_at, nodes_at, edges_at};
 ghost use Rattle.pywr.specs.Build.{node_shape};
 ghost use Rattle.pywr.specs.Written.{sentinel_word, node_words, edge_words};
 ghost use Rattle.network_node.specs.Node.{node_place};
@@ -24,7 +22,7 @@ use pywr::{EdgeIndex, NodeIndex, Sentinel};
 
 // Of each node its kind, and whether it is constant.
 pub fn write_nodes(s: &[u8], nodes: usize, shape: &mut [u16])
-    requires { (nodes ≤ node_ceiling) × (node_place nodes ≤ length s.now) × (packed_shape_length ≤ length shape.old) }
+    requires { (nodes ≤ node_ceiling) × (node_place nodes ≤ length s.now) × (shape_length ≤ length shape.old) }
     ensures { shape.new ≡ sets shape.old nodes_at (flat_map node_words (map node_shape (node_records s.now nodes))) }
 {
     let mut i: usize = 0;
@@ -49,7 +47,7 @@ pub fn write_edges(
     edge_to_col: &[u16; EDGE_CEILING],
     shape: &mut [u16],
 )
-    requires { (nodes ≤ node_ceiling) × (edges ≤ edge_ceiling) × (edge_place nodes edges ≤ length s.now) × (packed_shape_length ≤ length shape.old)
+    requires { (nodes ≤ node_ceiling) × (edges ≤ edge_ceiling) × (edge_place nodes edges ≤ length s.now) × (shape_length ≤ length shape.old)
         × ((e : ℕ) → e < edges → 1 ≤ get_or edge_to_col.now e 0) }
     ensures { shape.new ≡ sets shape.old edges_at (flat_map edge_words (edge_entries s.now edge_to_col.now nodes edges)) }
 {
@@ -76,7 +74,7 @@ fn sentinel_word(sentinel: Sentinel) -> u16
 
 // The sentinel and the counts; `varying` of the rows vary.
 pub fn write_counts(shape: &mut [u16], sentinel: Sentinel, z: Sizes, varying: usize)
-    requires { (packed_shape_length ≤ length shape.old) × Few z × (varying ≤ z.rows) }
+    requires { (shape_length ≤ length shape.old) × Few z × (varying ≤ z.rows) }
     ensures { shape.new ≡ sets shape.old sentinel_at (counts sentinel z varying) }
 {
     shape[SENTINEL_AT] = sentinel_word(sentinel);

@@ -8,7 +8,7 @@ use native.Mathlib.Omega.{arith}
 use mathlib.Core.List.{List, [], ◌∷◌, ◌++◌, append-nil, append_assoc}
 use lib.ListN.{length, get_or, take, length-append}
 use lib.Seq.{sets, length-sets, get_or-take}
-use Rattle.layout.specs.Layout.{makers_packed_at, packed_shape_length}
+use Rattle.layout.specs.Layout.{makers_at, shape_length}
 use Rattle.laws.specs.Part.{part}
 use Rattle.laws.proofs.Sets.{part_same, part_before, part_after, part_at}
 use Rattle.pywr.specs.Programme.{Maker}
@@ -20,18 +20,18 @@ use Rattle.build_sharers.proofs.OneMore.{more_same, more_other, shared_most}
 
 -- ---- words before the table stay
 
-pub word_kept : (shape shape' : List ℕ) (p : ℕ) → p < makers_packed_at → take makers_packed_at shape' ≡ take makers_packed_at shape → get_or shape' p 0 ≡ get_or shape p 0
-word_kept shape shape' p h e = sym (get_or-take makers_packed_at shape' p 0 h) ∙ ap (λ (l : List ℕ). get_or l p 0) e ∙ get_or-take makers_packed_at shape p 0 h
+pub word_kept : (shape shape' : List ℕ) (p : ℕ) → p < makers_at → take makers_at shape' ≡ take makers_at shape → get_or shape' p 0 ≡ get_or shape p 0
+word_kept shape shape' p h e = sym (get_or-take makers_at shape' p 0 h) ∙ ap (λ (l : List ℕ). get_or l p 0) e ∙ get_or-take makers_at shape p 0 h
 
 -- ---- an entry read
 
 word_of : (shape ws : List ℕ) (at j : ℕ) → j < 3 → part at 3 shape ≡ ws → get_or shape (at + j) 0 ≡ get_or ws j 0
 word_of shape ws at j h e = sym (part_at shape at 3 j 0 h) ∙ ap (λ (l : List ℕ). get_or l j 0) e
 
-pub entry_read : (shape : List ℕ) (row : ℕ) (m : Maker) → part (makers_packed_at + 3 * row) 3 shape ≡ maker_words m → maker_in shape row ≡ m
+pub entry_read : (shape : List ℕ) (row : ℕ) (m : Maker) → part (makers_at + 3 * row) 3 shape ≡ maker_words m → maker_in shape row ≡ m
 unfolding maker_words
 entry_read shape row m e =
-    let at : ℕ = makers_packed_at + 3 * row in
+    let at : ℕ = makers_at + 3 * row in
     let z : at + 0 ≡ at = omega arith in
     let a : get_or shape at 0 ≡ m.kind = ap (λ (p : ℕ). get_or shape p 0) (sym z) ∙ word_of shape (maker_words m) at 0 (omega arith) e in
     let b : get_or shape (at + 1) 0 ≡ m.index = word_of shape (maker_words m) at 1 (omega arith) e in
@@ -40,35 +40,35 @@ entry_read shape row m e =
 
 -- ---- one more has asked
 
-module _ (shape : List ℕ) (a : Asker) (under : a.row < 1024) (room : packed_shape_length ≤ length shape) (shape' : List ℕ)
-    (w : shape' ≡ sets shape (makers_packed_at + 3 * a.row) (maker_words (one_more a.kind a.index (maker_in shape a.row)))) where
+module _ (shape : List ℕ) (a : Asker) (under : a.row < 1024) (room : shape_length ≤ length shape) (shape' : List ℕ)
+    (w : shape' ≡ sets shape (makers_at + 3 * a.row) (maker_words (one_more a.kind a.index (maker_in shape a.row)))) where
   abbrev place : ℕ
-  place = makers_packed_at + 3 * a.row
+  place = makers_at + 3 * a.row
 
   abbrev entry : Maker
   entry = one_more a.kind a.index (maker_in shape a.row)
 
-  pub one_kept : take makers_packed_at shape' ≡ take makers_packed_at shape
-  one_kept = ap (take makers_packed_at) w ∙ part_before shape (maker_words entry) place 0 makers_packed_at (omega arith)
+  pub one_kept : take makers_at shape' ≡ take makers_at shape
+  one_kept = ap (take makers_at) w ∙ part_before shape (maker_words entry) place 0 makers_at (omega arith)
 
   pub one_more_lem : (rows : ℕ) (all : List Asker) → MakersOf all rows shape → MakersOf (all ++ (a ∷ [])) rows shape'
   one_more_lem rows all held r h = go (ℕ_discrete a.row r)
     where
-      here : a.row ≡ r → part (makers_packed_at + 3 * r) 3 shape' ≡ maker_words (maker_of (all ++ (a ∷ [])) r)
+      here : a.row ≡ r → part (makers_at + 3 * r) 3 shape' ≡ maker_words (maker_of (all ++ (a ∷ [])) r)
       here e =
-          let q : makers_packed_at + 3 * r ≡ place = omega (arith, e) in
+          let q : makers_at + 3 * r ≡ place = omega (arith, e) in
           let read : maker_in shape a.row ≡ maker_of all r = ap (maker_in shape) e ∙ entry_read shape r (maker_of all r) (held r h) in
           ap₂ (λ (p : ℕ) (l : List ℕ). part p 3 l) q w
           ∙ part_same shape (maker_words entry) place 3 (maker_wide entry) (omega arith)
           ∙ ap maker_words (ap (one_more a.kind a.index) read ∙ sym (more_same all a r e))
 
-      beside : a.row ≢ r → Dec (a.row ≤ r) → part (makers_packed_at + 3 * r) 3 (sets shape place (maker_words entry)) ≡ part (makers_packed_at + 3 * r) 3 shape
-      beside n (yes l) = part_after shape (maker_words entry) place (makers_packed_at + 3 * r) 3 (omega (arith, maker_wide entry, n, l))
-      beside n (no l) = part_before shape (maker_words entry) place (makers_packed_at + 3 * r) 3 (omega (arith, l))
+      beside : a.row ≢ r → Dec (a.row ≤ r) → part (makers_at + 3 * r) 3 (sets shape place (maker_words entry)) ≡ part (makers_at + 3 * r) 3 shape
+      beside n (yes l) = part_after shape (maker_words entry) place (makers_at + 3 * r) 3 (omega (arith, maker_wide entry, n, l))
+      beside n (no l) = part_before shape (maker_words entry) place (makers_at + 3 * r) 3 (omega (arith, l))
 
-      go : Dec (a.row ≡ r) → part (makers_packed_at + 3 * r) 3 shape' ≡ maker_words (maker_of (all ++ (a ∷ [])) r)
+      go : Dec (a.row ≡ r) → part (makers_at + 3 * r) 3 shape' ≡ maker_words (maker_of (all ++ (a ∷ [])) r)
       go (yes e) = here e
-      go (no n) = ap (part (makers_packed_at + 3 * r) 3) w ∙ beside n (dec_le a.row r) ∙ held r h ∙ ap maker_words (sym (more_other all a r n))
+      go (no n) = ap (part (makers_at + 3 * r) 3) w ∙ beside n (dec_le a.row r) ∙ held r h ∙ ap maker_words (sym (more_other all a r n))
 
 -- ---- rows under the count
 
@@ -128,12 +128,12 @@ module _ (shape₀ : List ℕ) (asker : ℕ → Asker) (count : ℕ) where
           ready.room,
         )
 
-    pub walked_more : packed_shape_length ≤ length shape₀ → (a : Asker) → a ≡ asker i → (shape' : List ℕ)
-        → shape' ≡ sets shape (makers_packed_at + 3 * a.row) (maker_words (one_more a.kind a.index (maker_in shape a.row))) → Walked shape₀ asker count shape' (i + 1)
+    pub walked_more : shape_length ≤ length shape₀ → (a : Asker) → a ≡ asker i → (shape' : List ℕ)
+        → shape' ≡ sets shape (makers_at + 3 * a.row) (maker_words (one_more a.kind a.index (maker_in shape a.row))) → Walked shape₀ asker count shape' (i + 1)
     unfolding askers_to
     walked_more room a e shape' s =
         let under : a.row < 1024 = subst (λ (x : Asker). x.row < 1024) (sym e) next_under in
-        let here : packed_shape_length ≤ length shape = omega (arith, w.long) in
+        let here : shape_length ≤ length shape = omega (arith, w.long) in
         record {
           few = omega arith;
           counted =
@@ -143,7 +143,7 @@ module _ (shape₀ : List ℕ) (asker : ℕ → Asker) (count : ℕ) where
                     (one_more_lem shape a under here shape' s rows (all ++ askers_to asker i) (w.counted.held rows all h));
                 kept = one_kept shape a under here shape' s ∙ w.counted.kept;
               };
-          long = ap length s ∙ length-sets shape (makers_packed_at + 3 * a.row) (maker_words (one_more a.kind a.index (maker_in shape a.row))) ∙ w.long;
+          long = ap length s ∙ length-sets shape (makers_at + 3 * a.row) (maker_words (one_more a.kind a.index (maker_in shape a.row))) ∙ w.long;
         }
 
   pub walked_all : (shape : List ℕ) (i : ℕ) → count ≤ i → Walked shape₀ asker count shape i → Counted shape₀ (askers_to asker count) shape

@@ -1,28 +1,26 @@
 // Who made the varying rows, which makers may share: the first that asked for a row, and how many did. `shape` is the part of a build's work run where
-// the shape run is made, with the tables of packed node rows, aggregates and virtual storages in it.
-#![tactic(auto)]
-
+// the shape run is made, with the tables of node rows, aggregates and virtual storages in it.
 ghost use Rattle.std.specs.Prelude.{◌≡◌, ◌+◌, ◌*◌, ◌<◌, ◌≤◌, length, take};
 ghost use mathlib.Core.List.{flat_map};
 ghost use Rattle.std.proofs.lemmas.List.Edits.{sets};
-ghost use Rattle.layout.specs.Layout.{node_row_ceiling, aggregate_ceiling, virtual_storage_ceiling, row_ceiling, packed_shape_length, makers_packed_at, maker_width};
+ghost use Rattle.layout.specs.Layout.{node_row_ceiling, aggregate_ceiling, virtual_storage_ceiling, row_ceiling, shape_length, makers_at, maker_width};
 ghost use Rattle.laws.specs.Part.{part};
 ghost use Rattle.pywr.specs.Makers.{varying_makers};
 ghost use Rattle.pywr.specs.Written.{maker_words};
 ghost use Rattle.build_sharers.specs.Sharers.{maker_in, one_more, node_asker, entry_asker, askers_to, askers_in, RowsUnder, Counting, Counted};
 
 use layout::{
-    AGGREGATE_WIDTH, AGGREGATES_PACKED_AT, BY_AGGREGATE, BY_NODE, BY_VIRTUAL_STORAGE, MAKER_INDEX,
-    MAKER_SHARED_BY, MAKER_WIDTH, MAKERS_PACKED_AT, NODE_ROWS_AT, PACKED_NODE_ROW_WIDTH,
-    PACKED_ROW, PACKED_SET, PACKED_TYPE, VIRTUAL_STORAGE_WIDTH, VIRTUAL_STORAGES_PACKED_AT,
+    AGGREGATE_WIDTH, AGGREGATES_AT, BY_AGGREGATE, BY_NODE, BY_VIRTUAL_STORAGE, MAKER_INDEX,
+    MAKER_SHARED_BY, MAKER_WIDTH, MAKERS_AT, NODE_ROW_ROW, NODE_ROW_WIDTH, NODE_ROWS_AT,
+    VIRTUAL_STORAGE_WIDTH, VIRTUAL_STORAGES_AT,
 };
 
 // One more that asked for a row: the first is its maker, and all are counted.
 fn add_sharer(shape: &mut [u16], row: usize, kind: u16, index: u16)
-    requires { (row < row_ceiling) × (packed_shape_length ≤ length shape.old) × ((maker_in shape.old row).shared_by < 65535) }
-    ensures { shape.new ≡ sets shape.old (makers_packed_at + maker_width * row) (maker_words (one_more kind index (maker_in shape.old row))) }
+    requires { (row < row_ceiling) × (shape_length ≤ length shape.old) × ((maker_in shape.old row).shared_by < 65535) }
+    ensures { shape.new ≡ sets shape.old (makers_at + maker_width * row) (maker_words (one_more kind index (maker_in shape.old row))) }
 {
-    let at = MAKERS_PACKED_AT + MAKER_WIDTH * row;
+    let at = MAKERS_AT + MAKER_WIDTH * row;
     let before = shape[at + MAKER_SHARED_BY];
     if before == 0 {
         build_makers::put_maker(shape, row, kind, index, 1);
@@ -35,14 +33,14 @@ fn add_sharer(shape: &mut [u16], row: usize, kind: u16, index: u16)
 
 // The nodes asked for the rows of the first `count` node rows.
 fn add_node_sharers(shape: &mut [u16], count: usize)
-    requires { (count ≤ node_row_ceiling) × (packed_shape_length ≤ length shape.old) × Counting shape.old (askers_to (node_asker shape.old) count) }
+    requires { (count ≤ node_row_ceiling) × (shape_length ≤ length shape.old) × Counting shape.old (askers_to (node_asker shape.old) count) }
     ensures { Counted shape.old (askers_to (node_asker shape.old) count) shape.new }
 {
     let mut i: usize = 0;
     while i < count {
-        let at = NODE_ROWS_AT + PACKED_NODE_ROW_WIDTH * i;
-        let node = shape[at] % PACKED_SET;
-        let row = widths::wide16(shape[at + PACKED_ROW] % PACKED_TYPE);
+        let at = NODE_ROWS_AT + NODE_ROW_WIDTH * i;
+        let node = shape[at];
+        let row = widths::wide16(shape[at + NODE_ROW_ROW]);
         add_sharer(shape, row, BY_NODE, node);
         i += 1;
     }
@@ -50,7 +48,7 @@ fn add_node_sharers(shape: &mut [u16], count: usize)
 
 // The makers of one kind asked for the rows that stand first in the first `count` entries of a table.
 fn add_sharers(shape: &mut [u16], at: usize, width: usize, count: usize, kind: u16)
-    requires { (at + width * count ≤ makers_packed_at) × (count ≤ aggregate_ceiling) × (1 ≤ width) × (packed_shape_length ≤ length shape.old)
+    requires { (at + width * count ≤ makers_at) × (count ≤ aggregate_ceiling) × (1 ≤ width) × (shape_length ≤ length shape.old)
         × Counting shape.old (askers_to (entry_asker shape.old at width kind) count) }
     ensures { Counted shape.old (askers_to (entry_asker shape.old at width kind) count) shape.new }
 {
@@ -71,24 +69,24 @@ pub fn put_varying_makers(
     virtual_storages: usize,
 )
     requires { (rows ≤ row_ceiling) × (node_rows ≤ node_row_ceiling) × (aggregates ≤ aggregate_ceiling) × (virtual_storages ≤ virtual_storage_ceiling)
-        × (packed_shape_length ≤ length shape.old) × RowsUnder rows (askers_in shape.old node_rows aggregates virtual_storages) }
-    ensures { (part makers_packed_at (maker_width * rows) shape.new
+        × (shape_length ≤ length shape.old) × RowsUnder rows (askers_in shape.old node_rows aggregates virtual_storages) }
+    ensures { (part makers_at (maker_width * rows) shape.new
         ≡ flat_map maker_words (varying_makers (askers_in shape.old node_rows aggregates virtual_storages) 0 rows))
-        × (take makers_packed_at shape.new ≡ take makers_packed_at shape.old) }
+        × (take makers_at shape.new ≡ take makers_at shape.old) }
 {
     // shared by 0: nobody has asked yet
     build_makers::put_makers(shape, 0, rows, 0, 0, 0);
     add_node_sharers(shape, node_rows);
     add_sharers(
         shape,
-        AGGREGATES_PACKED_AT,
+        AGGREGATES_AT,
         AGGREGATE_WIDTH,
         aggregates,
         BY_AGGREGATE,
     );
     add_sharers(
         shape,
-        VIRTUAL_STORAGES_PACKED_AT,
+        VIRTUAL_STORAGES_AT,
         VIRTUAL_STORAGE_WIDTH,
         virtual_storages,
         BY_VIRTUAL_STORAGE,

@@ -7,8 +7,7 @@ use native.Mathlib.Omega.{arith}
 use lib.ListN.{length, take, drop, length-drop, length-map}
 use lib.Seq.{take-add, drop_at, length-take-le, take-take, drop-drop}
 use lib.Ieee.{Float}
-use Rattle.layout.specs.Layout.{aggregates_packed_at, aggregates_made_at, node_row_ceiling, node_rows_made_at, shape_made_at, virtual_storages_packed_at, virtual_storages_made_at, words_length}
-use Rattle.layout.specs.PackedNodeRow.{unpacked_node_rows}
+use Rattle.layout.specs.Layout.{aggregates_at, aggregates_made_at, node_row_ceiling, node_rows_made_at, shape_made_at, virtual_storages_at, virtual_storages_made_at, words_length}
 use Rattle.laws.specs.Part.{part}
 use Rattle.pywr.specs.declared.Sentinel.{Sentinel}
 use Rattle.pywr.specs.Network.{Network}
@@ -105,7 +104,7 @@ module _ (s : Sentinel) (net : Network) where
 
   module _ (aggregates virtual_storages : ℕ) (ca : aggregates ≡ length net.aggregates) (cs : virtual_storages ≡ length net.virtual_storages) where
     pub all_laid : (n : NodeRows) (g f : Filled) (ra rv : RowsAdded) (words₁ words₂ words₃ : List ℕ) (numbers₁ numbers₂ numbers₃ : List Float)
-        → n.count ≤ node_row_ceiling → words_length ≤ length words₁ → words_length ≤ length words₂ → words_length ≤ length words₃ → aggregates ≤ 64
+        → 4 * n.count ≤ 17408 → words_length ≤ length words₁ → words_length ≤ length words₂ → words_length ≤ length words₃ → aggregates ≤ 64
         → NodeRowsHeld s asks words₁ numbers₁ n
         → AfterVariableRows s rows₁ for_aggregates aggregates_made_at aggregates (λ places. places) words₁ ra words₂ numbers₂
         → ra ≡ Done g
@@ -115,16 +114,16 @@ module _ (s : Sentinel) (net : Network) where
         → AfterVarying s net (NodeRowsAdded.Done (record { filled = f; count = n.count })) words₃ numbers₃
     unfolding programme_of assemble
     all_laid n g f ra rv words₁ words₂ words₃ numbers₁ numbers₂ numbers₃ few l₁ l₂ l₃ fa h a ea v ev =
-        let node-table : part node_rows_made_at (2 * n.count) words₃ ≡ part node_rows_made_at (2 * n.count) words₁ =
-        inside words₂ words₃ shape_made_at virtual_storages_packed_at node_rows_made_at (2 * n.count) (omega arith) (omega arith) (omega arith) (omega arith) v.kept
-        ∙ inside words₁ words₂ shape_made_at aggregates_packed_at node_rows_made_at (2 * n.count) (omega arith) (omega arith) (omega arith) (omega arith) a.kept in
+        let node-table : part node_rows_made_at (4 * n.count) words₃ ≡ part node_rows_made_at (4 * n.count) words₁ =
+        inside words₂ words₃ shape_made_at virtual_storages_at node_rows_made_at (4 * n.count) (omega arith) (omega arith) (omega arith) (omega arith) v.kept
+        ∙ inside words₁ words₂ shape_made_at aggregates_at node_rows_made_at (4 * n.count) (omega arith) (omega arith) (omega arith) (omega arith) a.kept in
         let aggregate-table : part aggregates_made_at aggregates words₃ ≡ part aggregates_made_at aggregates words₂ =
-        inside words₂ words₃ shape_made_at virtual_storages_packed_at aggregates_made_at aggregates (omega arith) (omega arith) (omega arith) (omega arith) v.kept in
+        inside words₂ words₃ shape_made_at virtual_storages_at aggregates_made_at aggregates (omega arith) (omega arith) (omega arith) (omega arith) v.kept in
         let laid : VaryingLaid s net (record { filled = f; count = n.count }) words₃ numbers₃ =
         record {
           held = v.held f ev;
           counted = h.counted;
-          node_rows = ap unpacked_node_rows node-table ∙ h.table;
+          node_rows = node-table ∙ h.table;
           aggregates = ap (λ (k : ℕ). part aggregates_made_at k words₃) (sym ca) ∙ aggregate-table ∙ a.placed g ea;
           virtual_storages = ap (λ (k : ℕ). part virtual_storages_made_at (6 * k) words₃) (sym cs) ∙ v.placed f ev;
         } in

@@ -1,9 +1,7 @@
 // The rows of the virtual storages (SolverBuilder::create_virtual_storage_constraints of builder.rs).
-#![tactic(auto)]
-
 ghost use Rattle.std.specs.Prelude.{◌≡◌, List, map, not, ◌+◌, ◌*◌, ◌≤◌, length};
 ghost use Rattle.std.proofs.lemmas.List.Edits.{sets};
-ghost use Rattle.layout.specs.Layout.{column_ceiling, virtual_storage_width, virtual_storages_packed_at, virtual_storages_made_at, words_length, numbers_length};
+ghost use Rattle.layout.specs.Layout.{column_ceiling, virtual_storage_width, virtual_storages_at, virtual_storages_made_at, words_length, numbers_length};
 ghost use Rattle.pywr.specs.Rows.{Element, column_map, virtual_storage_row};
 ghost use Rattle.pywr.specs.VaryingRows.{fresh_row};
 ghost use Rattle.pywr.specs.Written.{flag_word, virtual_storage_words};
@@ -23,7 +21,7 @@ use build_join::VariableRow;
 use layout::{
     COLUMN_CEILING, EDGE_CEILING, ELEMENTS_MADE_AT, NODE_CEILING, PERIOD_END_DAY, PERIOD_END_MONTH,
     PERIOD_FLAG, PERIOD_START_DAY, PERIOD_START_MONTH, SHAPE_MADE_AT, VIRTUAL_STORAGE_WIDTH,
-    VIRTUAL_STORAGES_PACKED_AT,
+    VIRTUAL_STORAGES_AT,
 };
 use network_record::Counts;
 use network_virtual_storage::Period;
@@ -122,10 +120,10 @@ fn period_word(always: bool) -> u16
 
 // Virtual storage i of the table: its row, then its period.
 fn put_virtual_storage(shape: &mut [u16], i: usize, row: u16, period: Period)
-    requires { virtual_storages_packed_at + virtual_storage_width * i + virtual_storage_width ≤ length shape.old }
-    ensures { shape.new ≡ sets shape.old (virtual_storages_packed_at + virtual_storage_width * i) (virtual_storage_words (record { row = row; period = period_of period })) }
+    requires { virtual_storages_at + virtual_storage_width * i + virtual_storage_width ≤ length shape.old }
+    ensures { shape.new ≡ sets shape.old (virtual_storages_at + virtual_storage_width * i) (virtual_storage_words (record { row = row; period = period_of period })) }
 {
-    let at = VIRTUAL_STORAGES_PACKED_AT + VIRTUAL_STORAGE_WIDTH * i;
+    let at = VIRTUAL_STORAGES_AT + VIRTUAL_STORAGE_WIDTH * i;
     shape[at] = row;
     shape[at + PERIOD_FLAG] = period_word(period.always);
     shape[at + PERIOD_START_MONTH] = widths::byte_to_u16(period.start_month);

@@ -1,4 +1,3 @@
 pub mod Filled
-mod NodeRowsWritten
 mod RowByRow
 mod ShapeLaws

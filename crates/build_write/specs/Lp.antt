@@ -3,9 +3,8 @@
 use Rattle.std.specs.Prelude.{◌≡◌, ℕ, ◌+◌, ◌*◌, ◌<◌, ◌≤◌, List, ◌++◌, map, get_or, replicate, Float}
 use Rattle.std.proofs.lemmas.List.Edits.{sets}
 use Rattle.layout.specs.Layout.{node_ceiling, edge_ceiling, aggregate_ceiling, virtual_storage_ceiling, set_ceiling, row_ceiling, element_ceiling, node_row_ceiling, counts_length}
-use Rattle.layout.specs.Layout.{nodes_at, edges_at, node_rows_at, aggregates_at, virtual_storages_at, node_width, edge_width, packed_node_row_width, virtual_storage_width, makers_at, maker_width, flow_order_at}
+use Rattle.layout.specs.Layout.{nodes_at, edges_at, node_rows_at, aggregates_at, virtual_storages_at, node_width, edge_width, node_row_width, virtual_storage_width, makers_at, maker_width, flow_order_at}
 use Rattle.layout.specs.Layout.{starts_made_at, shape_made_at, nodes_made_at, edges_made_at, node_rows_made_at, aggregates_made_at, virtual_storages_made_at, makers_made_at, flow_order_made_at, uppers_made_at, elements_made_at}
-use Rattle.layout.specs.PackedNodeRow.{unpacked_node_rows}
 use Rattle.laws.specs.Part.{part}
 use Rattle.pywr.specs.declared.Sentinel.{Sentinel}
 use Rattle.pywr.specs.Programme.{Column}
@@ -48,13 +47,13 @@ pub record MatrixWritten (z : Sizes) (words : List ℕ) (numbers elements : List
   pub places : columns' ≡ sets columns 0 (part 0 z.elements words)
   pub row_starts : starts' ≡ sets starts 0 (part starts_made_at (z.rows + 1) words)
 
--- the counts, then the tables of nodes, edges, node rows (unpacked), aggregates and virtual storages
+-- the counts, then the tables of nodes, edges, node rows, aggregates and virtual storages
 unfoldable pub shape_tables : Sizes → List ℕ → List ℕ → List ℕ
 shape_tables z words old =
     let counts : List ℕ = sets old 0 (part shape_made_at counts_length words) in
     let nodes : List ℕ = sets counts nodes_at (part nodes_made_at (node_width * z.nodes) words) in
     let edges : List ℕ = sets nodes edges_at (part edges_made_at (edge_width * z.edges) words) in
-    let node_rows : List ℕ = sets edges node_rows_at (unpacked_node_rows (part node_rows_made_at (packed_node_row_width * z.node_rows) words)) in
+    let node_rows : List ℕ = sets edges node_rows_at (part node_rows_made_at (node_row_width * z.node_rows) words) in
     let aggregates : List ℕ = sets node_rows aggregates_at (part aggregates_made_at z.aggregates words) in
     sets aggregates virtual_storages_at (part virtual_storages_made_at (virtual_storage_width * z.virtual_storages) words)
 

@@ -1,21 +1,15 @@
 // An assembled programme written from the work runs into the store's runs (LpBuilder::build of builder.rs).
-#![tactic(auto)]
-
-ghost use Rattle.std.specs.Prelude.{◌≡◌, ◌*◌, ◌≤◌, length};
+ghost use Rattle.std.specs.Prelude.{◌≡◌, ◌≤◌, length};
 ghost use Rattle.std.proofs.lemmas.List.Edits.{sets};
-ghost use Rattle.layout.specs.Layout.{column_ceiling, row_ceiling, element_ceiling, node_row_ceiling, row_starts_length, shape_length, words_length, elements_made_at, numbers_length};
-ghost use Rattle.layout.specs.Layout.{node_rows_at, packed_node_row_width, packed_shape_length};
-ghost use Rattle.layout.specs.PackedNodeRow.{unpacked_node_rows};
+ghost use Rattle.layout.specs.Layout.{column_ceiling, row_ceiling, element_ceiling, row_starts_length, shape_length, words_length, elements_made_at, numbers_length};
 ghost use Rattle.laws.specs.Part.{part};
 ghost use Rattle.build_write.specs.Lp.{Few, RowStarts, ColumnsWritten, RowsWritten, MatrixWritten, shape_tables, shape_written};
 ghost use Rattle.layout.specs.WorkRoom.{WorkRoom};
 
 use layout::{
-    AGGREGATES_AT, AGGREGATES_PACKED_AT, COUNTS_LENGTH, EDGE_WIDTH, EDGES_AT, ELEMENTS_MADE_AT,
-    FLOW_ORDER_AT, FLOW_ORDER_PACKED_AT, MAKER_WIDTH, MAKERS_AT, MAKERS_PACKED_AT, NODE_ROW_ROW,
-    NODE_ROW_SET, NODE_ROW_TYPE, NODE_ROW_WIDTH, NODE_ROWS_AT, NODE_WIDTH, NODES_AT,
-    PACKED_NODE_ROW_WIDTH, PACKED_ROW, PACKED_SET, PACKED_TYPE, SHAPE_MADE_AT, STARTS_MADE_AT,
-    UPPERS_MADE_AT, VIRTUAL_STORAGE_WIDTH, VIRTUAL_STORAGES_AT, VIRTUAL_STORAGES_PACKED_AT,
+    AGGREGATES_AT, COUNTS_LENGTH, EDGE_WIDTH, EDGES_AT, ELEMENTS_MADE_AT, FLOW_ORDER_AT,
+    MAKER_WIDTH, MAKERS_AT, NODE_ROW_WIDTH, NODE_ROWS_AT, NODE_WIDTH, NODES_AT, SHAPE_MADE_AT,
+    STARTS_MADE_AT, UPPERS_MADE_AT, VIRTUAL_STORAGE_WIDTH, VIRTUAL_STORAGES_AT,
 };
 use pywr::Sentinel;
 
@@ -108,24 +102,6 @@ pub fn write_matrix(
     runs::widen_u16(row_starts, 0, words, STARTS_MADE_AT, n);
 }
 
-// The node rows, unpacked. `made` is the part of a build's work run where the shape run's words are made.
-fn write_node_rows(shape: &mut [u16], made: &[u16], count: usize)
-    requires { (shape_length ≤ length shape.old) × (packed_shape_length ≤ length made.now) × (count ≤ node_row_ceiling) }
-    ensures { shape.new ≡ sets shape.old node_rows_at (unpacked_node_rows (part node_rows_at (packed_node_row_width * count) made.now)) }
-{
-    let mut i: usize = 0;
-    while i < count {
-        let node = made[NODE_ROWS_AT + PACKED_NODE_ROW_WIDTH * i];
-        let row = made[NODE_ROWS_AT + PACKED_NODE_ROW_WIDTH * i + PACKED_ROW];
-        let at = NODE_ROWS_AT + NODE_ROW_WIDTH * i;
-        shape[at] = node % PACKED_SET;
-        shape[at + NODE_ROW_ROW] = row % PACKED_TYPE;
-        shape[at + NODE_ROW_TYPE] = row / PACKED_TYPE;
-        shape[at + NODE_ROW_SET] = node / PACKED_SET;
-        i += 1;
-    }
-}
-
 // The shape run's counts and the tables that steps read.
 fn write_tables(z: Sizes, words: &[u16], shape: &mut [u16])
     requires { Few z × (words_length ≤ length words.now) × (shape_length ≤ length shape.old) }
@@ -135,19 +111,19 @@ fn write_tables(z: Sizes, words: &[u16], shape: &mut [u16])
     runs::copy_u16(shape, 0, made, 0, COUNTS_LENGTH);
     runs::copy_u16(shape, NODES_AT, made, NODES_AT, NODE_WIDTH * z.nodes);
     runs::copy_u16(shape, EDGES_AT, made, EDGES_AT, EDGE_WIDTH * z.edges);
-    write_node_rows(shape, made, z.node_rows);
     runs::copy_u16(
         shape,
-        AGGREGATES_AT,
+        NODE_ROWS_AT,
         made,
-        AGGREGATES_PACKED_AT,
-        z.aggregates,
+        NODE_ROWS_AT,
+        NODE_ROW_WIDTH * z.node_rows,
     );
+    runs::copy_u16(shape, AGGREGATES_AT, made, AGGREGATES_AT, z.aggregates);
     runs::copy_u16(
         shape,
         VIRTUAL_STORAGES_AT,
         made,
-        VIRTUAL_STORAGES_PACKED_AT,
+        VIRTUAL_STORAGES_AT,
         VIRTUAL_STORAGE_WIDTH * z.virtual_storages,
     );
 }
@@ -159,12 +135,6 @@ pub fn write_shape(z: Sizes, words: &[u16], shape: &mut [u16])
 {
     write_tables(z, words, shape);
     let made = &words[SHAPE_MADE_AT..];
-    runs::copy_u16(
-        shape,
-        MAKERS_AT,
-        made,
-        MAKERS_PACKED_AT,
-        MAKER_WIDTH * z.rows,
-    );
-    runs::copy_u16(shape, FLOW_ORDER_AT, made, FLOW_ORDER_PACKED_AT, z.edges);
+    runs::copy_u16(shape, MAKERS_AT, made, MAKERS_AT, MAKER_WIDTH * z.rows);
+    runs::copy_u16(shape, FLOW_ORDER_AT, made, FLOW_ORDER_AT, z.edges);
 }

@@ -237,33 +237,13 @@ flow_order_edge shape at = get_or shape at 0
 
 -- ---- the build's work area
 
--- a run of words: the elements' columns from 0, the row starts, then the shape run's words with each node row packed in two words
+-- a run of words: the elements' columns from 0, the row starts, then the shape run's words
 abbrev pub starts_made_at : ℕ
 starts_made_at = 4096
 
 abbrev pub shape_made_at : ℕ
 shape_made_at = 5121
 
--- where the tables behind the packed node rows start, and how long the whole is
-abbrev pub aggregates_packed_at : ℕ
-aggregates_packed_at = 10763
-
-abbrev pub virtual_storages_packed_at : ℕ
-virtual_storages_packed_at = 10827
-
-abbrev pub makers_packed_at : ℕ
-makers_packed_at = 11019
-
-abbrev pub flow_order_packed_at : ℕ
-flow_order_packed_at = 14091
-
-abbrev pub packed_shape_length : ℕ
-packed_shape_length = 14603
-
-abbrev pub packed_node_row_width : ℕ
-packed_node_row_width = 2
-
--- and where each starts in the run of words
 abbrev pub nodes_made_at : ℕ
 nodes_made_at = shape_made_at + nodes_at
 
@@ -274,19 +254,19 @@ abbrev pub node_rows_made_at : ℕ
 node_rows_made_at = shape_made_at + node_rows_at
 
 abbrev pub aggregates_made_at : ℕ
-aggregates_made_at = shape_made_at + aggregates_packed_at
+aggregates_made_at = shape_made_at + aggregates_at
 
 abbrev pub virtual_storages_made_at : ℕ
-virtual_storages_made_at = shape_made_at + virtual_storages_packed_at
+virtual_storages_made_at = shape_made_at + virtual_storages_at
 
 abbrev pub makers_made_at : ℕ
-makers_made_at = shape_made_at + makers_packed_at
+makers_made_at = shape_made_at + makers_at
 
 abbrev pub flow_order_made_at : ℕ
-flow_order_made_at = shape_made_at + flow_order_packed_at
+flow_order_made_at = shape_made_at + flow_order_at
 
 abbrev pub words_length : ℕ
-words_length = 19724
+words_length = 28428
 
 -- a run of doubles: the rows' lower bounds from 0, their upper bounds, then the elements, with room for the row that is being gathered
 abbrev pub uppers_made_at : ℕ
@@ -330,12 +310,7 @@ pub record Follows : Type 0 where
   pub shape : shape_length ≡ flow_order_at + flow_order_width * edge_ceiling
   pub starts_made : starts_made_at ≡ element_ceiling
   pub shape_made : shape_made_at ≡ starts_made_at + row_starts_length
-  pub aggregates_packed : aggregates_packed_at ≡ node_rows_at + packed_node_row_width * node_row_ceiling
-  pub virtual_storages_packed : virtual_storages_packed_at ≡ aggregates_packed_at + aggregate_width * aggregate_ceiling
-  pub makers_packed : makers_packed_at ≡ virtual_storages_packed_at + virtual_storage_width * virtual_storage_ceiling
-  pub flow_order_packed : flow_order_packed_at ≡ makers_packed_at + maker_width * row_ceiling
-  pub packed_shape : packed_shape_length ≡ flow_order_packed_at + flow_order_width * edge_ceiling
-  pub words : words_length ≡ shape_made_at + packed_shape_length
+  pub words : words_length ≡ shape_made_at + shape_length
   pub uppers_made : uppers_made_at ≡ row_ceiling
   pub elements_made : elements_made_at ≡ uppers_made_at + row_ceiling
   pub numbers : numbers_length ≡ elements_made_at + element_ceiling + column_ceiling
@@ -362,11 +337,6 @@ follows =
       shape = refl;
       starts_made = refl;
       shape_made = refl;
-      aggregates_packed = refl;
-      virtual_storages_packed = refl;
-      makers_packed = refl;
-      flow_order_packed = refl;
-      packed_shape = refl;
       words = refl;
       uppers_made = refl;
       elements_made = refl;

@@ -1,3 +1,2 @@
 pub mod Layout
-pub mod PackedNodeRow
 pub mod WorkRoom

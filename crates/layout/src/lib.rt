@@ -1,6 +1,5 @@
 // The layout of the store and of the work areas: ceilings, lengths of runs, and where each thing stands in a run. A number that follows from others is
 // computed from them. specs/Layout.antt has the same numbers for contracts and definitions.
-#![tactic(auto)]
 
 // At most so many of each. Edges have at most as many columns as there are edges; the node rows of a node are one, or two for each of its memberships.
 pub const NODE_CEILING: usize = 256;
@@ -133,34 +132,12 @@ pub const BY_EXCLUSIVITY: u16 = 4;
 
 pub const MAKER_KINDS: usize = BY_EXCLUSIVITY as usize + 1;
 
-// The build's work run of words: the elements' columns from 0, the row starts, then the shape run's words with each node row packed in two words: the counts,
-// the nodes, the edges and the node rows with the offsets of the shape run, the tables behind them with offsets of their own.
+// The build's work run of words: the elements' columns from 0, the row starts, then the shape run's words, with the offsets of the shape run.
 pub const STARTS_MADE_AT: usize = ELEMENT_CEILING;
 
 pub const SHAPE_MADE_AT: usize = STARTS_MADE_AT + ROW_STARTS_LENGTH;
 
-pub const AGGREGATES_PACKED_AT: usize = NODE_ROWS_AT + PACKED_NODE_ROW_WIDTH * NODE_ROW_CEILING;
-
-pub const VIRTUAL_STORAGES_PACKED_AT: usize = AGGREGATES_PACKED_AT
-    + AGGREGATE_WIDTH * AGGREGATE_CEILING;
-
-pub const MAKERS_PACKED_AT: usize = VIRTUAL_STORAGES_PACKED_AT
-    + VIRTUAL_STORAGE_WIDTH * VIRTUAL_STORAGE_CEILING;
-
-pub const FLOW_ORDER_PACKED_AT: usize = MAKERS_PACKED_AT + MAKER_WIDTH * ROW_CEILING;
-
-pub const PACKED_SHAPE_LENGTH: usize = FLOW_ORDER_PACKED_AT + FLOW_ORDER_WIDTH * EDGE_CEILING;
-
-pub const WORDS_LENGTH: usize = SHAPE_MADE_AT + PACKED_SHAPE_LENGTH;
-
-// A packed node row: node + PACKED_SET * set, row + PACKED_TYPE * row type.
-pub const PACKED_NODE_ROW_WIDTH: usize = 2;
-
-pub const PACKED_ROW: usize = 1;
-
-pub const PACKED_SET: u16 = NODE_CEILING as u16;
-
-pub const PACKED_TYPE: u16 = ROW_CEILING as u16;
+pub const WORDS_LENGTH: usize = SHAPE_MADE_AT + SHAPE_LENGTH;
 
 // Its work run of doubles: the rows' lower bounds from 0, their upper bounds, then the elements, with room for the row that is being gathered.
 pub const UPPERS_MADE_AT: usize = ROW_CEILING;

@@ -145,8 +145,8 @@ module _ (file : List ℕ) where
           factor = f.1;
         }
 
-    part_within_lem : (at x : ℕ) → check_part file place nodes at ≡ Checked.Next x → x ≤ length file
-    part_within_lem at x e = omega (arith, part_end at x e, (part_passed at x e).within)
+    part_within : (at x : ℕ) → check_part file place nodes at ≡ Checked.Next x → x ≤ length file
+    part_within at x e = omega (arith, part_end at x e, (part_passed at x e).within)
 
   -- ---- an aggregate
 
@@ -207,7 +207,7 @@ module _ (file : List ℕ) where
         let s = parts_passed in
         let pass = each_pass (check_part file at nodes) (λ y. y + 10) (part_end at nodes) (byte file (at + 7)) (at + 8) x s.3 in
         record {
-          within = subst (λ (y : ℕ). y ≤ length file) virtual_storage_end_lem (each_within (check_part file at nodes) (length file) (part_within_lem at nodes) (byte file (at + 7)) (at + 8) x s.0 s.3);
+          within = subst (λ (y : ℕ). y ≤ length file) virtual_storage_end_lem (each_within (check_part file at nodes) (length file) (part_within at nodes) (byte file (at + 7)) (at + 8) x s.0 s.3);
           least = s.1;
           most = s.2;
           parts = λ k lt. subst (PartPassed file nodes) (end_fixed 10 k (at + 8)) (part_passed at nodes _ _ (pass k lt));

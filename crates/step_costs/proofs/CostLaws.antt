@@ -1,38 +1,31 @@
 -- Costs by the numbers of their nodes, and the run of costs while the edges are added one after another. Assumes nothing.
 use mathlib.Core.Path.{◌≡◌, refl, sym, ◌∙◌, ap}
-use mathlib.Core.Bool.{true, not, ◌&&◌}
-use mathlib.Core.List.Memᴰ
+use mathlib.Core.Bool.{true, ◌&&◌}
 use mathlib.Core.List.{List, [], ◌∷◌, ◌++◌, map}
 use Prim.Native.Nat.{ℕ, zero, suc, ◌+◌, ◌*◌, ◌-◌, ◌≤◌, ◌<◌, zero-le}
 use native.Mathlib.Nat.{one-mul}
 use native.Mathlib.Omega.{arith}
-use lib.Dec.{T, ltb, ltb→lt}
+use lib.Dec.{ltb, ltb→lt}
 use lib.ListN.{length, get_or, set, drop, replicate, length-append, length-drop, length-set, length-replicate, drop_of_length-le, get_or-append}
 use lib.Seq.{sets, sets-eq, set-append_left, drop_at}
-use lib.Ieee.{Float, nan, inf, fin, binary64, of_bits, is_nan, add}
-use lib.Ieee.Bits.{nan_bits_is}
-use lib.Ieee.Scale.{finite}
+use lib.Ieee.{Float, nan, binary64, of_bits, add}
 use lib.Ieee.Fits.{and_l, and_r}
 use Rattle.layout.specs.Layout.{edges_at, flow_order_at}
 use Rattle.laws.proofs.Runs.{drop_next, get_d_any}
-use Rattle.pywr.specs.Bytes.{le64}
-use Rattle.pywr.specs.Numbers.{zero64, two64, is_flow, of_pattern}
-use Rattle.pywr.specs.Result.{value}
+use Rattle.pywr.specs.Numbers.{zero64, two64}
 use Rattle.pywr.specs.Programme.{Column, NodeShape, Shape}
 use Rattle.pywr.specs.ColEdgeMap.{MappedEdge}
-use Rattle.pywr.specs.StepFile.{NodeStep, read_step}
+use Rattle.pywr.specs.StepFile.{NodeStep}
 use Rattle.pywr.specs.Costs.{edge_cost, kind_at, cost_at, add_costs, no_mapped_edge, edges_numbered, step_costs}
 use Rattle.pywr.specs.Store.{Store, word, entries, node_entry, edge_entry, node_row_entry, virtual_storage_entry, node_count, edge_column_count, column_count, shape_of, programme_in}
 use Rattle.pywr.specs.Step.{with_costs}
-use Rattle.pywr.proofs.ListLaws.{AllMem}
-use Rattle.pywr.proofs.CostReadLaws.{UpTo, most, OfCost, step_costs_lem}
 use Rattle.pywr.proofs.RunLaws.{step_costs_length, with_costs_are}
 use Rattle.pywr.specs.Misshapen.{edge_fits, flow_order_fits, all_entries}
 use Rattle.laws.proofs.Tests.{of_true}
 use Rattle.store_shape.proofs.EntryLaws.{first_entry, next_entry, entries_length, entries_at}
 use Rattle.store_shape.proofs.Entries.{of_shape, entry_passes}
 use Rattle.step_file.specs.Decoded.{f64_at, node_step_at, node_steps_at, decoded}
-use Rattle.step_costs.specs.NodeCosts.{kind_in, cost_in, CostsAreNumbers}
+use Rattle.step_costs.specs.NodeCosts.{kind_in, cost_in}
 
 -- the literals 0.0 and 2.0
 pub zero_literal : of_bits binary64 0 ≡ zero64
@@ -66,33 +59,6 @@ unfolding node_steps_at cost_at node_step_at
 cost_at_lem file [] at k h = absurd (omega arith)
 cost_at_lem file (n ∷ ns) at zero h = ap (λ (j : ℕ). f64_at file (j + 2)) (first_entry 34 at)
 cost_at_lem file (n ∷ ns) at (suc k) h = cost_at_lem file ns (at + 34) k (omega arith) ∙ ap (λ (j : ℕ). f64_at file (j + 2)) (next_entry 34 at k)
-
--- ---- the costs of a file that was read are numbers
-
-finite_is : (x : Float) → T (finite x) → not (is_nan x) ≡ true
-unfolding is_nan
-finite_is nan h = absurd h
-finite_is (inf s) h = absurd h
-finite_is (fin s m e) h = refl
-
-finite_flow : (bits : ℕ) → T (finite (of_pattern bits)) → is_flow bits ≡ true
-unfolding is_flow of_pattern
-finite_flow bits h = ap not (nan_bits_is binary64 bits) ∙ finite_is (of_bits binary64 bits) h
-
-each_flow : (file : List ℕ) (shapes : List NodeShape) (at k : ℕ) → k < length shapes → AllMem (OfCost (UpTo most)) (node_steps_at file shapes at)
-    → is_flow (le64 file (at + 34 * k + 2)) ≡ true
-unfolding node_steps_at node_step_at
-each_flow file [] at k h all = absurd (omega arith)
-each_flow file (n ∷ ns) at zero h all =
-    ap (λ (j : ℕ). is_flow (le64 file (j + 2))) (sym (first_entry 34 at)) ∙ finite_flow _ (all _ (Memᴰ.head refl)).is_finite
-each_flow file (n ∷ ns) at (suc k) h all =
-    ap (λ (j : ℕ). is_flow (le64 file (j + 2))) (sym (next_entry 34 at k)) ∙ each_flow file ns (at + 34) k (omega arith) (λ x m. all x (Memᴰ.tail m))
-
-pub costs_are_numbers : (s : Store) (file : List ℕ) (a v : ℕ) → read_step (shape_of s).nodes a v file ≡ value (decoded (shape_of s).nodes a v file)
-    → CostsAreNumbers file s.shape
-unfolding decoded shape_of
-costs_are_numbers s file a v e k lt =
-    each_flow file (shape_of s).nodes 12 k (rw (entries_length (node_entry s) 2 11 (node_count s)) lt) (step_costs_lem (shape_of s).nodes a v file _ e)
 
 -- ---- one edge
 

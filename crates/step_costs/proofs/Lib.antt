@@ -1,2 +1,1 @@
 pub mod CostLaws
-pub mod TableLaws

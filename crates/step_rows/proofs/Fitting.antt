@@ -15,7 +15,7 @@ use Rattle.pywr.specs.Network.{listed}
 use Rattle.pywr.specs.Store.{Store, word, node_count, edge_column_count, set_count, varying_count, row_count, node_row_count, aggregate_count, virtual_storage_count, columns_of_row}
 use Rattle.pywr.specs.Misshapen.{columns_rise, row_columns_rise, node_row_fits, aggregate_fits, virtual_storage_fits}
 use Rattle.store_shape.proofs.Entries.{entry_passes}
-use Rattle.store.proofs.Passed.{shaped, node_row_named}
+use Rattle.store.proofs.Passed.{shaped}
 use Rattle.step_row_bounds.specs.RowBounds.{RowTable}
 use Rattle.step_node_rows.specs.NodeConstraintBounds.{ShapeFits, NodeRowFits, VaryingFit}
 use Rattle.step_rows.specs.ConstraintBounds.{StepRuns}
@@ -48,7 +48,7 @@ module _ (s : Store) where
       let ab : T (a && b) = and_l (a && b) c (and_l (a && b && c) (d || (e && f)) t) in
       let ef : (word s (at + 2) ≡ 0 → ⊥) → T (e && f) = (λ n. or_elim d (e && f) (and_r (a && b && c) (d || (e && f)) t) (λ u. absurd (n (eqb→eq (word s (at + 2)) 0 u))) (λ u. u)) in
       record {
-        within = record { node = node_row_named s at q; row = ltb→lt (word s (at + 1)) (varying_count s) (and_r a b ab) };
+        within = record { node = ltb→lt (word s at) (node_count s) (and_l a b ab); row = ltb→lt (word s (at + 1)) (varying_count s) (and_r a b ab) };
         set = λ n. ltb→lt (word s (at + 3)) (set_count s) (and_l e f (ef n));
         column = λ n. to_true f (and_r e f (ef n));
       }

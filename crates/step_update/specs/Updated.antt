@@ -8,16 +8,15 @@ use Rattle.pywr.specs.Misshapen.{edge_fits, flow_order_fits, all_entries}
 use Rattle.pywr.specs.Costs.{step_costs}
 use Rattle.pywr.specs.StepIntervals.{Intervals}
 use Rattle.step_file.specs.Decoded.{decoded, aggregate_steps_at}
-use Rattle.step_costs.specs.NodeCosts.{CostsAreNumbers}
 use Rattle.step_rows.specs.ConstraintBounds.{store_of, StepRuns, StepWritten, HasRuns, HeldIn}
 
--- as `update_edge_objectives` asks; the room of the work run is in `RowsReady`
+-- as `update_edge_objectives` asks
 abbrev pub CostsReady : List ℕ → List Float → List ℕ → Type 0
 CostsReady file costs shape =
     (shape_length ≤ length shape) × (column_ceiling ≤ length costs) × (nodes_in shape ≤ node_ceiling) × (edges_in shape ≤ edge_ceiling) × (edge_columns_in shape ≤ edge_ceiling) × (sets_in shape ≤ set_ceiling)
     × ((s : Store) → s.shape ≡ shape → all_entries (edge_fits s) edge_width edges_at (edge_count s) ≡ true)
     × ((s : Store) → s.shape ≡ shape → all_entries (flow_order_fits s) flow_order_width flow_order_at (edge_count s) ≡ true)
-    × (aggregate_steps_at (nodes_in shape) ≤ length file) × CostsAreNumbers file shape
+    × (aggregate_steps_at (nodes_in shape) ≤ length file)
 
 abbrev pub CostsUpdated : List ℕ → List ℕ → List Float → List Float → Type 0
 CostsUpdated file shape costs costs' =

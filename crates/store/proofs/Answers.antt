@@ -55,14 +55,14 @@ module _ (s : Store) (row : ℕ) where
       let q : a.0 ≡ b.0 = need_value _ 17 0 a.0 b.0 b.1 in
       ap (λ (t : Store). columns_of_row t row) (p ∙ q) ∙ need_value _ 18 row (columns_of_row b.0 row) part b.2
 
-  part_of_lem : (x : Result (List ℕ)) → ((part : List ℕ) → x ≡ value part → columns_of_row s row ≡ part) → (start end : ℕ) → RowAnswer.Part start end ≡ span_of s row x
+  part-of : (x : Result (List ℕ)) → ((part : List ℕ) → x ≡ value part → columns_of_row s row ≡ part) → (start end : ℕ) → RowAnswer.Part start end ≡ span_of s row x
       → slice start end s.columns ≡ part_of x
   unfolding span_of part_of columns_of_row
-  part_of_lem (value part) is start end e =
+  part-of (value part) is start end e =
       let a : start ≡ start_of s row = cc in
       let b : end ≡ start_of s (row + 1) = cc in
       rw (a, b) (is part refl)
-  part_of_lem (refused number place) is start end e = let z : ◌≡◌ {A = ℕ} 0 1 = cc in absurd (omega arith)
+  part-of (refused number place) is start end e = let z : ◌≡◌ {A = ℕ} 0 1 = cc in absurd (omega arith)
 
   none_of : (x : Result (List ℕ)) (number place : ℕ) → RowAnswer.Refused number place ≡ span_of s row x → [] ≡ part_of x
   unfolding span_of part_of
@@ -84,7 +84,7 @@ module _ {s : Store} {row : ℕ} {r : RowAnswer} (h : RowAnswered s row r) where
       let q : RowAnswer.Part start end ≡ span_of s row (row_answer s row) = sym e ∙ h.answer in
       let inside : (start ≤ end) × (end ≤ length s.columns) = rw e at h.inside in
       record {
-        columns = part_slice start end s.columns inside.0 ∙ part_of_lem s row (row_answer s row) (value-is s row) start end q;
+        columns = part_slice start end s.columns inside.0 ∙ part-of s row (row_answer s row) (value-is s row) start end q;
         number = ap row_number_of q;
         place = ap row_place_of q;
       }

@@ -1,21 +1,21 @@
 -- What a store has whose lengths, counts and shape passed their tests. Assumes nothing.
 use mathlib.Core.Path.{◌≡◌, refl, sym, ◌∙◌}
-use Prim.Native.Nat.{ℕ, ◌+◌, ◌*◌, ◌<◌, ◌≤◌}
+use Prim.Native.Nat.{ℕ, ◌+◌, ◌≤◌}
 use mathlib.Core.Bool.{Bool, true, false, not, ◌&&◌}
 use mathlib.Core.List.{List, []}
 use lib.ListN.{length, get_or}
-use lib.Dec.{leb, ltb, eqb, leb→le, ltb→lt}
+use lib.Dec.{leb, eqb, leb→le}
 use lib.Ieee.Fits.{and_l, and_r}
 use borrow.Author.Tests.{not-false}
-use Rattle.layout.specs.Layout.{flow_order_at, makers_at, node_row_ceiling, node_row_node, node_row_row, node_row_type, row_starts_length, shape_length}
+use Rattle.layout.specs.Layout.{flow_order_at, makers_at, node_row_ceiling, row_starts_length, shape_length}
 use Rattle.laws.proofs.Tests.{of_true, to_true}
-use Rattle.pywr.specs.Store.{Store, store_has_room, sentinel_code, node_count, edge_count, edge_column_count, set_count, varying_count, row_count, elements_kept}
+use Rattle.pywr.specs.Store.{Store, store_has_room, sentinel_code, node_count, edge_count, edge_column_count, set_count, row_count, elements_kept}
 use Rattle.pywr.specs.Store.{node_row_count, aggregate_count, virtual_storage_count, nodes_at, edges_at, node_rows_at, aggregates_at, virtual_storages_at, start_of}
 use Rattle.pywr.specs.Misshapen.{counts_fit, starts_rise, row_columns_rise, all_entries, well_shaped}
 use Rattle.pywr.specs.Misshapen.{node_fits, edge_fits, node_row_fits, aggregate_fits, virtual_storage_fits, maker_fits, flow_order_fits}
 use Rattle.pywr.proofs.Represents.{Roomy}
 use Rattle.pywr.proofs.DemandThree.{roomy_parts}
-use Rattle.store_shape.proofs.Entries.{of_shape, entry_passes}
+use Rattle.store_shape.proofs.Entries.{of_shape}
 use Rattle.store_rows.specs.Starts.{StartsRise, RowsWithin}
 use Rattle.store_rows.proofs.Starts.{of_runs, starts_told}
 use Rattle.store.specs.Reading.{Lengths}
@@ -145,15 +145,3 @@ shaped s q =
       makers = to_true j (and_r (a && b && c && d && e && f && g && h && i) j h10);
       flow_order_lem = to_true k (and_r (a && b && c && d && e && f && g && h && i && j) k h11);
     }
-
--- each node row names a node
-pub node_row_named : (s : Store) (at : ℕ) → node_row_fits s at ≡ true → node_row_node s.shape at < node_count s
-unfolding node_row_fits
-node_row_named s at e =
-    let a : Bool = ltb (node_row_node s.shape at) (node_count s) in
-    let b : Bool = ltb (node_row_row s.shape at) (varying_count s) in
-    let c : Bool = leb (node_row_type s.shape at) 2 in
-    ltb→lt (node_row_node s.shape at) (node_count s) (and_l a b (and_l (a && b) c (and_l (a && b && c) _ (of_true _ e))))
-
-pub node_rows_named : (s : Store) → Shaped s → (k : ℕ) → k < node_row_count s → node_row_node s.shape (node_rows_at + 4 * k) < node_count s
-node_rows_named s h k lt = node_row_named s (node_rows_at + 4 * k) (entry_passes (node_row_fits s) 4 (node_row_count s) node_rows_at h.node_rows_lem k lt)

@@ -1,6 +1,4 @@
 // The node rows of a store: the part of refusal 17 on the node-row table, with "an integer column absent from its row".
-#![tactic(auto)]
-
 ghost use Rattle.std.specs.Prelude.{◌≡◌, ◌+◌, ◌≤◌, length};
 ghost use Rattle.std.proofs.Math.Seq.{slice};
 ghost use Rattle.layout.specs.Layout.{node_row_ceiling, shape_length, node_rows_at, node_row_width, node_rows_in};
@@ -8,14 +6,12 @@ ghost use Rattle.pywr.specs.Network.{listed};
 ghost use Rattle.pywr.specs.Store.{Store, node_row_count};
 ghost use Rattle.pywr.specs.Misshapen.{node_row_fits, all_entries};
 ghost use Rattle.store_rows.specs.Starts.{RowsWithin};
-ghost use Rattle.store_node_rows.specs.InRange.{InRange, node_row_in_range};
 
 use layout::{
     EDGE_COLUMN_COUNT_AT, NODE_COUNT_AT, NODE_ROW_COUNT_AT, NODE_ROW_ROW, NODE_ROW_SET,
     NODE_ROW_TYPE, NODE_ROW_WIDTH, NODE_ROWS_AT, SET_COUNT_AT, VARYING_COUNT_AT,
 };
 use pywr::ColumnIndex;
-use store_shape::{limits_of_4, words_within};
 use widths::{wide16, wide32};
 
 // Whether the row from `start` up to `end` has the column, looked for from the end, where a row's integer columns stand.
@@ -33,41 +29,31 @@ fn row_holds(columns: &[u16], start: usize, end: usize, column: ColumnIndex) -> 
     false
 }
 
-// A word as large as any: where a node row's set stands, which is looked at only in rows that are not continuous.
-const ANY_WORD: u16 = 65535;
-
-// The node, the row and the row type of each node row. Without nodes or varying rows none is in range.
-fn node_rows_in_range(shape: &[u16]) -> bool
-    requires { (shape_length ≤ length shape.now) × (node_rows_in shape.now ≤ node_row_ceiling) }
-    ensures { result ≡ all_entries (node_row_in_range shape.now) node_row_width node_rows_at (node_rows_in shape.now) }
-{
-    let node_rows = wide16(shape[NODE_ROW_COUNT_AT]);
-    let nodes = shape[NODE_COUNT_AT];
-    let varying = shape[VARYING_COUNT_AT];
-    if nodes == 0 {
-        return node_rows == 0;
-    }
-    if varying == 0 {
-        return node_rows == 0;
-    }
-    let most = limits_of_4(nodes - 1, varying - 1, 2, ANY_WORD);
-    words_within(shape, NODE_ROWS_AT, NODE_ROW_WIDTH * node_rows, &most)
-}
-
-// A node row whose words are in range: unless continuous, a set whose integer column is in the row.
+// A node row: a node, a varying row, a row type, and, unless continuous, a set whose integer column is in the row.
 fn node_row_fits(columns: &[u16], row_starts: &[u32], shape: &[u16], at: usize) -> bool
-    requires { RowsWithin columns.now row_starts.now shape.now × (at + node_row_width ≤ shape_length) × InRange shape.now at }
+    requires { RowsWithin columns.now row_starts.now shape.now × (at + node_row_width ≤ shape_length) }
     ensures { (s : Store) → s.columns ≡ columns.now → s.row_starts ≡ row_starts.now → s.shape ≡ shape.now
         → result ≡ node_row_fits s at }
 {
-    if shape[at + NODE_ROW_TYPE] == 0 {
+    let row = shape[at + NODE_ROW_ROW];
+    let row_type = shape[at + NODE_ROW_TYPE];
+    let set = shape[at + NODE_ROW_SET];
+    if shape[NODE_COUNT_AT] <= shape[at] {
+        return false;
+    }
+    if shape[VARYING_COUNT_AT] <= row {
+        return false;
+    }
+    if 2 < row_type {
+        return false;
+    }
+    if row_type == 0 {
         return true;
     }
-    let set = shape[at + NODE_ROW_SET];
     if shape[SET_COUNT_AT] <= set {
         return false;
     }
-    let r = wide16(shape[at + NODE_ROW_ROW]);
+    let r = wide16(row);
     row_holds(
         columns,
         wide32(row_starts[r]),
@@ -76,24 +62,17 @@ fn node_row_fits(columns: &[u16], row_starts: &[u32], shape: &[u16], at: usize) 
     )
 }
 
-// The node rows: first their words, all at once, then the sets of those that are not continuous.
 pub fn node_rows_fit(columns: &[u16], row_starts: &[u32], shape: &[u16]) -> bool
     requires { RowsWithin columns.now row_starts.now shape.now × (node_rows_in shape.now ≤ node_row_ceiling) }
     ensures { (s : Store) → s.columns ≡ columns.now → s.row_starts ≡ row_starts.now → s.shape ≡ shape.now
         → result ≡ all_entries (node_row_fits s) node_row_width node_rows_at (node_row_count s) }
 {
-    if !node_rows_in_range(shape) {
-        return false;
-    }
     let node_rows = wide16(shape[NODE_ROW_COUNT_AT]);
+    let mut at: usize = NODE_ROWS_AT;
     let mut i: usize = 0;
     while i < node_rows {
-        if node_row_fits(
-            columns,
-            row_starts,
-            shape,
-            NODE_ROWS_AT + NODE_ROW_WIDTH * i,
-        ) {
+        if node_row_fits(columns, row_starts, shape, at) {
+            at += NODE_ROW_WIDTH;
             i += 1;
         } else {
             return false;

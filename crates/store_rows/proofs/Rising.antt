@@ -17,8 +17,7 @@ use Rattle.pywr.specs.Misshapen.{columns_rise, all_entries}
 use Rattle.store_rows.specs.Falls.{fall, fall_at, sum_from, start_fall, row_fall}
 use Rattle.store_rows.specs.Starts.{StartsRise}
 use Rattle.store_rows.proofs.Starts.{start_under}
-use Rattle.store_shape.proofs.EntryLaws.{all_append}
-use Rattle.store_rows.proofs.Sums.{sum_append}
+use Rattle.store_rows.proofs.Sums.{sum_append, all_append}
 
 -- ---- sums that are 0
 

@@ -2,13 +2,12 @@
 use mathlib.Core.Path.{◌≡◌, refl, sym, ◌∙◌}
 use Prim.Native.Nat.{ℕ, zero, suc, ◌+◌, ◌-◌, ◌≤◌, ◌<◌, zero-le}
 use native.Mathlib.Nat.{add-zero, zero-add, add_assoc, sub-zero, sub-eq-zero_of_le}
-use native.Mathlib.Numerals.{add-one}
 use native.Mathlib.Omega.{arith}
-use mathlib.Core.Bool.{Bool, true, false, cond}
+use mathlib.Core.Bool.{Bool, ◌&&◌, and_assoc}
 use mathlib.Core.List.{List}
 use lib.ListN.{get_or}
-use borrow.Author.Tests.{lt-ltb, le-ltb}
-use Rattle.store_rows.specs.Falls.{fall, fall_at, sum_from, start_fall, row_fall}
+use Rattle.pywr.specs.Misshapen.{all_entries}
+use Rattle.store_rows.specs.Falls.{fall, fall_at, sum_from}
 
 pub sum_append : (f : ℕ → ℕ) (i m n : ℕ) → sum_from f i (m + n) ≡ sum_from f i m + sum_from f (i + m) n
 unfolding sum_from
@@ -18,12 +17,23 @@ sum_append f i (suc m) n =
     let q : i + 1 + m ≡ i + suc m = omega arith in
     rw (e, sum_append f (i + 1) m n, q) (sym (add_assoc (f i) (sum_from f (i + 1) m) (sum_from f (i + suc m) n)))
 
+pub all_append : (test : ℕ → Bool) (i m n : ℕ) → all_entries test 1 i (m + n) ≡ (all_entries test 1 i m && all_entries test 1 (i + m) n)
+unfolding all_entries
+all_append test i zero n = rw (zero-add n, add-zero)
+all_append test i (suc m) n =
+    let e : suc m + n ≡ suc (m + n) = omega arith in
+    let q : i + 1 + m ≡ i + suc m = omega arith in
+    rw (e, all_append test (i + 1) m n, q) (sym (and_assoc (test i) (all_entries test 1 (i + 1) m) (all_entries test 1 (i + suc m) n)))
+
 -- ---- the loop
 
 module _ (f : ℕ → ℕ) (n : ℕ) where
   pub record Summed (sum i : ℕ) : Type 0 where
     pub small : sum ≤ i
     pub so_far : sum_from f 0 n ≡ sum + sum_from f i (n - i)
+
+  pub summed_none : Summed 0 0
+  summed_none = record { small = zero-le; so_far = rw (sub-zero, zero-add) }
 
 module _ {f : ℕ → ℕ} {n sum i : ℕ} (h : Summed f n sum i) where
   pub summed_more : (x : ℕ) → x ≡ f i → x ≤ 1 → i < n → Summed f n (sum + x) (i + 1)
@@ -36,16 +46,7 @@ module _ {f : ℕ → ℕ} {n sum i : ℕ} (h : Summed f n sum i) where
   unfolding sum_from
   summed_all le = sym (h.so_far ∙ rw (sub-eq-zero_of_le le) (add-zero sum))
 
--- the loop may start behind the first i where each of them adds 0
-pub summed_none : (f : ℕ → ℕ) (n i : ℕ) → i ≤ n → ((k : ℕ) → k < i → f k ≡ 0) → Summed f n 0 i
-summed_none f n zero le none = record { small = zero-le; so_far = rw (sub-zero, zero-add) }
-summed_none f n (suc i) le none = rw (← (add-one i)) (summed_more (summed_none f n i (omega arith) (λ k lt. none k (omega arith))) 0 (sym (none i (omega arith))) zero-le (omega arith))
-
 -- ---- falls
-
-cond_same : (t : Bool) (n : ℕ) → cond t n n ≡ n
-cond_same true n = refl
-cond_same false n = refl
 
 module _ (columns : List ℕ) where
   -- the first column falls from nothing, so that the loop starts at the second
@@ -58,17 +59,3 @@ module _ (columns : List ℕ) where
   unfolding fall_at
   fall_is zero h = absurd (omega arith)
   fall_is (suc i) h = let q : suc i - 1 ≡ i = omega arith in rw q
-
-  -- ---- at the starts of rows
-  module _ (starts : List ℕ) (r : ℕ) where
-    pub from_zero_none : get_or starts r 0 ≡ 0 → row_fall columns starts r ≡ 0
-    unfolding row_fall start_fall fall_at
-    from_zero_none e = rw (e, cond_same)
-
-    pub empty_none : get_or starts (r + 1) 0 ≤ get_or starts r 0 → row_fall columns starts r ≡ 0
-    unfolding row_fall start_fall
-    empty_none le = rw (le-ltb _ _ le)
-
-    pub row_fall_is : (start : ℕ) → start ≡ get_or starts r 0 → 0 < start → get_or starts r 0 < get_or starts (r + 1) 0 → row_fall columns starts r ≡ fall (get_or columns (start - 1) 0) (get_or columns start 0)
-    unfolding row_fall start_fall
-    row_fall_is start e behind lt = rw (lt-ltb _ _ lt, ← e) (fall_is start behind)

@@ -16,9 +16,3 @@ pub record RowsWithin (columns row_starts shape : List ℕ) : Type 0 where
   pub rows : varying_in shape + fixed_in shape ≤ row_ceiling
   pub kept : elements_in shape ≤ element_ceiling
   pub starts : StartsRise row_starts (varying_in shape + fixed_in shape) (elements_in shape)
-
--- the first n rows start at 0, and the next, if there is one, does not
-pub record RowsFromZero (row_starts : List ℕ) (rows n : ℕ) : Type 0 where
-  pub few : n ≤ rows
-  pub from_zero : (r : ℕ) → r < n → get_or row_starts r 0 ≡ 0
-  pub next : n < rows → 0 < get_or row_starts n 0

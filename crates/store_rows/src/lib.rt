@@ -1,12 +1,10 @@
 // The rows of a store: the parts of refusal 17 on row starts and columns.
-#![tactic(auto)]
-
 ghost use Rattle.std.specs.Prelude.{◌≡◌, ◌&&◌, ℕ, ◌+◌, ◌≤◌, ◌<◌, length, get_or, eqb};
 ghost use Rattle.layout.specs.Layout.{row_ceiling, element_ceiling, row_starts_length, shape_length, varying_in, fixed_in};
 ghost use Rattle.pywr.specs.Store.{Store, row_count, start_of};
 ghost use Rattle.pywr.specs.Misshapen.{starts_rise, row_columns_rise, all_entries};
-ghost use Rattle.store_rows.specs.Falls.{fall, fall_at, sum_from, row_fall};
-ghost use Rattle.store_rows.specs.Starts.{RowsWithin, RowsFromZero};
+ghost use Rattle.store_rows.specs.Falls.{fall, fall_at, sum_from, start_fall, row_fall};
+ghost use Rattle.store_rows.specs.Starts.{RowsWithin};
 
 use layout::{EDGE_COLUMN_COUNT_AT, ELEMENT_COUNT_AT, SET_COUNT_AT};
 use pywr::ColumnIndex;
@@ -50,35 +48,29 @@ fn falls(columns: &[u16], n: usize) -> u16
     sum
 }
 
-// The first row that does not start at 0, or `rows`.
-fn rows_from_zero(row_starts: &[u32], rows: usize) -> usize
-    requires { rows ≤ length row_starts.now }
-    ensures { RowsFromZero row_starts.now rows result }
+// 1 if the row from `start` up to `end` starts with a fall; an empty row does not, nor does the first column.
+fn start_fall(columns: &[u16], start: usize, end: usize) -> u16
+    requires { end ≤ length columns.now }
+    ensures { (result ≡ start_fall columns.now start end) × (result ≤ 1) }
 {
-    let mut r: usize = 0;
-    while r < rows {
-        if row_starts[r] != 0 {
-            return r;
-        }
-        r += 1;
+    if end <= start {
+        return 0;
     }
-    r
+    if start == 0 {
+        return 0;
+    }
+    fall_of(ColumnIndex(columns[start - 1]), ColumnIndex(columns[start]))
 }
 
-// How many rows start with a fall. A row that starts at 0 does not, nor does an empty one.
+// How many rows start with a fall.
 fn start_falls(columns: &[u16], row_starts: &[u32], rows: usize) -> u16
-    requires { (rows ≤ row_ceiling) × (rows < length row_starts.now)
-        × ((r : ℕ) → r < rows → get_or row_starts.now r 0 ≤ get_or row_starts.now (r + 1) 0)
-        × ((r : ℕ) → r < rows → get_or row_starts.now (r + 1) 0 ≤ length columns.now) }
+    requires { (rows ≤ row_ceiling) × (rows < length row_starts.now) × ((r : ℕ) → r < rows → get_or row_starts.now (r + 1) 0 ≤ length columns.now) }
     ensures { result ≡ sum_from (row_fall columns.now row_starts.now) 0 rows }
 {
     let mut sum: u16 = 0;
-    let mut r: usize = rows_from_zero(row_starts, rows);
+    let mut r: usize = 0;
     while r < rows {
-        let start = wide32(row_starts[r]);
-        if row_starts[r] < row_starts[r + 1] {
-            sum += fall_of(ColumnIndex(columns[start - 1]), ColumnIndex(columns[start]));
-        }
+        sum += start_fall(columns, wide32(row_starts[r]), wide32(row_starts[r + 1]));
         r += 1;
     }
     sum

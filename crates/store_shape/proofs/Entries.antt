@@ -1,13 +1,12 @@
 -- A loop that tests the entries of a table one after another and looks at all of them. Assumes nothing.
 use mathlib.Core.Path.{◌≡◌, refl, sym, ◌∙◌}
 use Prim.Native.Nat.{ℕ, suc, ◌+◌, ◌*◌, ◌-◌, ◌≤◌, ◌<◌, zero-le}
-use native.Mathlib.Nat.{add-zero, mul-zero, sub-zero, sub-eq-zero_of_le}
+use native.Mathlib.Nat.{add-zero, add_assoc, mul-zero, mul-add, mul-one, sub-zero, sub-eq-zero_of_le}
 use native.Mathlib.Omega.{arith}
 use mathlib.Core.Bool.{Bool, true, false, ◌&&◌, and-true}
 use mathlib.Core.List.{List, []}
 use Rattle.pywr.specs.Store.{Store}
 use Rattle.pywr.specs.Misshapen.{all_entries}
-use Rattle.store_shape.proofs.EntryLaws.{next_place}
 pub use Rattle.pywr.proofs.EntryLaws.{entry_passes}
 
 -- a store of which only the shape run is read
@@ -30,7 +29,7 @@ module _ {test : ℕ → Bool} {words first count : ℕ} {good : Bool} {at i : �
   tested_more lt =
       record {
         few = omega arith;
-        place = rw h.place (next_place first words i);
+        place = rw (h.place, mul-add, mul-one, add_assoc);
         so_far = h.so_far ∙ next good;
       }
     where

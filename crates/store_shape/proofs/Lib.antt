@@ -1,6 +1,4 @@
 pub mod EntryLaws
-mod MakerLaws
+mod ThreeWords
 pub mod Entries
-pub mod LimitLaws
-mod TableLaws
 pub mod SentinelLaws

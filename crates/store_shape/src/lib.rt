@@ -1,22 +1,20 @@
 // The shape run of a store: its words, and the parts of refusal 17 that read no other run.
-#![tactic(auto)]
-
-ghost use Rattle.std.specs.Prelude.{◌≡◌, ℕ, ◌+◌, ◌≤◌, ◌<◌, [], ◌∷◌, length, get_or, leb, ltb, eqb};
+ghost use Rattle.std.specs.Prelude.{◌≡◌, ℕ, ◌+◌, ◌≤◌, ◌<◌, [], ◌∷◌, length, get_or, ltb};
 ghost use Rattle.layout.specs.Layout.{node_ceiling, edge_ceiling, aggregate_ceiling, virtual_storage_ceiling, row_ceiling, shape_length};
 ghost use Rattle.layout.specs.Layout.{nodes_at, edges_at, aggregates_at, virtual_storages_at, makers_at, node_width, edge_width, aggregate_width, virtual_storage_width, maker_width};
 ghost use Rattle.layout.specs.Layout.{flow_order_at, flow_order_width};
 ghost use Rattle.layout.specs.Layout.{sentinel_in, nodes_in, edges_in, varying_in, fixed_in, aggregates_in, virtual_storages_in};
-ghost use Rattle.pywr.specs.Store.{Store, sentinel_of, node_count, edge_count, aggregate_count, virtual_storage_count, row_count};
+ghost use Rattle.pywr.specs.Store.{Store, sentinel_of, node_count, edge_count, edge_column_count, aggregate_count, virtual_storage_count, row_count};
 ghost use Rattle.pywr.specs.Misshapen.{counts_fit, node_fits, edge_fits, aggregate_fits, virtual_storage_fits, maker_fits, flow_order_fits, all_entries};
-ghost use Rattle.store_shape.specs.Limits.{repeated, part_length, part_within, word_within};
 
 use layout::{
     AGGREGATE_CEILING, AGGREGATE_COUNT_AT, AGGREGATES_AT, BY_EXCLUSIVITY, EDGE_CEILING,
-    EDGE_COLUMN_COUNT_AT, EDGE_COUNT_AT, EDGE_WIDTH, EDGES_AT, ELEMENT_CEILING, ELEMENT_COUNT_AT,
-    FIXED_COUNT_AT, FLOW_ORDER_AT, MAKER_INDEX, MAKER_KINDS, MAKER_SHARED_BY, MAKER_WIDTH,
-    MAKERS_AT, NODE_CEILING, NODE_COUNT_AT, NODE_ROW_CEILING, NODE_ROW_COUNT_AT, NODE_WIDTH,
-    NODES_AT, PERIOD_FLAG, ROW_CEILING, SENTINEL_AT, SET_CEILING, SET_COUNT_AT, VARYING_COUNT_AT,
-    VIRTUAL_STORAGE_CEILING, VIRTUAL_STORAGE_COUNT_AT, VIRTUAL_STORAGE_WIDTH, VIRTUAL_STORAGES_AT,
+    EDGE_COLUMN_COUNT_AT, EDGE_COUNT_AT, EDGE_TO, EDGE_WIDTH, EDGES_AT, ELEMENT_CEILING,
+    ELEMENT_COUNT_AT, FIXED_COUNT_AT, FLOW_ORDER_AT, MAKER_INDEX, MAKER_KINDS, MAKER_SHARED_BY,
+    MAKER_WIDTH, MAKERS_AT, MAPPED_COLUMN, NODE_CEILING, NODE_COUNT_AT, NODE_FLAG,
+    NODE_ROW_CEILING, NODE_ROW_COUNT_AT, NODE_WIDTH, NODES_AT, PERIOD_FLAG, ROW_CEILING,
+    SENTINEL_AT, SET_CEILING, SET_COUNT_AT, VARYING_COUNT_AT, VIRTUAL_STORAGE_CEILING,
+    VIRTUAL_STORAGE_COUNT_AT, VIRTUAL_STORAGE_WIDTH, VIRTUAL_STORAGES_AT,
 };
 use pywr::Sentinel;
 use widths::wide16;
@@ -72,100 +70,38 @@ pub fn counts_fit(shape: &[u16]) -> bool
         & (shape[VIRTUAL_STORAGE_COUNT_AT] <= VIRTUAL_STORAGE_CEILING_WORD)
 }
 
-// How many words are compared at a time: a common multiple of the tables' widths 2, 3 and 4, so that the limits of an entry repeat in step with the words.
-pub const PART_LENGTH: usize = 48;
-
-// Twelve limits, the least common multiple of the widths, repeated over a part. An array with each element written, since the compiler then keeps it in registers.
-fn limits_of_12(
-    a: u16,
-    b: u16,
-    c: u16,
-    d: u16,
-    e: u16,
-    f: u16,
-    g: u16,
-    h: u16,
-    i: u16,
-    j: u16,
-    k: u16,
-    l: u16,
-) -> [u16; PART_LENGTH]
-    ensures { result ≡ repeated 4 (a ∷ b ∷ c ∷ d ∷ e ∷ f ∷ g ∷ h ∷ i ∷ j ∷ k ∷ l ∷ []) }
-{
-    [
-        a, b, c, d, e, f, g, h, i, j, k, l, a, b, c, d, e, f, g, h, i, j, k, l, a, b, c, d, e, f,
-        g, h, i, j, k, l, a, b, c, d, e, f, g, h, i, j, k, l,
-    ]
-}
-
-// The limits of an entry's words, repeated over a part.
-fn limits_of_2(a: u16, b: u16) -> [u16; PART_LENGTH]
-    ensures { result ≡ repeated 24 (a ∷ b ∷ []) }
-{
-    limits_of_12(a, b, a, b, a, b, a, b, a, b, a, b)
-}
-
-fn limits_of_3(a: u16, b: u16, c: u16) -> [u16; PART_LENGTH]
-    ensures { result ≡ repeated 16 (a ∷ b ∷ c ∷ []) }
-{
-    limits_of_12(a, b, c, a, b, c, a, b, c, a, b, c)
-}
-
-pub fn limits_of_4(a: u16, b: u16, c: u16, d: u16) -> [u16; PART_LENGTH]
-    ensures { result ≡ repeated 12 (a ∷ b ∷ c ∷ d ∷ []) }
-{
-    limits_of_12(a, b, c, d, a, b, c, d, a, b, c, d)
-}
-
-// By how much a word is over the most that it may be: one instruction, a subtraction that stops at 0.
-fn excess(word: u16, most: u16) -> u16
-    ensures { eqb result 0 ≡ leb word most }
-{
-    if most < word { word - most } else { 0 }
-}
-
-// The words of a part against the limits: 0 exactly if each is at most its own. Tables are looked at whole, with no way out of the loop, so that the compiler vectorises it.
-fn part_excess(words: &[u16], at: usize, most: &[u16; PART_LENGTH], count: usize) -> u16
-    requires { (at + count ≤ length words.now) × (count ≤ part_length) }
-    ensures { eqb result 0 ≡ part_within words.now most.now count at }
-{
-    let mut over: u16 = 0;
-    let mut j: usize = 0;
-    while j < count {
-        over = over | excess(words[at + j], most[j]);
-        j += 1;
-    }
-    over
-}
-
-// Whether each of `count` words from `first` on is at most its limit.
-pub fn words_within(words: &[u16], first: usize, count: usize, most: &[u16; PART_LENGTH]) -> bool
-    requires { first + count ≤ length words.now }
-    ensures { result ≡ all_entries (word_within words.now first most.now) 1 0 count }
-{
-    let mut over: u16 = 0;
-    let mut at: usize = first;
-    let mut left: usize = count;
-    while PART_LENGTH <= left {
-        over = over | part_excess(words, at, most, PART_LENGTH);
-        at += PART_LENGTH;
-        left -= PART_LENGTH;
-    }
-    over = over | part_excess(words, at, most, left);
-    over == 0
-}
-
-// "a kind, flag .. out of range"
+// "a kind, flag .. out of range". A table, but for those of three words below, is looked at whole, with no way out of the loop, so that the compiler can vectorise it.
 pub fn nodes_fit(shape: &[u16]) -> bool
     requires { (shape_length ≤ length shape.now) × (nodes_in shape.now ≤ node_ceiling) }
     ensures { (s : Store) → s.shape ≡ shape.now → result ≡ all_entries (node_fits s) node_width nodes_at (node_count s) }
 {
     let nodes = wide16(shape[NODE_COUNT_AT]);
-    let most = limits_of_2(3, 1);
-    words_within(shape, NODES_AT, NODE_WIDTH * nodes, &most)
+    let mut good = true;
+    let mut at: usize = NODES_AT;
+    let mut i: usize = 0;
+    while i < nodes {
+        good = good & ((shape[at] <= 3) & (shape[at + NODE_FLAG] <= 1));
+        at += NODE_WIDTH;
+        i += 1;
+    }
+    good
 }
 
-// An edge: two nodes and a column. Without nodes or columns no edge fits.
+// An edge: two nodes and a column.
+fn edge_fits(shape: &[u16], at: usize, nodes: u16, columns: u16) -> bool
+    requires { at + edge_width ≤ length shape.now }
+    ensures { (s : Store) → s.shape ≡ shape.now → nodes ≡ node_count s → columns ≡ edge_column_count s → result ≡ edge_fits s at }
+{
+    if nodes <= shape[at] {
+        return false;
+    }
+    if nodes <= shape[at + EDGE_TO] {
+        return false;
+    }
+    shape[at + MAPPED_COLUMN] < columns
+}
+
+// The loops over the tables of three words end at the first entry that fails: the compiler cannot vectorise them.
 pub fn edges_fit(shape: &[u16]) -> bool
     requires { (shape_length ≤ length shape.now) × (edges_in shape.now ≤ edge_ceiling) }
     ensures { (s : Store) → s.shape ≡ shape.now → result ≡ all_entries (edge_fits s) edge_width edges_at (edge_count s) }
@@ -173,14 +109,17 @@ pub fn edges_fit(shape: &[u16]) -> bool
     let nodes = shape[NODE_COUNT_AT];
     let columns = shape[EDGE_COLUMN_COUNT_AT];
     let edges = wide16(shape[EDGE_COUNT_AT]);
-    if nodes == 0 {
-        return edges == 0;
+    let mut at: usize = EDGES_AT;
+    let mut i: usize = 0;
+    while i < edges {
+        if edge_fits(shape, at, nodes, columns) {
+            at += EDGE_WIDTH;
+            i += 1;
+        } else {
+            return false;
+        }
     }
-    if columns == 0 {
-        return edges == 0;
-    }
-    let most = limits_of_3(nodes - 1, nodes - 1, columns - 1);
-    words_within(shape, EDGES_AT, EDGE_WIDTH * edges, &most)
+    true
 }
 
 // Whether each of `count` words from `first` on is under `limit`.
@@ -188,17 +127,15 @@ pub fn words_under(words: &[u16], first: usize, count: usize, limit: u16) -> boo
     requires { first + count ≤ length words.now }
     ensures { result ≡ all_entries (λ (at : ℕ). ltb (get_or words.now at 0) limit) 1 first count }
 {
-    if limit == 0 {
-        return count == 0;
-    }
-    let most = limit - 1;
-    let mut over: u16 = 0;
+    let mut good = true;
+    let mut at: usize = first;
     let mut i: usize = 0;
     while i < count {
-        over = over | excess(words[first + i], most);
+        good = good & (words[at] < limit);
+        at += 1;
         i += 1;
     }
-    over == 0
+    good
 }
 
 // An aggregate: a varying row.
@@ -253,7 +190,7 @@ fn maker_fits(shape: &[u16], at: usize, makers: &[u16; MAKER_KINDS]) -> bool
     1 <= shape[at + MAKER_SHARED_BY]
 }
 
-// The makers of all rows. The loop ends at the first entry that fails: a maker's kind says what its index is compared with, so that the compiler cannot vectorise it.
+// The makers of all rows.
 pub fn makers_fit(shape: &[u16]) -> bool
     requires { (shape_length ≤ length shape.now) × (varying_in shape.now + fixed_in shape.now ≤ row_ceiling) }
     ensures { (s : Store) → s.shape ≡ shape.now → result ≡ all_entries (maker_fits s) maker_width makers_at (row_count s) }

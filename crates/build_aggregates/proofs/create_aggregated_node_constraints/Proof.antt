@@ -4,7 +4,7 @@ use Prim.Native.Nat.{ℕ, ◌+◌, ◌-◌, ◌≤◌}
 use native.Mathlib.Omega.{arith}
 use mathlib.Core.List.{List, [], ◌∷◌, ◌++◌, map}
 use lib.ListN.{length}
-use Rattle.layout.specs.Layout.{aggregates_packed_at, aggregates_made_at, shape_made_at}
+use Rattle.layout.specs.Layout.{aggregates_at, aggregates_made_at, shape_made_at}
 use Rattle.laws.proofs.Tails.{tail_length, tail_kept}
 use Rattle.pywr.specs.Rows.{Element}
 use Rattle.pywr.specs.VaryingRows.{fresh_row}
@@ -181,7 +181,7 @@ loop-again c =
       (λ rows held.
           let a = l.inv.0 rows held in
           asked_more _ _ _ _ _ _ _ (omega arith) _ _ _ _ _ _ _ _ (asked_under _ t.args.c t.pre.0.sections _ _ lt l.inv.1)
-          (asked_row _ t.args.c t.pre.0.sections _ _ lt l.inv.1) a (call.ensures _ a.held) _ _ after-r.r.given.1 (aggregates_packed_at + l.i)
+          (asked_row _ t.args.c t.pre.0.sections _ _ lt l.inv.1) a (call.ensures _ a.held) _ _ after-r.r.given.1 (aggregates_at + l.i)
           (after-narrow16.narrow16.result ∷ []) _ (omega arith) refl
           (omega (arith, call.kept.1.1.1.1.1.1.1.1.1.0, l.inv.3, t.pre.1.words_room, t.pre.0.sections.few_aggregates_lem, lt))
           (λ places e. ap (λ (k : ℕ). places ++ (k ∷ [])) (sym after-narrow16.narrow16.ensures)) after-put-aggregate.put-aggregate.ensures),

@@ -71,7 +71,7 @@ request-bounded-row-requires c κs =
     let few = edge_columns_few _ _ _ _ _ _ _ p.0 in
     let column = c.before.before.before.narrow16.ensures in
     let set = (to-wide16 c).wide16.ensures.0 in
-    (p.0, p.1, omega arith, p.3, omega arith, p.4, p.5, omega arith)
+    (p.0, p.1, omega arith, p.4, p.5, omega arith)
 
 request-bounded-row-requires-2 : tie.Need-request-bounded-row-requires-2
 unfolding row_type_word
@@ -82,7 +82,7 @@ request-bounded-row-requires-2 c κs =
     let set = (to-wide16 (to-request-bounded-row-arg3 c)).wide16.ensures.0 in
     let upper = ((to-request-bounded-row (to-slice-known4 c)).request-bounded-row.ensures binary_upper refl p.5.asks p.5.held).done _ (to-r c).r.given.1 in
     let count = count_more _ p.5.asks _ _ _ _ _ _ _ p.5.held upper in
-    (p.0, p.1, omega arith, p.3, omega arith, record { words_room = search rules; numbers_room = search rules }, record { asks = _; held = upper }, omega arith)
+    (p.0, p.1, omega arith, record { words_room = search rules; numbers_room = search rules }, record { asks = _; held = upper }, omega arith)
 
 returns : tie.Need-returns
 unfolding row_type_word one64 of_bits

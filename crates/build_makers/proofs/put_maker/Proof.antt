@@ -2,7 +2,7 @@
 use Prim.Native.Nat.{◌+◌, ◌*◌}
 use native.Mathlib.Omega.{arith}
 use lib.ListN.{length-set}
-use Rattle.layout.specs.Layout.{makers_packed_at}
+use Rattle.layout.specs.Layout.{makers_at}
 use Rattle.build_makers.proofs.Entries.{three_words}
 use borrow.Author.Rules.{rules}
 use Rattle.build_makers.proofs.put_maker.Statement.{statement}
@@ -19,7 +19,7 @@ slice-write-shape-3 c =
 returns : tie.Need-returns
 returns c =
     let a = c.args in
-    three_words a.shape.now (makers_packed_at + 3 * a.row) a.kind a.index a.shared-by
+    three_words a.shape.now (makers_at + 3 * a.row) a.kind a.index a.shared-by
 
 pub put-maker-spec : {M : Type 1} → statement M
 put-maker-spec =

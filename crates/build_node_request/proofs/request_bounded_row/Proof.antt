@@ -1,5 +1,4 @@
 -- `build_node_request::request_bounded_row` meets its contract. Assumes nothing.
-use native.Mathlib.Omega.{arith}
 use Rattle.build_node_table.proofs.Table.{rows_lent, request_lent}
 use borrow.Author.Rules.{rules}
 use Rattle.build_node_request.proofs.request_bounded_row.Statement.{statement}
@@ -26,16 +25,13 @@ add-node-row-requires : tie.Need-add-node-row-requires
 add-node-row-requires c κs =
     let after-bounded-row = to-bounded-row c in
     let start = to_start after-bounded-row in
-    let h = start.pre.6 in
+    let h = start.pre.4 in
     let ys = after-bounded-row.bounded-row.last.1.1.1.1.1.1.1.1.1.1.1.1.0 in (
       record { words_room = search rules; numbers_room = search rules },
       after-bounded-row.bounded-row.ensures.few,
       after-bounded-row.bounded-row.ensures.rising,
-      record { asks = h.asks; held = rows_lent _ h.asks _ _ ys _ start.pre.5.numbers_room h.held },
-      start.pre.7,
-      omega (arith, start.pre.0.sections.few_nodes, start.pre.1),
-      start.pre.3,
-      start.pre.4,
+      record { asks = h.asks; held = rows_lent _ h.asks _ _ ys _ start.pre.3.numbers_room h.held },
+      start.pre.5,
     )
 
 returns : tie.Need-returns
@@ -44,7 +40,7 @@ returns c =
     let after-bounded-row = to-bounded-row after-add-node-row.before in
     let start = to_start after-bounded-row in
     let ys = after-bounded-row.bounded-row.last.1.1.1.1.1.1.1.1.1.1.1.1.0 in
-    let long = start.pre.5.numbers_room in
+    let long = start.pre.3.numbers_room in
     λ t et asks h. request_lent _ asks _ _ ys _ long h _ _ _ _ _ _ _ _ _ after-bounded-row.bounded-row.ensures.is
     (after-add-node-row.add-node-row.ensures t et asks (rows_lent _ asks _ _ ys _ long h))
 

@@ -1,6 +1,5 @@
 -- `build_node_request::request_node_row` meets its contract. Assumes nothing.
 use mathlib.Core.Path.{refl}
-use native.Mathlib.Omega.{arith}
 use lib.Ieee.{of_bits}
 use Rattle.pywr.specs.Numbers.{one64}
 use Rattle.pywr.specs.Misshapen.{columns_rise}
@@ -45,9 +44,6 @@ add-node-row-requires c κs =
       after-add-node.add_node_lem.ensures.rising,
       record { asks = h.asks; held = rows_lent _ h.asks _ _ ys _ start.pre.2.numbers_room h.held },
       start.pre.4,
-      omega (arith, start.pre.0.sections.few_nodes, start.pre.1),
-      omega arith,
-      omega arith,
     )
 
 returns : tie.Need-returns

@@ -1,11 +1,7 @@
 -- `build_node_table::add_node_row` meets its contract. Assumes nothing.
-use mathlib.Core.Path.{◌≡◌}
-use Prim.Native.Nat.{ℕ, ◌<◌}
 use native.Mathlib.Omega.{arith}
 use Rattle.layout.specs.Layout.{shape_made_at}
 use Rattle.laws.proofs.Tails.{tail_length}
-use Rattle.build_append.specs.declared.Filled.{Filled}
-use Rattle.build_join.specs.declared.VariableRow.TheVariants.{At}
 use Rattle.build_node_table.specs.NodeTable.{joined}
 use Rattle.build_node_table.proofs.Table.{place_fits, row_full, row_placed}
 use borrow.Author.Rules.{rules}
@@ -28,28 +24,17 @@ to-slice-known4 c =
     let at-match-keys2 = c.before.before.before in
     at-match-keys2.before
 
--- the row is under the ceiling
-row_under : (c : tie.After-add-variable-row) (k : ℕ) (g : Filled) → c.add-variable-row.result ≡ At k g → k < 1024
-row_under c k g e =
-    let h = (to_start c).requires.3 in
-    place_fits _ (joined h.asks).rows _ _ _ _ _ (c.add-variable-row.ensures (joined h.asks).rows h.held.held) k g e
-
 narrow16-requires : tie.Need-narrow16-requires
 narrow16-requires c κs =
-    let under = row_under (to-add-variable-row (to-slice-known4 c)) _ _ c.before.before.r.given.1 in
-    omega arith
+    let h = (to_start (to-add-variable-row (to-slice-known4 c))).requires.3 in
+    place_fits _ (joined h.asks).rows _ _ _ _ _ _ _ h.held.held
+    ((to-add-variable-row (to-slice-known4 c)).add-variable-row.ensures (joined h.asks).rows h.held.held) _ _ c.before.before.r.given.1
 
 put-node-row-requires : tie.Need-put-node-row-requires
 put-node-row-requires c κs =
     let after-add-variable-row = to-add-variable-row (to-slice-known4 c.before) in
     let start = to_start after-add-variable-row in
-    let under = row_under after-add-variable-row _ _ c.before.before.before.r.given.1 in (
-      omega (arith, tail_length shape_made_at after-add-variable-row.add-variable-row.last.0, after-add-variable-row.add-variable-row.kept.0, start.pre.0.words_room, start.pre.4),
-      start.pre.5,
-      start.pre.6,
-      omega (arith, c.narrow16.ensures),
-      start.pre.7,
-    )
+    omega (arith, tail_length shape_made_at after-add-variable-row.add-variable-row.last.0, after-add-variable-row.add-variable-row.kept.0, start.pre.0.words_room, start.pre.4)
 
 returns : tie.Need-returns
 returns c =
@@ -67,7 +52,7 @@ returns-2 c =
     let kept = after-add-variable-row.add-variable-row.kept.0 in
     λ t et asks h.
     row_placed _ asks _ _ _ _ _ _ _ h (after-add-variable-row.add-variable-row.ensures (joined asks).rows h.held) _ _ after-r.r.given.1 _ _ _
-    after-narrow16.narrow16.ensures et start.pre.5 (omega arith) after-put-node-row.put-node-row.ensures
+    after-narrow16.narrow16.ensures et (omega arith) after-put-node-row.put-node-row.ensures
 
 pub add-node-row-spec : {M : Type 1} → statement M
 add-node-row-spec =

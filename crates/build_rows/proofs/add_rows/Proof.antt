@@ -113,7 +113,7 @@ made : (c : tie.After-put-varying-makers)
     (numbers₁ (to-v c)) (to-v c).v.given.0.0.filled
 made c =
     let after-v = to-v c in
-    varying_made (start_of after-v).args.sentinel (net after-v) after-v.v.given.0.0 (words₁ after-v) (numbers₁ after-v) (varying after-v) (room₁ after-v) (few-rows after-v)
+    varying_made (start_of after-v).args.sentinel (net after-v) after-v.v.given.0.0 (words₁ after-v) (numbers₁ after-v) (varying after-v) (room₁ after-v)
     (start_of after-v).args.c.aggregates (start_of after-v).args.c.virtual_storages (aggregates_are after-v) (virtual_storages_are after-v) c.put-varying-makers.new.0
     c.put-varying-makers.ensures.0 c.put-varying-makers.ensures.1
 
@@ -121,9 +121,9 @@ laid : (c : tie.After-put-varying-makers) → VaryingLaid (start_of (to-v c)).ar
 laid c =
     let after-v = to-v c in
     let sections = (start_of after-v).pre.0.sections in
-    still_laid (start_of after-v).args.sentinel (net after-v) after-v.v.given.0.0 (words₁ after-v) (numbers₁ after-v) (varying after-v) (room₁ after-v) (few-rows after-v)
+    still_laid (start_of after-v).args.sentinel (net after-v) after-v.v.given.0.0 (words₁ after-v) (numbers₁ after-v) (varying after-v) (room₁ after-v)
     (start_of after-v).args.c.aggregates (start_of after-v).args.c.virtual_storages (aggregates_are after-v) (virtual_storages_are after-v) c.put-varying-makers.new.0
-    c.put-varying-makers.ensures.0 c.put-varying-makers.ensures.1 sections.few_aggregates_lem sections.few_virtual_storages_lem
+    c.put-varying-makers.ensures.0 c.put-varying-makers.ensures.1 (few-rows after-v) sections.few_aggregates_lem sections.few_virtual_storages_lem
 
 room₂ : (c : tie.After-put-varying-makers) → words_length ≤ length (words₂ c)
 room₂ c = omega (arith, long₂ c, room₁ (to-v c))
@@ -168,7 +168,7 @@ put-varying-makers-requires c κs =
       sections.few_aggregates_lem,
       sections.few_virtual_storages_lem,
       shape_room (words₁ after-v) (room₁ after-v),
-      rows_under _ _ _ _ _ (varying after-v) (room₁ after-v) (few-rows after-v) _ _ (aggregates_are after-v) (virtual_storages_are after-v),
+      rows_under _ _ _ _ _ (varying after-v) (room₁ after-v) _ _ (aggregates_are after-v) (virtual_storages_are after-v),
     )
 
 part-put-varying-makers : tie.Need-slice-bounds-put-varying-makers-start

@@ -5,7 +5,7 @@ use mathlib.Core.List.{List}
 use native.Mathlib.Omega.{arith}
 use lib.ListN.{length}
 use lib.Seq.{sets}
-use Rattle.layout.specs.Layout.{flow_order_packed_at, flow_order_made_at, shape_made_at, words_length}
+use Rattle.layout.specs.Layout.{flow_order_at, flow_order_made_at, shape_made_at, words_length}
 use Rattle.laws.proofs.Tails.{tail_kept, tail_written}
 use Rattle.pywr.specs.FlowOrder.{flow_order}
 use Rattle.build_incident_edges.proofs.PassedEdges.{from_under, to_under}
@@ -77,7 +77,7 @@ returns c =
     let after-write-tables = to-write-tables after-write-flow-order.before in
     let a = (to_start after-write-tables).args in
     let order : List ℕ = flow_order (network_of a.s.now a.c) in
-    tail_written shape_made_at (words₁ after-write-tables) flow_order_packed_at flow_order_made_at _ order refl
+    tail_written shape_made_at (words₁ after-write-tables) flow_order_at flow_order_made_at _ order refl
     (after-write-flow-order.write-flow-order.ensures a.c.aggregates a.c.virtual_storages)
     ∙ ap (λ (l : List ℕ). sets l flow_order_made_at order) after-write-tables.write-tables.ensures
 

@@ -1,6 +1,6 @@
 -- `build_sharers::add_node_sharers` meets its contract. The loop's invariant: the first i have been counted. Assumes nothing.
-use mathlib.Core.Path.{◌≡◌, ap, ◌∙◌}
-use Prim.Native.Nat.{ℕ, ◌+◌, ◌*◌, ◌%◌, ◌-◌}
+use mathlib.Core.Path.{◌≡◌, ◌∙◌}
+use Prim.Native.Nat.{◌+◌, ◌*◌, ◌-◌}
 use native.Mathlib.Omega.{arith}
 use lib.ListN.{get_or}
 use Rattle.layout.specs.Layout.{node_rows_at}
@@ -51,13 +51,12 @@ slice-read-wide16 c =
 -- the row of node row i is read as it stood
 row_is : (c : tie.After-wide16 invariant-loop decreases-loop)
     → let at-loop : tie.At-loop invariant-loop decreases-loop = to-loop c.before.before in
-    get_or at-loop.loop.shape (node_rows_at + 2 * at-loop.loop.i + 1) 0 % 1024 ≡ (node_asker (to_start at-loop).args.shape.now at-loop.loop.i).row
+    get_or at-loop.loop.shape (node_rows_at + 4 * at-loop.loop.i + 1) 0 ≡ (node_asker (to_start at-loop).args.shape.now at-loop.loop.i).row
 row_is c =
     let at-loop = to-loop c.before.before in
     let start = to_start at-loop in
-    ap (λ (w : ℕ). w % 1024)
-    (word_kept start.args.shape.now at-loop.loop.shape (node_rows_at + 2 * at-loop.loop.i + 1)
-    (omega (arith, c.before.before.before.loop-test.true, start.pre.0)) at-loop.loop.inv.counted.kept)
+    word_kept start.args.shape.now at-loop.loop.shape (node_rows_at + 4 * at-loop.loop.i + 1)
+    (omega (arith, c.before.before.before.loop-test.true, start.pre.0)) at-loop.loop.inv.counted.kept
 
 add-sharer-requires : tie.Need-add-sharer-requires invariant-loop decreases-loop
 add-sharer-requires c κs =
@@ -78,9 +77,8 @@ loop-again c =
     let in-loop = after-wide16.before.before.before in
     let at-loop = in-loop.before in
     let start = to_start at-loop in
-    let node = ap (λ (w : ℕ). w % 256)
-    (word_kept start.args.shape.now at-loop.loop.shape (node_rows_at + 2 * at-loop.loop.i)
-    (omega (arith, in-loop.loop-test.true, start.pre.0)) at-loop.loop.invariant.counted.kept) in
+    let node = word_kept start.args.shape.now at-loop.loop.shape (node_rows_at + 4 * at-loop.loop.i)
+    (omega (arith, in-loop.loop-test.true, start.pre.0)) at-loop.loop.invariant.counted.kept in
     walked_more _ _ _ start.pre.2 _ _ in-loop.loop-test.true at-loop.loop.invariant start.pre.1 _
     (λ j. record { kind = by_node; index = node j; row = (after-wide16.wide16.ensures.0 ∙ row_is after-wide16) j }) _ after-add-sharer.add-sharer.ensures
 

@@ -2,7 +2,7 @@
 use mathlib.Core.Path.{sym, ap, ◌∙◌}
 use Prim.Native.Nat.{◌+◌, ◌*◌}
 use lib.Seq.{sets}
-use Rattle.layout.specs.Layout.{makers_packed_at}
+use Rattle.layout.specs.Layout.{makers_at}
 use Rattle.build_sharers.specs.Sharers.{maker_in}
 use Rattle.build_sharers.proofs.OneMore.{first_words, later_words}
 use borrow.Author.Rules.{rules}
@@ -29,7 +29,7 @@ returns c =
     let start = to_start then1.before in
     let a = start.args in
     after-put-maker.put-maker.ensures
-    ∙ ap (sets a.shape.now (makers_packed_at + 3 * a.row)) (sym (first_words a.kind a.index (maker_in a.shape.now a.row) then1.if1.taken))
+    ∙ ap (sets a.shape.now (makers_at + 3 * a.row)) (sym (first_words a.kind a.index (maker_in a.shape.now a.row) then1.if1.taken))
 
 returns-2 : tie.Need-returns-2
 returns-2 c =
@@ -39,7 +39,7 @@ returns-2 c =
     let start = to_start else1.before in
     let a = start.args in
     after-put-maker2.put-maker2.ensures
-    ∙ ap (sets a.shape.now (makers_packed_at + 3 * a.row)) (sym (later_words a.kind a.index (maker_in a.shape.now a.row) else1.if1.left))
+    ∙ ap (sets a.shape.now (makers_at + 3 * a.row)) (sym (later_words a.kind a.index (maker_in a.shape.now a.row) else1.if1.left))
 
 pub add-sharer-spec : {M : Type 1} → statement M
 add-sharer-spec =

@@ -4,7 +4,7 @@ use Prim.Native.Nat.{ℕ, suc, ◌+◌, ◌*◌, ◌-◌, ◌<◌, ◌≤◌}
 use native.Mathlib.Nat.{mul-le-mul_left, mul-suc}
 use native.Mathlib.Omega.{arith}
 use lib.ListN.{get_or}
-use Rattle.layout.specs.Layout.{makers_packed_at}
+use Rattle.layout.specs.Layout.{makers_at}
 use Rattle.build_sharers.specs.Sharers.{entry_asker}
 use Rattle.build_sharers.proofs.Walk.{Walked, walked_none, walked_more, walked_all, next_under, next_room, word_kept}
 use borrow.Author.Rules.{rules}
@@ -18,7 +18,7 @@ abbrev decreases-loop : tie.decreases-loop
 decreases-loop shape₀ at width count kind i₀ shape i = count - i
 
 -- an entry of the table lies in it
-inside : (at width count i : ℕ) → i < count → 1 ≤ width → at + width * count ≤ makers_packed_at → at + width * i < makers_packed_at
+inside : (at width count i : ℕ) → i < count → 1 ≤ width → at + width * count ≤ makers_at → at + width * i < makers_at
 inside at width count i h w r =
     let more : width * suc i ≤ width * count = mul-le-mul_left width h in
     omega (arith, more, mul-suc width i)
@@ -33,7 +33,7 @@ to_start c =
     c.before.before
 
 entry-inside : (c : tie.In-loop invariant-loop decreases-loop) → let start : tie.Start invariant-loop decreases-loop = to_start c.before in
-    start.args.at + start.args.width * c.before.loop.i < makers_packed_at
+    start.args.at + start.args.width * c.before.loop.i < makers_at
 entry-inside c =
     let start = to_start c.before in
     inside _ _ _ _ c.loop-test.true start.pre.2 start.pre.0

@@ -4,7 +4,7 @@ use Prim.Native.Nat.{◌+◌, ◌*◌, ◌-◌, ◌≤◌}
 use native.Mathlib.Omega.{arith}
 use mathlib.Core.List.{List, map}
 use lib.ListN.{length}
-use Rattle.layout.specs.Layout.{shape_made_at, virtual_storages_packed_at, virtual_storages_made_at}
+use Rattle.layout.specs.Layout.{shape_made_at, virtual_storages_at, virtual_storages_made_at}
 use Rattle.laws.proofs.Tails.{tail_length, tail_kept}
 use Rattle.pywr.specs.Rows.{Element}
 use Rattle.pywr.specs.VaryingRows.{fresh_row}
@@ -187,7 +187,7 @@ loop-again c =
           let a = l.inv.0 rows held in
           asked_more _ _ _ _ _ _ _ (omega arith) _ _ _ _ _ _ _ _ (asked_under _ t.args.c t.pre.0.sections _ _ lt l.inv.1)
           (asked_row _ t.args.c t.pre.0.sections _ _ lt l.inv.1) a (call.ensures _ a.held) _ _ after-r.r.given.1
-          (virtual_storages_packed_at + 6 * l.i) _ _ (omega arith) (virtual_storage_wide _)
+          (virtual_storages_at + 6 * l.i) _ _ (omega arith) (virtual_storage_wide _)
           (omega (arith, call.kept.1.1.1.1.1.1.1.1.1.0, l.inv.3, t.pre.1.words_room, t.pre.0.sections.few_virtual_storages_lem, lt))
           (table_more _ t.args.c t.pre.0.sections _ _ lt l.inv.1 _)
           (entry_same _ _ _ _ _ _ _ after-put-virtual-storage.put-virtual-storage.ensures after-narrow16.narrow16.ensures after-active-period.active-period.ensures)),

@@ -2,7 +2,7 @@
 use Prim.Native.Nat.{◌+◌, ◌*◌}
 use native.Mathlib.Omega.{arith}
 use lib.ListN.{length-set}
-use Rattle.layout.specs.Layout.{virtual_storages_packed_at}
+use Rattle.layout.specs.Layout.{virtual_storages_at}
 use Rattle.network_virtual_storage.specs.PeriodOf.{period_of}
 use Rattle.build_virtual_storages.proofs.VirtualStorageLaws.{entry_written}
 use borrow.Author.Rules.{rules}
@@ -41,7 +41,7 @@ returns c =
     let c4 = c3.before in
     let c6 = c4.before.before in
     let a = c6.args in
-    entry_written a.shape.now (virtual_storages_packed_at + 6 * a.i) _ _ _ _ _ _ (period_of a.period) c4.period-word.ensures c3.byte-to-u16.ensures.0
+    entry_written a.shape.now (virtual_storages_at + 6 * a.i) _ _ _ _ _ _ (period_of a.period) c4.period-word.ensures c3.byte-to-u16.ensures.0
     c2.byte-to-u162.ensures.0 c1.byte-to-u163.ensures.0 c.byte-to-u164.ensures.0
 
 pub put-virtual-storage-spec : {M : Type 1} → statement M

@@ -22,20 +22,26 @@ to-copy-u162 c =
     let after-slice-known3 = c.before.before.before in
     after-slice-known3.before.before
 
-abbrev to-copy-u163 : tie.After-write-node-rows → tie.After-copy-u163
+abbrev to-copy-u163 : tie.After-struct-known3 → tie.After-copy-u163
 to-copy-u163 c =
-    let after-slice-known4 = c.before.before in
-    after-slice-known4.before.before
+    let after-shape3 = c.before.before.before in
+    after-shape3.before
 
-abbrev to-write-node-rows : tie.After-copy-u164 → tie.After-write-node-rows
-to-write-node-rows c =
-    let after-slice-known5 = c.before.before in
-    after-slice-known5.before.before
-
-abbrev to-copy-u164 : tie.After-struct-known3 → tie.After-copy-u164
+abbrev to-copy-u164 : tie.After-copy-u165 → tie.After-copy-u164
 to-copy-u164 c =
+    let after-shape4 = c.before.before.before in
+    after-shape4.before
+
+abbrev to-copy-u165 : tie.After-struct-known4 → tie.After-copy-u165
+to-copy-u165 c =
     let after-shape5 = c.before.before.before in
     after-shape5.before
+
+abbrev to-struct-known3 : tie.After-struct-known4 → tie.After-struct-known3
+to-struct-known3 c =
+    let after-copy-u165 = to-copy-u165 c in
+    let after-copy-u164 = to-copy-u164 after-copy-u165 in
+    after-copy-u164.before
 
 copy-u16-requires : tie.Need-copy-u16-requires
 copy-u16-requires c κs =
@@ -61,44 +67,47 @@ copy-u16-requires-3 c κs =
           start.args.words.now _ start.pre.1 (omega (arith, start.pre.0.edges)),
     )
 
-write-node-rows-requires : tie.Need-write-node-rows-requires
-write-node-rows-requires c κs =
-    let after-copy-u163 = c.before.before.before in
-    let after-copy-u162 = to-copy-u162 after-copy-u163 in
-    let after-copy-u16 = to-copy-u16 after-copy-u162 in
-    let start = to_start after-copy-u16 in (
-      node_rows_room _ _ _ _ after-copy-u163.copy-u163.auto.0 after-copy-u162.copy-u162.kept.0 after-copy-u16.copy-u16.kept.0 start.pre.2,
-      made_room start.args.words.now _ start.pre.1 (omega arith),
-      start.pre.0.node_rows,
-    )
+mul-copy-u16-3 : tie.Need-overflow-mul-copy-u16-3
+mul-copy-u16-3 c =
+    record { fits = omega (arith, (to_start (to-copy-u16 (to-copy-u162 (to-copy-u163 c)))).requires.0.node_rows) }
 
 copy-u16-requires-4 : tie.Need-copy-u16-requires-4
 copy-u16-requires-4 c κs =
-    let after-write-node-rows = c.before.before.before in
-    let after-copy-u163 = to-copy-u163 after-write-node-rows in
+    let after-copy-u163 = to-copy-u163 c in
     let after-copy-u162 = to-copy-u162 after-copy-u163 in
     let after-copy-u16 = to-copy-u16 after-copy-u162 in
     let start = to_start after-copy-u16 in (
-      aggregates_room _ _ _ _ _ _ after-write-node-rows.write-node-rows.auto.0 after-copy-u163.copy-u163.kept.0 after-copy-u162.copy-u162.kept.0
+      node_rows_room _ _ _ _ _ after-copy-u163.copy-u163.kept.0 after-copy-u162.copy-u162.kept.0 after-copy-u16.copy-u16.kept.0
+          start.pre.0.node_rows start.pre.2,
+      made_room start.args.words.now _ start.pre.1 (omega (arith, start.pre.0.node_rows)),
+    )
+
+copy-u16-requires-5 : tie.Need-copy-u16-requires-5
+copy-u16-requires-5 c κs =
+    let after-copy-u164 = c.before.before.before in
+    let after-copy-u163 = to-copy-u163 after-copy-u164.before in
+    let after-copy-u162 = to-copy-u162 after-copy-u163 in
+    let after-copy-u16 = to-copy-u16 after-copy-u162 in
+    let start = to_start after-copy-u16 in (
+      aggregates_room _ _ _ _ _ _ after-copy-u164.copy-u164.auto.0 after-copy-u163.copy-u163.kept.0 after-copy-u162.copy-u162.kept.0
           after-copy-u16.copy-u16.kept.0 start.pre.0.aggregates start.pre.2,
       made_room start.args.words.now _ start.pre.1 (omega (arith, start.pre.0.aggregates)),
     )
 
-mul-copy-u16-3 : tie.Need-overflow-mul-copy-u16-3
-mul-copy-u16-3 c =
-    let after-copy-u163 = to-copy-u163 (to-write-node-rows (to-copy-u164 c)) in
-    let start = to_start (to-copy-u16 (to-copy-u162 after-copy-u163)) in
+mul-copy-u16-4 : tie.Need-overflow-mul-copy-u16-4
+mul-copy-u16-4 c =
+    let start = to_start (to-copy-u16 (to-copy-u162 (to-copy-u163 (to-struct-known3 c)))) in
     record { fits = omega (arith, start.pre.0.virtual_storages) }
 
-copy-u16-requires-5 : tie.Need-copy-u16-requires-5
-copy-u16-requires-5 c κs =
-    let after-copy-u164 = to-copy-u164 c in
-    let after-write-node-rows = to-write-node-rows after-copy-u164 in
-    let after-copy-u163 = to-copy-u163 after-write-node-rows in
+copy-u16-requires-6 : tie.Need-copy-u16-requires-6
+copy-u16-requires-6 c κs =
+    let after-copy-u165 = to-copy-u165 c in
+    let after-copy-u164 = to-copy-u164 after-copy-u165 in
+    let after-copy-u163 = to-copy-u163 after-copy-u164.before in
     let after-copy-u162 = to-copy-u162 after-copy-u163 in
     let after-copy-u16 = to-copy-u16 after-copy-u162 in
     let start = to_start after-copy-u16 in (
-      virtual_storages_room _ _ _ _ _ _ _ after-copy-u164.copy-u164.kept.0 after-write-node-rows.write-node-rows.kept.0 after-copy-u163.copy-u163.kept.0
+      virtual_storages_room _ _ _ _ _ _ _ after-copy-u165.copy-u165.kept.0 after-copy-u164.copy-u164.kept.0 after-copy-u163.copy-u163.kept.0
           after-copy-u162.copy-u162.kept.0 after-copy-u16.copy-u16.kept.0 start.pre.0.virtual_storages start.pre.2,
       made_room
           start.args.words.now _ start.pre.1 (omega (arith, start.pre.0.virtual_storages)),
@@ -106,25 +115,25 @@ copy-u16-requires-5 c κs =
 
 same_length : tie.Need-same-length
 same_length c =
-    let after-copy-u165 = c.before.before in
-    let after-copy-u164 = to-copy-u164 after-copy-u165.before in
-    let after-write-node-rows = to-write-node-rows after-copy-u164 in
-    let after-copy-u163 = to-copy-u163 after-write-node-rows in
+    let after-copy-u166 = c.before.before in
+    let after-copy-u165 = to-copy-u165 after-copy-u166.before in
+    let after-copy-u164 = to-copy-u164 after-copy-u165 in
+    let after-copy-u163 = to-copy-u163 after-copy-u164.before in
     let after-copy-u162 = to-copy-u162 after-copy-u163 in
     let after-copy-u16 = to-copy-u16 after-copy-u162 in
-    after-copy-u165.copy-u165.auto.0 ∙ after-copy-u164.copy-u164.kept.0 ∙ after-write-node-rows.write-node-rows.kept.0 ∙ after-copy-u163.copy-u163.kept.0
+    after-copy-u166.copy-u166.auto.0 ∙ after-copy-u165.copy-u165.kept.0 ∙ after-copy-u164.copy-u164.kept.0 ∙ after-copy-u163.copy-u163.kept.0
     ∙ after-copy-u162.copy-u162.kept.0 ∙ after-copy-u16.copy-u16.kept.0
 
 returns : tie.Need-returns
 returns c =
-    let after-copy-u165 = c.before.before in
-    let after-copy-u164 = to-copy-u164 after-copy-u165.before in
-    let after-write-node-rows = to-write-node-rows after-copy-u164 in
-    let after-copy-u163 = to-copy-u163 after-write-node-rows in
+    let after-copy-u166 = c.before.before in
+    let after-copy-u165 = to-copy-u165 after-copy-u166.before in
+    let after-copy-u164 = to-copy-u164 after-copy-u165 in
+    let after-copy-u163 = to-copy-u163 after-copy-u164.before in
     let after-copy-u162 = to-copy-u162 after-copy-u163 in
     let after-copy-u16 = to-copy-u16 after-copy-u162 in
     let start = to_start after-copy-u16 in
-    written start.args.z _ _ _ _ _ _ _ _ after-copy-u165.copy-u165.ensures after-copy-u164.copy-u164.ensures after-write-node-rows.write-node-rows.ensures
+    written start.args.z _ _ _ _ _ _ _ _ after-copy-u166.copy-u166.ensures after-copy-u165.copy-u165.ensures after-copy-u164.copy-u164.ensures
     after-copy-u163.copy-u163.ensures after-copy-u162.copy-u162.ensures after-copy-u16.copy-u16.ensures
 
 pub write-tables-spec : {M : Type 1} → statement M
@@ -139,9 +148,10 @@ write-tables-spec =
     copy-u16-requires-2
     (λ c. search rules)
     copy-u16-requires-3
-    write-node-rows-requires
-    copy-u16-requires-4
     mul-copy-u16-3
+    copy-u16-requires-4
     copy-u16-requires-5
+    mul-copy-u16-4
+    copy-u16-requires-6
     same_length
     returns)

@@ -7,9 +7,7 @@ use borrow.Author.Tests.{not-true, not-false}
 use Rattle.pywr.specs.Store.{Store}
 use Rattle.pywr.specs.Calls.{step_room}
 use Rattle.store.proofs.Passed.{lengths, shaped}
-use Rattle.pywr.proofs.RunLaws.{answer_read}
 use Rattle.step_rows.specs.ConstraintBounds as rows
-use Rattle.step_costs.proofs.CostLaws.{costs_are_numbers}
 use Rattle.step_checks.proofs.JudgeLaws.{room_store, room_work}
 use Rattle.built_solver.proofs.FinishLaws.{store_of, edges_fit, order_fits, short, refuse, finish}
 use Rattle.built_solver.proofs.step.Statement.{statement}
@@ -37,13 +35,12 @@ accepted c =
     let after-update-arg2 = c.before.before.before in
     after-update-arg2.before.before
 
-abbrev updated : tie.After-slice-known13 → tie.After-update
+abbrev updated : tie.After-slice-known12 → tie.After-update
 updated c =
     let after-zero-f64-arg = c.before.before.before in
-    let after-slice-known11 = after-zero-f64-arg.before.before.before in
-    let after-row-upper = after-slice-known11.before.before.before in
-    let after-slice-known8 = after-row-upper.before.before.before in
-    after-slice-known8.before.before
+    let after-slice-known10 = after-zero-f64-arg.before.before.before in
+    let after-row-lower = after-slice-known10.before.before.before in
+    after-row-lower.before.before.before
 
 enough-room : (c : tie.Else1) → step_room (lent (start c.before)) (start c.before).args.work.now ≡ true
 enough-room c =
@@ -83,8 +80,7 @@ update-requires c κs =
     let a = s.args in
     let ok = enough-room judge.before.before in
     let h = room_store (lent s) a.work.now ok in
-    let answered = judge.judge.ensures (lent s) refl refl refl in
-    let ready = answered.ready told.enum_told.given.1 in
+    let ready = (judge.judge.ensures (lent s) refl refl refl).ready told.enum_told.given.1 in
     let n = shaped (lent s) ready.shaped in
     let r = rows.store_of a.row_lower_lem.now a.row_upper_lem.now a.elements.now a.columns.now a.row_starts_lem.now a.shape.now in (
       (
@@ -97,7 +93,6 @@ update-requires c κs =
         (λ t e. edges_fit t (lent s) e n.edges),
         (λ t e. order_fits t (lent s) e n.flow_order_lem),
         omega (arith, ready.long),
-        costs_are_numbers (lent s) a.file.now _ _ (answer_read (lent s) a.file.now a.work.now _ (answered.read a.work.now ok told.enum_told.given.1)),
       ),
       record {
         row_lower_long = h.row_lower;
@@ -151,7 +146,7 @@ returns-3 c =
     let j = judge.judge.ensures (lent s) refl refl refl in
     let yes = told.enum_told.given.1 in
     finish s.args.file.now (lent s) s.args.work.now (enough-room judge.before.before) judge.judge.result _ j _
-    (c.before.before.zero-f64.ensures ∙ rw call.kept.1.1.1.1.1.1.1.1.0) judge.judge.kept.1.1.1.1.0 yes
+    c.before.before.zero-f64.ensures judge.judge.kept.1.1.1.1.0 yes
     (call.ensures.0 (lent s) _ _ refl)
     (call.ensures.1 (lent s) _ (record { row_lower_lem = refl; row_upper_lem = refl; elements_are = refl; columns_are = refl; row_starts_lem = refl; shape_is = refl }) (j.ready yes).held)
 

@@ -20,8 +20,7 @@ to_start c =
 
 start-falls-requires : tie.Need-start-falls-requires
 start-falls-requires c κs =
-    let starts = (to_start c).requires.starts in
-    (search rules, search rules, λ r lt. starts.rise r (omega arith), λ r lt. omega (arith, start_under starts (r + 1) (omega arith)))
+    (search rules, search rules, λ r lt. omega (arith, start_under (to_start c).requires.starts (r + 1) (omega arith)))
 
 returns : tie.Need-returns
 unfolding row_columns_rise columns_of_row

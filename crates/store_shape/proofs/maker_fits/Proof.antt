@@ -1,5 +1,5 @@
 -- `store_shape::maker_fits` meets its contract. Assumes nothing.
-use Rattle.store_shape.proofs.MakerLaws.{kind_out, index_out, by_sharers}
+use Rattle.store_shape.proofs.ThreeWords.{kind_out, index_out, by_sharers}
 use borrow.Author.Rules.{rules}
 use Rattle.store_shape.proofs.maker_fits.Statement.{statement}
 use Rattle.store_shape.proofs.maker_fits.Tie as tie

@@ -1,0 +1,19 @@
+-- `runs::fill_f64` meets its contract. The loop's invariant: the first i places are stored.
+use lib.Ieee.{nan}
+use Prim.Native.Nat.{◌-◌}
+use lib.ListN.{length-replicate, get_or-replicate}
+use Rattle.runs.proofs.Copied.{none, more, all}
+use Rattle.runs.proofs.fill_f64.Goals as goal
+
+pub loop-i-init : goal.loop-i-init
+loop-i-init c = none _ _ _ _ (length-replicate c.args.n c.args.v)
+
+pub loop-i-preserved : goal.loop-i-preserved
+loop-i-preserved c =
+    more _ _ _ _ _ _ _ nan c.loop-i-test.true (get_or-replicate c.args.n c.loop-i.i c.args.v nan c.loop-i-test.true) c.loop-i.invariant
+
+pub shape_of-d : goal.shape_of-d
+shape_of-d c = c.loop-i.invariant.long
+
+pub returns : goal.returns
+returns c = all _ _ _ _ _ _ c.loop-i-test.false c.loop-i.invariant
