@@ -13,14 +13,14 @@ use layout::{COLUMN_CEILING, ELEMENT_CEILING, ROW_CEILING, STARTS_MADE_AT, UPPER
 use pywr::ColumnNumber;
 
 // How many rows and elements the work runs hold.
-#[derive(Drop)]
+#[derive(Clone, Copy)]
 pub struct Filled {
     pub rows: usize,
     pub elements: usize,
 }
 
 // What adding rows answers: how much the work runs hold now, or that the programme is over its ceilings.
-#[derive(Drop)]
+#[derive(Clone, Copy)]
 pub enum RowsAdded {
     Done(Filled),
     Full,

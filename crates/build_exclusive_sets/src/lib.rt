@@ -15,7 +15,7 @@ use layout::{MEMBERSHIP_CEILING, NODE_CEILING, SET_CEILING, SET_SIZE_CEILING};
 use network_record::Counts;
 
 // How many sets there are, or more than the ceiling.
-#[derive(Drop)]
+#[derive(Clone, Copy)]
 pub enum Sets {
     Count(usize),
     TooMany,

@@ -90,7 +90,7 @@ pub fn position(
 }
 
 // What asking for a varying row answers: the row's number, and how much the work runs hold now.
-#[derive(Drop)]
+#[derive(Clone, Copy)]
 pub enum VariableRow {
     At(usize, Filled),
     Full,

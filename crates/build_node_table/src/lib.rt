@@ -18,14 +18,14 @@ use layout::{
 use pywr::{ColumnNumber, NodeIndex, Sentinel};
 
 // What the work runs hold, and how many node rows were written.
-#[derive(Drop)]
+#[derive(Clone, Copy)]
 pub struct NodeRows {
     pub filled: Filled,
     pub count: usize,
 }
 
 // What asking for node rows answers: how much the work runs hold now, or that the programme is over its ceilings.
-#[derive(Drop)]
+#[derive(Clone, Copy)]
 pub enum NodeRowsAdded {
     Done(NodeRows),
     Full,

@@ -19,7 +19,7 @@ use network_record::Counts;
 use pywr::{ColumnNumber, Sentinel};
 
 // The sizes of the assembled programme, or a refusal's number and place.
-#[derive(Drop)]
+#[derive(Clone, Copy)]
 pub enum Assembled {
     Done(Sizes),
     Refused(u8, usize),

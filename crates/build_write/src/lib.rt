@@ -14,7 +14,7 @@ use layout::{
 use pywr::Sentinel;
 
 // How much an assembled programme holds.
-#[derive(Drop)]
+#[derive(Clone, Copy)]
 pub struct Sizes {
     pub nodes: usize,
     pub edges: usize,

@@ -8,14 +8,14 @@ ghost use Rattle.pywr.specs.Numbers.{is_flow, is_small, of_pattern};
 ghost use Rattle.fields.specs.Field.{byte_field, node_field, active_field, check_factor};
 
 // A field's value, or a refusal's number and place.
-#[derive(Drop)]
+#[derive(Clone, Copy)]
 pub enum Field {
     Value(usize),
     Refused(u8, usize),
 }
 
 // Where the bytes after a field or a record start, or a refusal's number and place.
-#[derive(Drop)]
+#[derive(Clone, Copy)]
 pub enum Checked {
     Next(usize),
     Refused(u8, usize),
@@ -127,7 +127,7 @@ pub fn is_flow(bits: u64) -> bool
 pub fn is_small(bits: u64) -> bool
     ensures { result ≡ is_small bits }
 {
-    std::num::wrapping_add_u64(bits, bits) <= 9573022409280192512
+    bits.wrapping_add(bits) <= 9573022409280192512
 }
 
 // The factor of a virtual storage's part.

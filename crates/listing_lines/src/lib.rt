@@ -11,7 +11,7 @@ use listing_fields::{put_bounds, put_double, put_head, put_letter, put_number};
 pub const LINE_ROOM: usize = 192;
 
 // Who made a row first: the maker's kind and index, and how many makers share the row.
-#[derive(Drop)]
+#[derive(Clone, Copy)]
 pub struct RowMaker {
     pub kind: usize,
     pub index: usize,

@@ -9,7 +9,7 @@ use network_checks::Refusal;
 use network_record::{Counts, Record};
 
 // A file that is accepted, or a refusal's number and place.
-#[derive(Drop)]
+#[derive(Clone, Copy)]
 pub enum Loaded {
     Accepted(Counts),
     Refused(u8, usize),

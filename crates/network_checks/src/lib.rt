@@ -23,7 +23,7 @@ use network_record::Counts;
 use pywr::{EdgeIndex, NodeIndex};
 
 // No refusal, or one's number and place.
-#[derive(Drop)]
+#[derive(Clone, Copy)]
 pub enum Refusal {
     Nothing,
     At(u8, usize),

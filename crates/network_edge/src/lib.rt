@@ -17,7 +17,7 @@ const FROM_OFFSET: usize = 2;
 const TO_OFFSET: usize = 4;
 
 // The end that an edge comes from, or the one that it goes to.
-#[derive(Drop)]
+#[derive(Clone, Copy)]
 pub enum End {
     From,
     To,

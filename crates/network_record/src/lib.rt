@@ -11,7 +11,7 @@ use fields::Checked;
 use layout::{AGGREGATE_CEILING, EDGE_CEILING, NODE_CEILING, VIRTUAL_STORAGE_CEILING};
 
 // A record: its kind and where the next one starts, or a refusal's number and place.
-#[derive(Drop)]
+#[derive(Clone, Copy)]
 pub enum Record {
     Node(usize),
     Edge(usize),
@@ -21,7 +21,7 @@ pub enum Record {
 }
 
 // The records of a whole file: how many of each kind, and where the virtual storages start.
-#[derive(Drop)]
+#[derive(Clone, Copy)]
 pub struct Counts {
     pub nodes: usize,
     pub edges: usize,

@@ -35,7 +35,7 @@ const STORAGE_PART_LENGTH: usize = 10;
 const FACTOR_OFFSET: usize = 2;
 
 // When a virtual storage is active: always, or from the start to the end, both included.
-#[derive(Drop)]
+#[derive(Clone, Copy)]
 pub struct Period {
     pub always: bool,
     pub start_month: u8,

@@ -21,7 +21,7 @@ pub fn is_option(word: &[u8]) -> bool
     word[0] == b'-'
 }
 
-#[derive(Drop)]
+#[derive(Clone, Copy)]
 pub enum Number {
     Value(usize),
     NotDecimal,

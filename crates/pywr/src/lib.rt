@@ -5,36 +5,36 @@ ghost use Rattle.std.specs.Prelude.{◌≡◌};
 ghost use Rattle.pywr.specs.Numbers.{high, low};
 
 // A node's number in its network.
-#[derive(Drop)]
+#[derive(Clone, Copy)]
 pub struct NodeIndex(pub u16);
 
 // An edge's number in its network.
-#[derive(Drop)]
+#[derive(Clone, Copy)]
 pub struct EdgeIndex(pub u16);
 
 // A column's number in its programme.
-#[derive(Drop)]
+#[derive(Clone, Copy)]
 pub struct ColumnIndex(pub u16);
 
 // The width of a column's number in the array that a row is gathered in.
 pub type ColumnNumber = u16;
 
 // A lower and an upper bound.
-#[derive(Drop)]
+#[derive(Clone, Copy)]
 pub struct Interval {
     pub lower: f64,
     pub upper: f64,
 }
 
 // A node's bounds: least and most flow, or available and missing volume.
-#[derive(Drop)]
+#[derive(Clone, Copy)]
 pub enum NodeBounds {
     Flow(f64, f64),
     Volume(f64, f64),
 }
 
 // The high sentinel that the caller of a build picks: infinity, or the largest finite double.
-#[derive(Drop)]
+#[derive(Clone, Copy)]
 pub enum Sentinel {
     Infinity,
     Largest,
@@ -59,14 +59,14 @@ impl Sentinel {
 }
 
 // The answer of a build and of a step: accepted, or refused with document 01's number and the place.
-#[derive(Drop)]
+#[derive(Clone, Copy)]
 pub enum Answer {
     Accepted,
     Refused(u8, usize),
 }
 
 // The answer to reading a row: the row's columns from a start up to an end, or refused with number and place.
-#[derive(Drop)]
+#[derive(Clone, Copy)]
 pub enum RowAnswer {
     Part(usize, usize),
     Refused(u8, usize),

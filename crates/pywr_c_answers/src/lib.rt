@@ -9,7 +9,7 @@ use pywr::{Answer, RowAnswer, Sentinel};
 
 // An answer's number and place: 0 and 0 where it is accepted.
 #[repr(C)]
-#[derive(Drop)]
+#[derive(Clone, Copy)]
 pub struct Refusal {
     pub number: u64,
     pub place: u64,
@@ -17,7 +17,7 @@ pub struct Refusal {
 
 // An answer for a row: number and place, and the part of the column run, empty where the row is refused.
 #[repr(C)]
-#[derive(Drop)]
+#[derive(Clone, Copy)]
 pub struct RowPart {
     pub number: u64,
     pub place: u64,

@@ -45,7 +45,7 @@ pub const VIRTUAL_MAX_OFFSET: usize = 10;
 pub const VIRTUAL_VOLUME_OFFSET: usize = 18;
 
 // What a double of the file may be. One that is not read may be anything.
-#[derive(Drop)]
+#[derive(Clone, Copy)]
 pub enum Range {
     Unread,
     Flow,

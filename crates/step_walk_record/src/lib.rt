@@ -17,7 +17,7 @@ use step_record::{
 };
 
 // What a record gives in one look: its interval, or a stop, after which the file is read anew for its refusal.
-#[derive(Drop)]
+#[derive(Clone, Copy)]
 pub enum Walked {
     Good(Interval),
     Stopped,

@@ -223,7 +223,7 @@ fn count_order(tally: &mut Tally, columns: usize, mass: usize) {
     if columns < 6 {
         if mass < 6 {
             let at = 6 * columns + mass;
-            tally[at] = std::num::wrapping_add_u16(tally[at], 1);
+            tally[at] = tally[at].wrapping_add(1);
         }
     }
 }
