@@ -1,0 +1,14 @@
+-- `network_aggregate::check_sets` meets its contract. The invariant: the answer is that of the sets from `here` on.
+use mathlib.Core.Path.{◌≡◌}
+use Prim.Native.Nat.{◌-◌, ◌≤◌}
+use lib.ListN.{length}
+use Rattle.fields.specs.Records.{check_each}
+use Rattle.network_aggregate.specs.AggregatedNode.{check_set}
+use Rattle.network_aggregate.proofs.check_sets.Given as goal
+
+abbrev pub invariant-loop-i : goal.invariant-loop-i
+invariant-loop-i l =
+    (l.here ≤ length l.s) × (check_each (check_set l.s l.place l.nodes) l.count l.at ≡ check_each (check_set l.s l.place l.nodes) (l.count - l.i) l.here)
+
+abbrev pub decreases-loop-i : goal.decreases-loop-i
+decreases-loop-i l = l.count - l.i
