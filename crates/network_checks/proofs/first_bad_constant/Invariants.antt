@@ -1,0 +1,19 @@
+-- `network_checks::first_bad_constant` meets its contract. The invariant: the answer is that of the nodes from i on.
+use mathlib.Core.Path.{◌≡◌}
+use Prim.Native.Nat.{◌+◌, ◌*◌, ◌-◌, ◌≤◌}
+use Rattle.pywr.specs.Result.{first_refused}
+use Rattle.pywr.specs.NetworkFile.{bad_constant}
+use Rattle.fields.specs.Records.{records_at}
+use Rattle.network_node.specs.Node.{node_at}
+use Rattle.network_laws.specs.NetworkAt.{node_records}
+use Rattle.network_record.specs.Counts.{network_of}
+use Rattle.network_checks.proofs.first_bad_constant.Given as goal
+
+abbrev pub invariant-loop-i : goal.invariant-loop-i
+invariant-loop-i l =
+    (l.i ≤ l.c.nodes)
+    × (first_refused (bad_constant (network_of l.s l.c)) 0 (node_records l.s l.c.nodes)
+    ≡ first_refused (bad_constant (network_of l.s l.c)) l.i (records_at (node_at l.s) (λ at. at + 20) (l.c.nodes - l.i) (20 * l.i)))
+
+abbrev pub decreases-loop-i : goal.decreases-loop-i
+decreases-loop-i l = l.c.nodes - l.i
