@@ -47,9 +47,7 @@ returns-in-Full c =
     (asked_row _ c.args.c c.requires.0.sections _ _ lt l.invariant.1) a (c.add_aggregate_row-r.ensures _ a.held) _ c.in-Full.is
 
 pub slice_bounds-put_aggregate-count : goal.slice_bounds-put_aggregate-count
-slice_bounds-put_aggregate-count c =
-    let call = c.add_aggregate_row-r in
-    omega (arith, call.kept.1.1.1.1.1.1.1.1.1.0, c.loop-i.invariant.3, c.requires.1.words_room)
+slice_bounds-put_aggregate-count c = omega (arith, c.add_aggregate_row-r.auto.words, c.loop-i.invariant.3, c.requires.1.words_room)
 
 pub narrow16-requires : goal.narrow16-requires
 narrow16-requires c =
@@ -61,14 +59,12 @@ narrow16-requires c =
 
 pub put_aggregate-requires : goal.put_aggregate-requires
 put_aggregate-requires c =
-    let l = c.loop-i in
     let lt = c.loop-i-test.true in
-    let call = c.add_aggregate_row-r in
     omega (
       arith,
-      tail_length shape_made_at call.last.1.1.1.1.1.1.1.1.1.0,
-      call.kept.1.1.1.1.1.1.1.1.1.0,
-      l.invariant.3,
+      tail_length shape_made_at c.add_aggregate_row-r.new.words,
+      c.add_aggregate_row-r.auto.words,
+      c.loop-i.invariant.3,
       c.requires.1.words_room,
       c.requires.0.sections.few_aggregates_lem,
       lt,
@@ -91,21 +87,20 @@ loop-i-smaller c = omega (arith, c.loop-i-test.true)
 
 pub loop-i-preserved : goal.loop-i-preserved
 loop-i-preserved c =
-    let l = c.loop-i in
     let lt = c.loop-i-test.true in
-    let call = c.add_aggregate_row-r in (
+    (
       (λ rows held.
-          let a = l.invariant.0 rows held in
-          asked_more _ _ _ _ _ _ _ (omega arith) _ _ _ _ _ _ _ _ (asked_under _ c.args.c c.requires.0.sections _ _ lt l.invariant.1)
-          (asked_row _ c.args.c c.requires.0.sections _ _ lt l.invariant.1) a (call.ensures _ a.held) _ _ c.in-At.is (aggregates_at + l.i)
+          let a = c.loop-i.invariant.0 rows held in
+          asked_more _ _ _ _ _ _ _ (omega arith) _ _ _ _ _ _ _ _ (asked_under _ c.args.c c.requires.0.sections _ _ lt c.loop-i.invariant.1)
+          (asked_row _ c.args.c c.requires.0.sections _ _ lt c.loop-i.invariant.1) a (c.add_aggregate_row-r.ensures _ a.held) _ _ c.in-At.is (aggregates_at + c.loop-i.i)
           (c.narrow16.result ∷ []) _ (omega arith) refl
-          (omega (arith, call.kept.1.1.1.1.1.1.1.1.1.0, l.invariant.3, c.requires.1.words_room, c.requires.0.sections.few_aggregates_lem, lt))
+          (omega (arith, c.add_aggregate_row-r.auto.words, c.loop-i.invariant.3, c.requires.1.words_room, c.requires.0.sections.few_aggregates_lem, lt))
           (λ places e. ap (λ (k : ℕ). places ++ (k ∷ [])) (sym c.narrow16.ensures)) c.put_aggregate.ensures),
-      aggregate_next _ c.args.c c.requires.0.sections _ _ lt l.invariant.1 _ c.aggregate_end-at.ensures,
+      aggregate_next _ c.args.c c.requires.0.sections _ _ lt c.loop-i.invariant.1 _ c.aggregate_end-at.ensures,
       omega arith,
-      tail_kept shape_made_at call.last.1.1.1.1.1.1.1.1.1.0 c.put_aggregate.new.shape
-          c.put_aggregate.auto.shape ∙ call.kept.1.1.1.1.1.1.1.1.1.0 ∙ l.invariant.3,
-      call.kept.1.1.1.1.1.1.1.1.1.1.0 ∙ l.invariant.4,
+      tail_kept shape_made_at c.add_aggregate_row-r.new.words c.put_aggregate.new.shape
+          c.put_aggregate.auto.shape ∙ c.add_aggregate_row-r.auto.words ∙ c.loop-i.invariant.3,
+      c.add_aggregate_row-r.auto.numbers ∙ c.loop-i.invariant.4,
     )
 
 pub shape_of-words : goal.shape_of-words

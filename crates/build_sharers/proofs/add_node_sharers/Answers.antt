@@ -21,7 +21,7 @@ bounds-shape-at-in-loop-i c = omega (arith, c.loop-i-test.true, c.requires.0, c.
 pub add_sharer-requires : goal.add_sharer-requires
 add_sharer-requires c =
     -- the row of node row i is read as it stood
-    let row_is : let at-loop : tie.At-loop invariant-loop decreases-loop = c in get_or at-loop.loop.shape (node_rows_at + 4 * at-loop.loop.i + 1) 0 ≡ (node_asker at-loop.args.shape.now at-loop.loop.i).row =
+    let row_is : get_or c.loop-i.shape (node_rows_at + 4 * c.loop-i.i + 1) 0 ≡ (node_asker c.args.shape.now c.loop-i.i).row =
         word_kept c.args.shape.now c.loop-i.shape (node_rows_at + 4 * c.loop-i.i + 1)
         (omega (arith, c.loop-i-test.true, c.requires.0)) c.loop-i.invariant.counted.kept in
     let row = c.wide16-row.ensures.0 ∙ row_is in (
@@ -33,7 +33,7 @@ add_sharer-requires c =
 pub loop-i-preserved : goal.loop-i-preserved
 loop-i-preserved c =
     -- the row of node row i is read as it stood
-    let row_is : let at-loop : tie.At-loop invariant-loop decreases-loop = c in get_or at-loop.loop.shape (node_rows_at + 4 * at-loop.loop.i + 1) 0 ≡ (node_asker at-loop.args.shape.now at-loop.loop.i).row =
+    let row_is : get_or c.loop-i.shape (node_rows_at + 4 * c.loop-i.i + 1) 0 ≡ (node_asker c.args.shape.now c.loop-i.i).row =
         word_kept c.args.shape.now c.loop-i.shape (node_rows_at + 4 * c.loop-i.i + 1)
         (omega (arith, c.loop-i-test.true, c.requires.0)) c.loop-i.invariant.counted.kept in
     let node = word_kept c.args.shape.now c.loop-i.shape (node_rows_at + 4 * c.loop-i.i)

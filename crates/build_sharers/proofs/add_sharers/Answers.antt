@@ -19,22 +19,22 @@ loop-i-init c = walked_none _ _ _
 
 pub overflow_mul-width : goal.overflow_mul-width
 overflow_mul-width c =
-    let entry-inside : let start : tie.Start invariant-loop decreases-loop = c in start.args.at + start.args.width * c.loop-i.i < makers_at = inside _ _ _ _ c.loop-i-test.true c.requires.2 c.requires.0 in
+    let entry-inside : c.args.at + c.args.width * c.loop-i.i < makers_at = inside _ _ _ _ c.loop-i-test.true c.requires.2 c.requires.0 in
     omega (arith, entry-inside)
 
 pub overflow_add-at : goal.overflow_add-at
 overflow_add-at c =
-    let entry-inside : let start : tie.Start invariant-loop decreases-loop = c in start.args.at + start.args.width * c.loop-i.i < makers_at = inside _ _ _ _ c.loop-i-test.true c.requires.2 c.requires.0 in
+    let entry-inside : c.args.at + c.args.width * c.loop-i.i < makers_at = inside _ _ _ _ c.loop-i-test.true c.requires.2 c.requires.0 in
     omega (arith, entry-inside)
 
 pub offset_bounds-shape-at : goal.offset_bounds-shape-at
 offset_bounds-shape-at c =
-    let entry-inside : let start : tie.Start invariant-loop decreases-loop = c in start.args.at + start.args.width * c.loop-i.i < makers_at = inside _ _ _ _ c.loop-i-test.true c.requires.2 c.requires.0 in
+    let entry-inside : c.args.at + c.args.width * c.loop-i.i < makers_at = inside _ _ _ _ c.loop-i-test.true c.requires.2 c.requires.0 in
     omega (arith, entry-inside)
 
 pub bounds-shape-at : goal.bounds-shape-at
 bounds-shape-at c =
-    let entry-inside : let start : tie.Start invariant-loop decreases-loop = c in start.args.at + start.args.width * c.loop-i.i < makers_at = inside _ _ _ _ c.loop-i-test.true c.requires.2 c.requires.0 in
+    let entry-inside : c.args.at + c.args.width * c.loop-i.i < makers_at = inside _ _ _ _ c.loop-i-test.true c.requires.2 c.requires.0 in
     omega (arith, entry-inside, c.requires.3, c.loop-i.invariant.long)
 
 pub narrow16-requires : goal.narrow16-requires
@@ -42,9 +42,9 @@ narrow16-requires c = omega (arith, c.loop-i-test.true, c.requires.1)
 
 pub add_sharer-requires : goal.add_sharer-requires
 add_sharer-requires c =
-    let entry-inside : let start : tie.Start invariant-loop decreases-loop = c in start.args.at + start.args.width * c.loop-i.i < makers_at = inside _ _ _ _ c.loop-i-test.true c.requires.2 c.requires.0 in
+    let entry-inside : c.args.at + c.args.width * c.loop-i.i < makers_at = inside _ _ _ _ c.loop-i-test.true c.requires.2 c.requires.0 in
     -- the row of entry i is read as it stood
-    let row_is : let at-loop : tie.At-loop invariant-loop decreases-loop = c in let start : tie.Start invariant-loop decreases-loop = at-loop in let p : ℕ = start.args.at + start.args.width * at-loop.loop.i in get_or at-loop.loop.shape p 0 ≡ get_or start.args.shape.now p 0 = word_kept c.args.shape.now c.loop-i.shape _ entry-inside c.loop-i.invariant.counted.kept in
+    let row_is : let p : ℕ = c.args.at + c.args.width * c.loop-i.i in get_or c.loop-i.shape p 0 ≡ get_or c.args.shape.now p 0 = word_kept c.args.shape.now c.loop-i.shape _ entry-inside c.loop-i.invariant.counted.kept in
     let row = c.wide16-row.ensures.0 ∙ row_is in (
       rw row (next_under _ _ _ c.requires.4 _ _ c.loop-i-test.true c.loop-i.invariant),
       omega (arith, c.requires.3, c.loop-i.invariant.long),
@@ -53,9 +53,9 @@ add_sharer-requires c =
 
 pub loop-i-preserved : goal.loop-i-preserved
 loop-i-preserved c =
-    let entry-inside : let start : tie.Start invariant-loop decreases-loop = c in start.args.at + start.args.width * c.loop-i.i < makers_at = inside _ _ _ _ c.loop-i-test.true c.requires.2 c.requires.0 in
+    let entry-inside : c.args.at + c.args.width * c.loop-i.i < makers_at = inside _ _ _ _ c.loop-i-test.true c.requires.2 c.requires.0 in
     -- the row of entry i is read as it stood
-    let row_is : let at-loop : tie.At-loop invariant-loop decreases-loop = c in let start : tie.Start invariant-loop decreases-loop = at-loop in let p : ℕ = start.args.at + start.args.width * at-loop.loop.i in get_or at-loop.loop.shape p 0 ≡ get_or start.args.shape.now p 0 = word_kept c.args.shape.now c.loop-i.shape _ entry-inside c.loop-i.invariant.counted.kept in
+    let row_is : let p : ℕ = c.args.at + c.args.width * c.loop-i.i in get_or c.loop-i.shape p 0 ≡ get_or c.args.shape.now p 0 = word_kept c.args.shape.now c.loop-i.shape _ entry-inside c.loop-i.invariant.counted.kept in
     walked_more _ _ _ c.requires.4 _ _ c.loop-i-test.true c.loop-i.invariant c.requires.3 _
     (λ j. record { kind = c.args.kind; index = c.narrow16.ensures j; row = (c.wide16-row.ensures.0 ∙ row_is) j }) _
     c.add_sharer.ensures

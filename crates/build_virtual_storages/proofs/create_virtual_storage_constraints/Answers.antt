@@ -49,9 +49,7 @@ active_period-period-requires c =
     fields_within _ _ _ (virtual_storage_check _ c.args.c c.requires.0.sections _ _ lt l.invariant.1)
 
 pub slice_bounds-put_virtual_storage-count : goal.slice_bounds-put_virtual_storage-count
-slice_bounds-put_virtual_storage-count c =
-    let call = c.add_virtual_storage_row-r in
-    omega (arith, call.kept.1.1.1.1.1.1.1.1.1.0, c.loop-i.invariant.3, c.requires.1.words_room)
+slice_bounds-put_virtual_storage-count c = omega (arith, c.add_virtual_storage_row-r.auto.words, c.loop-i.invariant.3, c.requires.1.words_room)
 
 pub narrow16-requires : goal.narrow16-requires
 narrow16-requires c =
@@ -63,14 +61,12 @@ narrow16-requires c =
 
 pub put_virtual_storage-requires : goal.put_virtual_storage-requires
 put_virtual_storage-requires c =
-    let l = c.loop-i in
     let lt = c.loop-i-test.true in
-    let call = c.add_virtual_storage_row-r in
     omega (
       arith,
-      tail_length shape_made_at call.last.1.1.1.1.1.1.1.1.1.0,
-      call.kept.1.1.1.1.1.1.1.1.1.0,
-      l.invariant.3,
+      tail_length shape_made_at c.add_virtual_storage_row-r.new.words,
+      c.add_virtual_storage_row-r.auto.words,
+      c.loop-i.invariant.3,
       c.requires.1.words_room,
       c.requires.0.sections.few_virtual_storages_lem,
       lt,
@@ -93,22 +89,21 @@ loop-i-smaller c = omega (arith, c.loop-i-test.true)
 
 pub loop-i-preserved : goal.loop-i-preserved
 loop-i-preserved c =
-    let l = c.loop-i in
     let lt = c.loop-i-test.true in
-    let call = c.add_virtual_storage_row-r in (
+    (
       (λ rows held.
-          let a = l.invariant.0 rows held in
-          asked_more _ _ _ _ _ _ _ (omega arith) _ _ _ _ _ _ _ _ (asked_under _ c.args.c c.requires.0.sections _ _ lt l.invariant.1)
-          (asked_row _ c.args.c c.requires.0.sections _ _ lt l.invariant.1) a (call.ensures _ a.held) _ _ c.in-At.is
-          (virtual_storages_at + 6 * l.i) _ _ (omega arith) (virtual_storage_wide _)
-          (omega (arith, call.kept.1.1.1.1.1.1.1.1.1.0, l.invariant.3, c.requires.1.words_room, c.requires.0.sections.few_virtual_storages_lem, lt))
-          (table_more _ c.args.c c.requires.0.sections _ _ lt l.invariant.1 _)
+          let a = c.loop-i.invariant.0 rows held in
+          asked_more _ _ _ _ _ _ _ (omega arith) _ _ _ _ _ _ _ _ (asked_under _ c.args.c c.requires.0.sections _ _ lt c.loop-i.invariant.1)
+          (asked_row _ c.args.c c.requires.0.sections _ _ lt c.loop-i.invariant.1) a (c.add_virtual_storage_row-r.ensures _ a.held) _ _ c.in-At.is
+          (virtual_storages_at + 6 * c.loop-i.i) _ _ (omega arith) (virtual_storage_wide _)
+          (omega (arith, c.add_virtual_storage_row-r.auto.words, c.loop-i.invariant.3, c.requires.1.words_room, c.requires.0.sections.few_virtual_storages_lem, lt))
+          (table_more _ c.args.c c.requires.0.sections _ _ lt c.loop-i.invariant.1 _)
           (entry_same _ _ _ _ _ _ _ c.put_virtual_storage.ensures c.narrow16.ensures c.active_period-period.ensures)),
-      virtual_storage_next _ c.args.c c.requires.0.sections _ _ lt l.invariant.1 _ c.virtual_storage_end-at.ensures,
+      virtual_storage_next _ c.args.c c.requires.0.sections _ _ lt c.loop-i.invariant.1 _ c.virtual_storage_end-at.ensures,
       omega arith,
-      tail_kept shape_made_at call.last.1.1.1.1.1.1.1.1.1.0 c.put_virtual_storage.new.shape
-          c.put_virtual_storage.auto.shape ∙ call.kept.1.1.1.1.1.1.1.1.1.0 ∙ l.invariant.3,
-      call.kept.1.1.1.1.1.1.1.1.1.1.0 ∙ l.invariant.4,
+      tail_kept shape_made_at c.add_virtual_storage_row-r.new.words c.put_virtual_storage.new.shape
+          c.put_virtual_storage.auto.shape ∙ c.add_virtual_storage_row-r.auto.words ∙ c.loop-i.invariant.3,
+      c.add_virtual_storage_row-r.auto.numbers ∙ c.loop-i.invariant.4,
     )
 
 pub shape_of-words : goal.shape_of-words
