@@ -2,7 +2,7 @@
 use Prim.Native.Nat.{ℕ, suc, ◌+◌, ◌*◌, ◌<◌, ◌≤◌}
 use mathlib.Core.Path.{◌≡◌, refl, sym, ◌∙◌, subst}
 use mathlib.Core.Logic.{◌⊎◌, inl, inr}
-use mathlib.Core.List.{List, ◌++◌}
+use mathlib.Core.List.{List, ◌∷◌, ◌++◌}
 use mathlib.Core.Bool.{Bool, true, false}
 use native.Mathlib.Omega.{arith}
 use native.Mathlib.Numerals.{add-one}
@@ -59,7 +59,9 @@ module _ (first next : List ℕ) where
     unfolding keep_if
     put n l true e =
         let q : m ≡ n = eqb-true m n e in
-        rw (stored n e, q) (linked_put 2048 next j (get_or first n 0) (of n) small (omega (arith, h.long_next)) (later n l) (h.linked n l))
+        rw (stored n e)
+        (subst (λ (x : ℕ). Linked 2048 (set next j (get_or first x 0)) (suc j) (j ∷ of n)) (sym q)
+        (linked_put 2048 next j (get_or first n 0) (of n) small (omega (arith, h.long_next)) (later n l) (h.linked n l)))
     put n l false e = rw (kept n e) (linked_store 2048 next j (get_or first m 0) (get_or first n 0) (of n) (later n l) (h.linked n l))
 
     over : (n : ℕ) → n < 256 → (b : Bool) → eqb m n ≡ b → (get_or (set first m (j + 1)) n 0 ≡ 0) ⊎ (j < get_or (set first m (j + 1)) n 0)
