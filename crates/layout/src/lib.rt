@@ -1,5 +1,6 @@
 // The layout of the store and of the work areas: ceilings, lengths of runs, and where each thing stands in a run. A number that follows from others is
 // computed from them. specs/Layout.antt has the same numbers for contracts and definitions.
+#![tactic(auto)]
 
 // At most so many of each. Edges have at most as many columns as there are edges; the node rows of a node are one, or two for each of its memberships.
 pub const NODE_CEILING: usize = 256;

@@ -11,7 +11,6 @@ use lib.Dec.{T, leb, le→leb, leb→le, nleb→lt, lit≤, lit<}
 use lib.Ieee.{Float, nan, inf, fin, binary64, fits, is_nan, lt, le, eq, round, neg, of_bits}
 use lib.Ieee.Order.{round_mono}
 use lib.Ieee.Fits.{and_i, and_l, and_r, neg-fits}
-use lib.Ieee.Scale.{finite}
 use Rattle.laws.proofs.Tests.{tests, or_r, or_elim, by_cases}
 use Rattle.doubles.specs.Units.{mag, signed as with-sign, rank}
 use Rattle.doubles.specs.Rounding.{Rounds}

@@ -3,7 +3,7 @@ use Rattle.std.specs.Prelude.{ℕ, ◌+◌, ◌*◌, List, Float}
 use Rattle.layout.specs.Layout.{virtual_storages_at, virtual_storage_width, nodes_in, aggregates_in}
 use Rattle.pywr.specs.declared.Interval.{Interval}
 use Rattle.pywr.specs.declared.Sentinel.{Sentinel}
-use Rattle.step_file.specs.Decoded.{virtual_storage_steps_at, virtual_storage_step_place}
+use Rattle.step_file.specs.Decoded.{virtual_storage_step_place}
 use Rattle.step_virtual_interval.specs.VirtualInterval.{virtual_interval_at}
 
 unfoldable pub virtual_storage_numbered : Sentinel → Float → List ℕ → List ℕ → ℕ → Interval

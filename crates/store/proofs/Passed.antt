@@ -1,12 +1,11 @@
 -- What a store has whose lengths, counts and shape passed their tests. Assumes nothing.
 use mathlib.Core.Path.{◌≡◌, refl, sym, ◌∙◌}
 use Prim.Native.Nat.{ℕ, ◌+◌, ◌≤◌}
-use mathlib.Core.Bool.{Bool, true, false, not, ◌&&◌}
+use mathlib.Core.Bool.{Bool, true, ◌&&◌}
 use mathlib.Core.List.{List, []}
 use lib.ListN.{length, get_or}
 use lib.Dec.{leb, eqb, leb→le}
 use lib.Ieee.Fits.{and_l, and_r}
-use borrow.Author.Tests.{not-false}
 use Rattle.layout.specs.Layout.{flow_order_at, makers_at, node_row_ceiling, row_starts_length, shape_length}
 use Rattle.laws.proofs.Tests.{of_true, to_true}
 use Rattle.pywr.specs.Store.{Store, store_has_room, sentinel_code, node_count, edge_count, edge_column_count, set_count, row_count, elements_kept}
@@ -72,12 +71,12 @@ counted s q =
 
 -- ---- the tests of `well_shaped` that the later ones build on
 
-pub counts_passed : {shape : List ℕ} (r b : Bool) → ((s : Store) → s.shape ≡ shape → r ≡ counts_fit s) → not (r && b) ≡ false → Counted (of_shape shape)
-counts_passed {shape} r b e q = counted (of_shape shape) (sym (e (of_shape shape) refl) ∙ to_true r (and_l r b (of_true (r && b) (not-false (r && b) q))))
+pub counts_passed : {shape : List ℕ} (r b : Bool) → ((s : Store) → s.shape ≡ shape → r ≡ counts_fit s) → (r && b) ≡ true → Counted (of_shape shape)
+counts_passed {shape} r b e q = counted (of_shape shape) (sym (e (of_shape shape) refl) ∙ to_true r (and_l r b (of_true (r && b) q)))
 
-pub starts_passed : {row_starts shape : List ℕ} (r : Bool) → ((s : Store) → s.row_starts ≡ row_starts → s.shape ≡ shape → r ≡ (eqb (start_of s 0) 0 && starts_rise s 0 (row_count s))) → not r ≡ false
+pub starts_passed : {row_starts shape : List ℕ} (r : Bool) → ((s : Store) → s.row_starts ≡ row_starts → s.shape ≡ shape → r ≡ (eqb (start_of s 0) 0 && starts_rise s 0 (row_count s))) → r ≡ true
     → StartsRise row_starts (get_or shape 5 0 + get_or shape 6 0) (get_or shape 7 0)
-starts_passed {row_starts} {shape} r e q = let s = of_runs [] row_starts shape in starts_told s (row_count s) (sym (e s refl refl) ∙ not-false r q)
+starts_passed {row_starts} {shape} r e q = let s = of_runs [] row_starts shape in starts_told s (row_count s) (sym (e s refl refl) ∙ q)
 
 pub rows_within : {columns row_starts shape : List ℕ} → (4096 ≤ length columns) × (row_starts_length ≤ length row_starts) × (shape_length ≤ length shape) → Counted (of_shape shape)
     → StartsRise row_starts (get_or shape 5 0 + get_or shape 6 0) (get_or shape 7 0) → RowsWithin columns row_starts shape

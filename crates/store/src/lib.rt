@@ -1,4 +1,6 @@
 // A lent store: whether it has room (16), whether it is well shaped (17), and the columns of one of its rows (18).
+#![tactic(auto)]
+
 ghost use Rattle.std.specs.Prelude.{◌≡◌, ◌≤◌, length};
 ghost use Rattle.layout.specs.Layout.{element_ceiling, row_starts_length, shape_length};
 ghost use Rattle.pywr.specs.Store.{Store, store_has_room};

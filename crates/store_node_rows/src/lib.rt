@@ -1,4 +1,6 @@
 // The node rows of a store: the part of refusal 17 on the node-row table, with "an integer column absent from its row".
+#![tactic(auto)]
+
 ghost use Rattle.std.specs.Prelude.{◌≡◌, ◌+◌, ◌≤◌, length};
 ghost use Rattle.std.proofs.Math.Seq.{slice};
 ghost use Rattle.layout.specs.Layout.{node_row_ceiling, shape_length, node_rows_at, node_row_width, node_rows_in};

@@ -1,4 +1,6 @@
 // The rows of a store: the parts of refusal 17 on row starts and columns.
+#![tactic(auto)]
+
 ghost use Rattle.std.specs.Prelude.{◌≡◌, ◌&&◌, ℕ, ◌+◌, ◌≤◌, ◌<◌, length, get_or, eqb};
 ghost use Rattle.layout.specs.Layout.{row_ceiling, element_ceiling, row_starts_length, shape_length, varying_in, fixed_in};
 ghost use Rattle.pywr.specs.Store.{Store, row_count, start_of};

@@ -1,4 +1,6 @@
 // The shape run of a store: its words, and the parts of refusal 17 that read no other run.
+#![tactic(auto)]
+
 ghost use Rattle.std.specs.Prelude.{◌≡◌, ℕ, ◌+◌, ◌≤◌, ◌<◌, [], ◌∷◌, length, get_or, ltb};
 ghost use Rattle.layout.specs.Layout.{node_ceiling, edge_ceiling, aggregate_ceiling, virtual_storage_ceiling, row_ceiling, shape_length};
 ghost use Rattle.layout.specs.Layout.{nodes_at, edges_at, aggregates_at, virtual_storages_at, makers_at, node_width, edge_width, aggregate_width, virtual_storage_width, maker_width};

@@ -3,8 +3,6 @@ use mathlib.Core.Path.{◌≡◌, sym, ap, ◌∙◌, subst}
 use Prim.Native.Nat.{ℕ, ◌<◌, ◌≤◌}
 use native.Mathlib.Nat.{le_antisymm}
 use mathlib.Core.List.{List}
-use mathlib.Core.Option.{some}
-use lib.ListN.{length, get_elem?}
 use lib.Dec.{T, eqb}
 use Rattle.laws.proofs.Pigeonhole.{pigeonhole}
 use Rattle.pywr.specs.Network.{link, Node, Network, kind_of, source, target, incoming, outgoing}

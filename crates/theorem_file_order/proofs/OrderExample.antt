@@ -7,7 +7,6 @@ use native.Mathlib.Omega.{arith}
 use mathlib.Core.Bool.{false}
 use mathlib.Core.List.Memᴰ
 use mathlib.Core.List.{List, [], ◌∷◌, ◌++◌, Memᴰ}
-use lib.ListN.{length}
 use Rattle.pywr.specs.Result.{value}
 use Rattle.pywr.specs.Numbers.{zero64}
 use Rattle.pywr.specs.Network.{input, output, link, Node, Edge, Network}

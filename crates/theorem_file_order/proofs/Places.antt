@@ -7,7 +7,7 @@ use mathlib.Core.List.Memᴰ
 use mathlib.Core.List.{List, [], ◌∷◌, Memᴰ}
 use mathlib.Core.Option.{Option, none, some}
 use lib.ListN.{length, get_elem?}
-use Rattle.pywr.specs.Network.{Edge, Network, source, target, edges_with, incoming, outgoing}
+use Rattle.pywr.specs.Network.{Edge, Network, edges_with}
 use Rattle.pywr.proofs.LinkLaws.{ends_sound, ends_complete, rising}
 use Rattle.pywr.proofs.ListLaws.{found_mem, mem_found, below_found, found_below, not_found}
 use Rattle.pywr.proofs.ReadLaws.{Unrepeated}

@@ -2,11 +2,9 @@
 -- Assumes nothing.
 use mathlib.Core.Path.{◌≡◌, refl, sym, ap, ap₂, ◌∙◌, subst}
 use Prim.Native.Nat.{ℕ, suc, ◌+◌}
-use native.Mathlib.Omega.{arith}
 use mathlib.Core.Bool.{Bool, true, false}
 use mathlib.Core.List.{List, [], ◌++◌, map}
 use lib.ListN.{length}
-use lib.Ieee.{Float}
 use Rattle.pywr.specs.declared.Sentinel.{Sentinel}
 use Rattle.pywr.specs.Result.{value, ◌>>=◌, need}
 use Rattle.pywr.specs.Answers.{answer_of}
@@ -20,7 +18,6 @@ use Rattle.pywr.specs.Programme.{Row, Shape, Maker, Built}
 use Rattle.pywr.specs.VaryingRows.{requests_from, fresh_row}
 use Rattle.pywr.specs.Makers.{Asker, askers, varying_makers, fixed_makers}
 use Rattle.pywr.specs.Build.{all_columns, placed_node_rows, placed_virtual_storages, requested_row, assemble, programme_of, element_count, under_ceilings, build}
-use Rattle.pywr.specs.Store.{Store}
 use Rattle.pywr.specs.Calls.{build_room, build_answer}
 use Rattle.pywr.proofs.ReadLaws.{Sound, read_sound}
 use Rattle.theorem_file_order.specs.ProgrammeOrder.{SameNetwork, RowsRenumbered, no_rows, and_row, SameProgramme, ProgrammeOrder, AnswerOrder}
@@ -155,7 +152,7 @@ module _ (s : Sentinel) (a b : Network) (same : SameNetwork a b) (sa : Sound a) 
       }
 
 pub programme_order : ProgrammeOrder
-programme_order first second a b read_a read-b same s = same_programme s a b same (read_sound first a read_a) (read_sound second b read-b)
+programme_order first second a b read_a read_b same s = same_programme s a b same (read_sound first a read_a) (read_sound second b read_b)
 
 -- ---- the same answer
 
@@ -179,19 +176,19 @@ unfolding need answer_of
 needed true number place x y = refl
 needed false number place x y = refl
 
-module _ (first second : List ℕ) (a b : Network) (read_a : parse_network first ≡ value a) (read-b : parse_network second ≡ value b)
+module _ (first second : List ℕ) (a b : Network) (read_a : parse_network first ≡ value a) (read_b : parse_network second ≡ value b)
     (same : SameNetwork a b) (s : Sentinel) where
   build_alike : answer_of (build s first) ≡ answer_of (build s second)
   unfolding build ◌>>=◌
   build_alike =
-      rw (read_a, read-b)
-      (ap (λ (t : Bool). answer_of (need t 11 0 (programme_of s a))) (ceilings_alike s a b same (programme_order first second a b read_a read-b same s))
+      rw (read_a, read_b)
+      (ap (λ (t : Bool). answer_of (need t 11 0 (programme_of s a))) (ceilings_alike s a b same (programme_order first second a b read_a read_b same s))
       ∙ needed (under_ceilings (column_map b) (programme_of s b).programme) 11 0 (programme_of s a) (programme_of s b))
 
 pub answer_order : AnswerOrder
 unfolding build_answer need ◌>>=◌ answer_of
-answer_order first second a b read_a read-b same s store words numbers = go (build_room store words numbers)
+answer_order first second a b read_a read_b same s store words numbers = go (build_room store words numbers)
   where
     go : (room : Bool) → answer_of (need room 16 0 store >>= λ old. build s first) ≡ answer_of (need room 16 0 store >>= λ old. build s second)
-    go true = build_alike first second a b read_a read-b same s
+    go true = build_alike first second a b read_a read_b same s
     go false = refl

@@ -1,15 +1,10 @@
 -- File order: networks with the same nodes and edges have the same columns but for the numbers, and mass rows at the same links. Assumes nothing.
 use mathlib.Core.Path.{◌≡◌, refl, sym, ap, ◌∙◌}
-use Prim.Native.Nat.{ℕ, suc}
-use mathlib.Core.Bool.{cond, not, ◌&&◌}
-use mathlib.Core.List.{List, [], ◌∷◌, ◌++◌}
 use lib.ListN.{length}
-use lib.Dec.{eqb}
-use Rattle.pywr.specs.Numbers.{zero64}
-use Rattle.pywr.specs.Network.{link, Node, Network}
+use Rattle.pywr.specs.Network.{Network}
 use Rattle.pywr.specs.ColEdgeMap.{mapped_edges}
-use Rattle.pywr.specs.Rows.{ColumnMap, column_map, mass_row}
-use Rattle.pywr.specs.Programme.{Row, by_mass}
+use Rattle.pywr.specs.Rows.{column_map, mass_row}
+use Rattle.pywr.specs.Programme.{by_mass}
 use Rattle.pywr.specs.FixedRows.{mass_rows_from}
 use Rattle.pywr.specs.Makers.{mass_makers}
 use Rattle.pywr.proofs.MakerLaws.{masses_in_turn, in_turn_length}
@@ -47,4 +42,4 @@ same_columns a b same sa sb =
     }
 
 pub file_order : FileOrder
-file_order first second a b read_a read-b same = same_columns a b same (read_sound first a read_a) (read_sound second b read-b)
+file_order first second a b read_a read_b same = same_columns a b same (read_sound first a read_a) (read_sound second b read_b)

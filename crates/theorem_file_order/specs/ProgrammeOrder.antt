@@ -8,7 +8,7 @@ use Rattle.pywr.specs.Network.{Network}
 use Rattle.pywr.specs.NetworkFile.{parse_network}
 use Rattle.pywr.specs.ColEdgeMap.{columns, column_of}
 use Rattle.pywr.specs.Rows.{Element}
-use Rattle.pywr.specs.Programme.{Row, Programme, Built}
+use Rattle.pywr.specs.Programme.{Row}
 use Rattle.pywr.specs.Build.{programme_of}
 use Rattle.pywr.specs.Store.{Store}
 use Rattle.pywr.specs.Calls.{build_answer}

@@ -17,7 +17,7 @@ use Rattle.pywr.specs.declared.Sentinel.{Sentinel}
 use Rattle.pywr.specs.Result.{value}
 use Rattle.pywr.specs.Network.{Network}
 use Rattle.pywr.specs.NetworkFile.{parse_network}
-use Rattle.pywr.specs.Rows.{Element, element, column_map}
+use Rattle.pywr.specs.Rows.{Element, element}
 use Rattle.pywr.specs.VariableRows.{same_row}
 use Rattle.pywr.specs.Programme.{Column, Row, Programme, Shape, Built}
 use Rattle.pywr.specs.Build.{assemble, programme_of, build}
@@ -38,7 +38,7 @@ use Rattle.pywr.proofs.ReadLaws.{Sound, read_sound}
 use Rattle.pywr.proofs.StepReadLaws.{step_sound, shape_periods_length, intervals_sound}
 use Rattle.pywr.proofs.DemandThree.{accepted_value, build_accepted, build_represents}
 use Rattle.pywr.proofs.KeptBinaryRows.{Left, left_of_built}
-use Rattle.theorem_numbers.specs.ProgrammeNumbers.{is_number, column_without_na_n, element_without_na_n, row_without_na_n, without_na_n, NoNaN, element_finite}
+use Rattle.theorem_numbers.specs.ProgrammeNumbers.{is_number, column_without_nan, element_without_nan, row_without_nan, without_nan, NoNaN, element_finite}
 use Rattle.theorem_numbers.specs.ProgrammeNumbers.{row_elements_finite, elements_finite, FiniteElements, is_minus_zero, row_without_minus_zero, without_minus_zero, NoMinusZero, asked_rows, EqualBits}
 use Rattle.pywr.proofs.FlowLaws.{flow_length}
 use Rattle.theorem_numbers.proofs.SumBounds.{plain_bits}
@@ -67,31 +67,31 @@ is_number_lem nan b = b.1
 is_number_lem (inf s) b = tt
 is_number_lem (fin s m e) b = tt
 
-column_without : (c : Column) → ColumnOk c → T (column_without_na_n c)
-unfolding column_without_na_n
+column_without : (c : Column) → ColumnOk c → T (column_without_nan c)
+unfolding column_without_nan
 column_without c ok =
     and_i (is_number c.lower && is_number c.upper) (is_number c.cost)
     (and_i (is_number c.lower) (is_number c.upper) (is_number_lem c.lower ok.lower) (is_number_lem c.upper ok.upper)) (is_number_lem c.cost ok.cost)
 
-element_without : (e : Element) → FiniteFit e.value → T (element_without_na_n e)
-unfolding element_without_na_n
+element_without : (e : Element) → FiniteFit e.value → T (element_without_nan e)
+unfolding element_without_nan
 element_without e u = is_number_lem e.value (u.fit, finite_number e.value u.finite)
 
-row_without : (r : Row) → RowOk FiniteFit r → T (row_without_na_n r)
-unfolding row_without_na_n
+row_without : (r : Row) → RowOk FiniteFit r → T (row_without_nan r)
+unfolding row_without_nan
 row_without r ok =
-    and_i (is_number r.lower && is_number r.upper) (all_from (λ (i : ℕ) (e : Element). element_without_na_n e) 0 r.elements)
+    and_i (is_number r.lower && is_number r.upper) (all_from (λ (i : ℕ) (e : Element). element_without_nan e) 0 r.elements)
     (and_i (is_number r.lower) (is_number r.upper) (is_number_lem r.lower ok.lower) (is_number_lem r.upper ok.upper))
-    (all_pass (λ (e : Element). FiniteFit e.value) element_without_na_n element_without r.elements 0 ok.elements)
+    (all_pass (λ (e : Element). FiniteFit e.value) element_without_nan element_without r.elements 0 ok.elements)
 
-nan_pass : (p : Programme) → ProgrammeOk FiniteFit p → T (without_na_n p)
-unfolding without_na_n
+nan_pass : (p : Programme) → ProgrammeOk FiniteFit p → T (without_nan p)
+unfolding without_nan
 nan_pass p ok =
-    let cols : Bool = all_from (λ (i : ℕ) (c : Column). column_without_na_n c) 0 p.columns in
-    let vary : Bool = all_from (λ (i : ℕ) (r : Row). row_without_na_n r) 0 p.varying in
-    let fix : Bool = all_from (λ (i : ℕ) (r : Row). row_without_na_n r) 0 p.fixed in
-    let rows : T (vary && fix) = rows_pass FiniteFit row_without_na_n row_without p ok in
-    and_i (cols && vary) fix (and_i cols vary (all_pass ColumnOk column_without_na_n column_without p.columns 0 ok.columns) (and_l vary fix rows)) (and_r vary fix rows)
+    let cols : Bool = all_from (λ (i : ℕ) (c : Column). column_without_nan c) 0 p.columns in
+    let vary : Bool = all_from (λ (i : ℕ) (r : Row). row_without_nan r) 0 p.varying in
+    let fix : Bool = all_from (λ (i : ℕ) (r : Row). row_without_nan r) 0 p.fixed in
+    let rows : T (vary && fix) = rows_pass FiniteFit row_without_nan row_without p ok in
+    and_i (cols && vary) fix (and_i cols vary (all_pass ColumnOk column_without_nan column_without p.columns 0 ok.columns) (and_l vary fix rows)) (and_r vary fix rows)
 
 element_finite_lem : (e : Element) → FiniteFit e.value → T (element_finite e)
 unfolding element_finite
@@ -221,7 +221,7 @@ module _ (network_file : List ℕ) (s : Sentinel) (old : Store) (words : List �
 pub no_nan : NoNaN
 no_nan network_file s old words numbers accepted calls =
     let p : Programme = programme_in (store_after (build_store s network_file old words numbers) calls) in
-    to_true (without_na_n p) (nan_pass p (after_steps network_file s old words numbers accepted calls))
+    to_true (without_nan p) (nan_pass p (after_steps network_file s old words numbers accepted calls))
 
 pub finite_elements : FiniteElements
 finite_elements network_file s old words numbers accepted calls =

@@ -13,7 +13,7 @@ use Rattle.pywr.specs.Network.{Part, VirtualStorage, Network}
 use Rattle.pywr.specs.NetworkFile.{Read, ND, ED, AG, VS, read_parts, read_virtual_storage, Mark, with_node, with_edge}
 use Rattle.pywr.specs.NetworkFile.{with_aggregate, with_virtual_storage, read_body, Reading, read_record, read_records, check_network, parse_network}
 use Rattle.pywr.specs.Programme.{NodeShape}
-use Rattle.pywr.specs.StepFile.{NodeStep, StepFile, read_node_step, read_node_steps, read_step}
+use Rattle.pywr.specs.StepFile.{NodeStep, StepFile, read_step}
 use Rattle.pywr.proofs.RunLaws.{bind_then, bind_value, need_value}
 use Rattle.pywr.proofs.ListLaws.{AllMem, all_none, all_snoc}
 use Rattle.pywr.proofs.ReadLaws.{same_value, checked_value}

@@ -5,27 +5,23 @@ use Prim.Native.Nat.{ℕ, zero, suc, ◌+◌, ◌-◌, ◌*◌, ◌^◌, ◌≤�
 use native.Mathlib.Nat.{le_trans, le_of_eq, lt_of_le_of_lt, add-le-add, add-mul, mul-le-mul_right}
 use native.Mathlib.Omega.{arith}
 use mathlib.Core.Bool.{Bool, true, false, not, ◌&&◌, cond}
-use lib.IntN.{ℤ, pos, neg_ℤ}
 use lib.Dec.{T, T_not, not_T, ltb, eqb, eqb→eq, lit<, lit≤}
 use lib.Pow.{pow_pos}
-use lib.Signed.{le_z}
-use lib.Ieee.{Float, binary64, fits, add, div, neg, le, of_bits, to_bits, low}
+use lib.Ieee.{Float, binary64, fits, add, div, neg, of_bits, to_bits, low}
 use lib.Ieee.Bits.{of_bits-to_bits}
 use lib.Ieee.Fits.{add-fits, and_l, and_r, div-fits, neg-fits}
 use lib.Ieee.Scale.{finite, overflow}
 use Rattle.laws.proofs.Tests.{tests}
-use Rattle.doubles.specs.Units.{sign, mag, signed, Num, rank, not_minus_zero}
+use Rattle.doubles.specs.Units.{sign, mag, not_minus_zero}
 use Rattle.doubles.specs.Rounding.{snap, Representable, add_sign, add_mag}
 use Rattle.doubles.specs.Costs.{two}
-use Rattle.doubles.proofs.Integers.{ints, neg_plus, neg_less}
-use Rattle.doubles.proofs.Units.{neg_mag, neg_finite, neg_rank, finite_number}
-use Rattle.doubles.proofs.Order.{neg_num, le→Z}
+use Rattle.doubles.proofs.Units.{neg_mag, neg_finite}
 use Rattle.doubles.proofs.Rounding.{round_sign, snap_is, snap_mono, round_held, add_is, add_mag_le}
 use Rattle.doubles.proofs.Sums.{zero_mag, zero_grain}
 use Rattle.doubles.proofs.Monotone.{add_num}
 use Rattle.doubles.proofs.Errors.{under_finite}
 use Rattle.doubles.proofs.Halves.{half_near}
-use Rattle.pywr.specs.Numbers.{zero64, one64, two64, trillion, is_flow, is_small, of_pattern}
+use Rattle.pywr.specs.Numbers.{zero64, one64, two64, is_small, of_pattern}
 use Rattle.pywr.proofs.NumberLaws.{FiniteFit}
 use Rattle.pywr.proofs.CostReadLaws.{UpTo, most, small_cost_lem}
 use Rattle.theorem_numbers.specs.ProgrammeNumbers.{minus_zero_bits, is_minus_zero}

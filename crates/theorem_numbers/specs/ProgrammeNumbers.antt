@@ -30,21 +30,21 @@ is_minus_zero x = eqb (to_bits binary64 x) minus_zero_bits
 
 -- ---- no NaN
 
-unfoldable pub column_without_na_n : Column → Bool
-column_without_na_n c = is_number c.lower && is_number c.upper && is_number c.cost
+unfoldable pub column_without_nan : Column → Bool
+column_without_nan c = is_number c.lower && is_number c.upper && is_number c.cost
 
-unfoldable pub element_without_na_n : Element → Bool
-element_without_na_n e = is_number e.value
+unfoldable pub element_without_nan : Element → Bool
+element_without_nan e = is_number e.value
 
-unfoldable pub row_without_na_n : Row → Bool
-row_without_na_n r = is_number r.lower && is_number r.upper && all_from (λ (i : ℕ) (e : Element). element_without_na_n e) 0 r.elements
+unfoldable pub row_without_nan : Row → Bool
+row_without_nan r = is_number r.lower && is_number r.upper && all_from (λ (i : ℕ) (e : Element). element_without_nan e) 0 r.elements
 
 -- every column's bounds and cost, every row's bounds and every element
-unfoldable pub without_na_n : Programme → Bool
-without_na_n p =
-    all_from (λ (i : ℕ) (c : Column). column_without_na_n c) 0 p.columns
-    && all_from (λ (i : ℕ) (r : Row). row_without_na_n r) 0 p.varying
-    && all_from (λ (i : ℕ) (r : Row). row_without_na_n r) 0 p.fixed
+unfoldable pub without_nan : Programme → Bool
+without_nan p =
+    all_from (λ (i : ℕ) (c : Column). column_without_nan c) 0 p.columns
+    && all_from (λ (i : ℕ) (r : Row). row_without_nan r) 0 p.varying
+    && all_from (λ (i : ℕ) (r : Row). row_without_nan r) 0 p.fixed
 
 -- "no bound, cost or element of a programme is NaN after an accepted build and any list of steps": refused steps are in, and so is the empty list.
 -- The store handed to the build, the work areas and the step files may hold anything, and nothing is asked of the network
@@ -53,7 +53,7 @@ NoNaN =
     (network_file : List ℕ) (s : Sentinel) (old : Store) (words : List ℕ) (numbers : List Float)
     → is_accepted (build_answer s network_file old words numbers) ≡ true
     → (calls : List Call)
-    → without_na_n (programme_in (store_after (build_store s network_file old words numbers) calls)) ≡ true
+    → without_nan (programme_in (store_after (build_store s network_file old words numbers) calls)) ≡ true
 
 -- ---- finite elements
 

@@ -1,6 +1,5 @@
 -- `runs::copy_f64` meets its contract. The loop's invariant: the first i elements of the part are written.
 use lib.Ieee.{nan}
-use Prim.Native.Nat.{◌-◌}
 use Rattle.laws.proofs.Sets.{length_part}
 use Rattle.laws.proofs.Sets.{part_at}
 use Rattle.runs.proofs.Copied.{none, more, all}

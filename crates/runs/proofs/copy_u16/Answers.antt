@@ -1,5 +1,4 @@
 -- `runs::copy_u16` meets its contract. The loop's invariant: the first i elements of the part are written.
-use Prim.Native.Nat.{◌-◌}
 use Rattle.laws.proofs.Sets.{length_part}
 use Rattle.laws.proofs.Sets.{part_at}
 use Rattle.runs.proofs.Copied.{none, more, all}

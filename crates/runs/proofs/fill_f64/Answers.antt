@@ -1,6 +1,5 @@
 -- `runs::fill_f64` meets its contract. The loop's invariant: the first i places are stored.
 use lib.Ieee.{nan}
-use Prim.Native.Nat.{◌-◌}
 use lib.ListN.{length-replicate, get_or-replicate}
 use Rattle.runs.proofs.Copied.{none, more, all}
 use Rattle.runs.proofs.fill_f64.Goals as goal

@@ -1,5 +1,4 @@
 -- `runs::fill_u16` meets its contract. The loop's invariant: the first i places are stored.
-use Prim.Native.Nat.{◌-◌}
 use lib.ListN.{length-replicate, get_or-replicate}
 use Rattle.runs.proofs.Copied.{none, more, all}
 use Rattle.runs.proofs.fill_u16.Goals as goal

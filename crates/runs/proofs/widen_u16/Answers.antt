@@ -1,6 +1,5 @@
 -- `runs::widen_u16` meets its contract. The loop's invariant: the first i elements of the part are written.
 use mathlib.Core.Path.{sym, ◌∙◌}
-use Prim.Native.Nat.{◌-◌}
 use Rattle.laws.proofs.Sets.{length_part}
 use Rattle.laws.proofs.Sets.{part_at}
 use Rattle.runs.proofs.Copied.{none, more, all}

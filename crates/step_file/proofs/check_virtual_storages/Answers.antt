@@ -1,0 +1,28 @@
+-- `check_virtual_storages` meets its contract. The loop's invariant: the check of all is that of those that are left.
+use mathlib.Core.Path.{sym, ◌∙◌}
+use native.Mathlib.Nat.{sub-zero}
+use Rattle.step_record.specs.Check.{check_virtual_storage_step}
+use Rattle.step_file.proofs.LoopLaws.{records_refused, records_more, records_done}
+use borrow.Author.Rules.{rules}
+use Rattle.step_file.proofs.check_virtual_storages.Goals as goal
+
+pub loop-i-init : goal.loop-i-init
+loop-i-init c = (search rules, search rules, rw sub-zero)
+
+pub returns-in-Refused : goal.returns-in-Refused
+returns-in-Refused c =
+    sym (c.loop-i.invariant.2 ∙ records_refused (check_virtual_storage_step c.args.file.now) 26 _ _ _ _ _ c.loop-i-test.true
+    (sym c.check_virtual_storage_step-storage.ensures ∙ c.in-Refused.is))
+
+pub loop-i-preserved : goal.loop-i-preserved
+loop-i-preserved c = (
+  search rules,
+  search rules,
+  c.loop-i.invariant.2
+      ∙ records_more (check_virtual_storage_step c.args.file.now) 26 _ _ _ c.loop-i-test.true
+      (sym c.check_virtual_storage_step-storage.ensures ∙ c.in-Accepted.is),
+)
+
+pub returns : goal.returns
+returns c =
+    sym (c.loop-i.invariant.2 ∙ records_done (check_virtual_storage_step c.args.file.now) 26 _ _ _ c.loop-i-test.false)
