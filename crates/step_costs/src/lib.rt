@@ -1,4 +1,6 @@
 // The costs of a step: each edge's cost added into its column, in flow order (update_edge_objectives of builder.rs, cost of edge.rs and node.rs).
+#![tactic(auto)]
+
 ghost use Rattle.std.specs.Prelude.{◌≡◌, true, ℕ, ◌≤◌, ◌<◌, length};
 ghost use Rattle.std.proofs.lemmas.List.Edits.{sets};
 ghost use Rattle.layout.specs.Layout.{node_ceiling, edge_ceiling, set_ceiling, column_ceiling, shape_length, edges_at, edge_width, nodes_in, edges_in, edge_columns_in, sets_in};

@@ -1,5 +1,7 @@
 // The varying rows of a step: reset to the sentinels, then tightened by the intervals of the nodes, the aggregates and the virtual
 // storages; last the binary rows, whose bounds no interval moves (BuiltSolver::update and apply_updated_coefficients of builder.rs).
+#![tactic(auto)]
+
 ghost use Rattle.std.specs.Prelude.{ℕ, ◌+◌, ◌*◌, ◌<◌, ◌≤◌, List, length};
 ghost use Rattle.layout.specs.Layout.{node_row_ceiling, row_ceiling, element_ceiling, node_rows_at, node_row_width, node_rows_in, step_work_length};
 ghost use Rattle.pywr.specs.Programme.{Row};

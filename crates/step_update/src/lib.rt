@@ -1,4 +1,6 @@
 // The writing of a step whose file was judged: costs, bounds and coefficients (BuiltSolver::update of builder.rs).
+#![tactic(auto)]
+
 ghost use Rattle.step_update.specs.Updated.{CostsReady, RowsReady, CostsUpdated, RowsUpdated};
 
 // Writes the costs of a step file that was read, and the bounds and coefficients of its intervals, which stand in the work run.
