@@ -9,7 +9,7 @@ use widths::wide8;
 pub fn asks_help(word: &[u8]) -> bool
     ensures { (result ≡ true → AsksHelp word.now) × (AsksHelp word.now → result ≡ true) }
 {
-    word == b"--help" || word == b"-h"
+    word == b"--help".as_slice() || word == b"-h".as_slice()
 }
 
 pub fn is_option(word: &[u8]) -> bool
