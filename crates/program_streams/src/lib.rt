@@ -1,15 +1,13 @@
 // Bytes written whole, and files read whole: a call that moves a part is followed by one for the rest, one that a signal
-// interrupts is made again, and a failure is told apart from the end of a file.
+// interrupts is made again, and a failure is told apart from the end of a file. Why a call failed is said in the system's words.
 #![tactic(auto)]
 
 ghost use Rattle.std.specs.Prelude.{◌≡◌, ◌<◌, ◌≤◌, ℕ, length, take, IsOk, IfOk, OnOk, OnErr};
 ghost use Rattle.std.specs.Io.KnownBytes.{Appends, Consumes, IsAtEnd};
 
-use std::fs;
-use std::io;
-use std::io::{ErrorKind, Read, Write};
+use std::io::{Cursor, ErrorKind, Read, Write};
 use std::rt::Files;
-use std::str;
+use std::{fs, io, str};
 
 // How often a call is made again that signals interrupt.
 const TRIES: usize = 1000;
@@ -72,4 +70,38 @@ pub fn read_named(files: &impl Files, name: &[u8], buffer: &mut [u8]) -> io::Res
     };
     let mut file = fs::open(files, name)?;
     read_all(&mut file, buffer)
+}
+
+// How many bytes of the system's words come before the number of the error, which std writes behind them in brackets.
+fn without_number(words: &[u8]) -> usize
+    ensures { result ≤ length words.now }
+{
+    match words.iter().rposition(|b| *b == b'(') {
+        Some(bracket) => bracket.saturating_sub(1),
+        None => words.len(),
+    }
+}
+
+// Puts the words of a failure at the front of the buffer, as many as it holds, and answers how many bytes they have.
+fn put_reason(error: &io::Error, words: &mut [u8]) -> usize
+    ensures { result ≤ length words.new }
+{
+    let room = words.len() as u64;
+    let mut cursor = Cursor::new(&mut words[..]);
+    let _ = write!(cursor, "{error}");
+    let end = cursor.position().min(room) as usize;
+    match error.raw_os_error() {
+        Some(_) => without_number(&words[..end]),
+        None => end,
+    }
+}
+
+// Writes a line that says what failed, and why.
+pub fn write_failure<W: Write>(writer: &mut W, what: &[u8], error: &io::Error) -> io::Result<()> {
+    let mut words = [0u8; 256];
+    let n = put_reason(error, &mut words);
+    write_all(writer, what)?;
+    write_all(writer, b": ")?;
+    write_all(writer, &words[..n])?;
+    write_all(writer, b"\n")
 }
