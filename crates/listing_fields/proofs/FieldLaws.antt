@@ -7,7 +7,7 @@ use native.Mathlib.Numerals.{add-one}
 use native.Mathlib.Nat.{pow-suc, mod-eq_of_lt, le-div_iff_mul-le, div-lt_iff_lt-mul, one-le-pow}
 use native.Mathlib.Omega.{arith}
 use borrow.Author.Tests.{lt-ltb, le-ltb, eq-eqb}
-use lib.Dec.{T, ltb, eqb, lit<}
+use lib.Dec.{T, lit<}
 use lib.ListN.{length, take, length-append}
 use lib.Ieee as Ieee
 use lib.Ieee.{Float, nan, inf, fin, binary64, to_bits}

@@ -1,6 +1,6 @@
 -- The words of a maker's line by its tests, and the bytes of the lines of the first rows. Assumes nothing.
 use Prim.Native.Nat.{ℕ, ◌+◌, ◌<◌, ◌≤◌}
-use mathlib.Core.Path.{◌≡◌, refl, sym}
+use mathlib.Core.Path.{◌≡◌, refl, sym, ◌∙◌, ap}
 use mathlib.Core.List.{List, [], ◌++◌, append-nil}
 use native.Mathlib.Numerals.{add-one}
 use native.Mathlib.Omega.{arith}
@@ -62,13 +62,16 @@ more_makers count h = rw (ne_eqb count 1 h)
 
 -- ---- the first rows, and one row
 
-pub makers_none : (s : Store) → 0 ≡ length (makers_text s 0)
+pub makers_none : (s : Store) → makers_text s 0 ≡ []
 unfolding makers_text
 makers_none s = refl
 
-pub makers_more : (s : Store) (i : ℕ) (m : Maker) → m ≡ row_maker s i → length (makers_text s (i + 1)) ≡ length (makers_text s i) + length (maker_line i m)
+pub makers_more : (s : Store) (i : ℕ) (m : Maker) → m ≡ row_maker s i → makers_text s (i + 1) ≡ makers_text s i ++ maker_line i m
 unfolding makers_text
-makers_more s i m e = rw (add-one i, e) (length-append (makers_text s i) (maker_line i (row_maker s i)))
+makers_more s i m e = rw (add-one i, e)
+
+pub makers_longer : (s : Store) (i : ℕ) (m : Maker) → m ≡ row_maker s i → length (makers_text s (i + 1)) ≡ length (makers_text s i) + length (maker_line i m)
+makers_longer s i m e = ap length (makers_more s i m e) ∙ length-append (makers_text s i) (maker_line i m)
 
 pub rows_counted : (s : Store) (shape : List ℕ) (n : ℕ) → n ≡ varying_in shape + fixed_in shape → s.shape ≡ shape → n ≡ row_count s
 rows_counted s shape n e es = rw es e

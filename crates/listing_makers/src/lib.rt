@@ -1,9 +1,10 @@
-// The rows of a store written on standard output by their makers, in words, one row a line.
-// What stands in each line is proved, and how many bytes the lines have together. That the bytes go out is not stated: output is outside the logic.
-// Where a write fails the answer says so, the rest is not written, and errno says why.
+// The rows of a store written to a writer by their makers, in words, one row a line.
+// The functions here answer how many bytes the lines have together. Where the writer's bytes are known, the lines stand behind what it held before, whole.
+// That the bytes of a file or a pipe go out is not stated: output is outside the logic. Where a write fails the answer says why, and the rest is not written.
 #![tactic(auto)]
 
-ghost use Rattle.std.specs.Prelude.{◌≡◌, ◌+◌, ◌<◌, ◌≤◌, ◌^◌, length};
+ghost use Rattle.std.specs.Prelude.{◌≡◌, ◌+◌, ◌<◌, ◌≤◌, ◌^◌, length, OnOk};
+ghost use Rattle.std.specs.Io.KnownBytes.{Appends};
 ghost use Rattle.pywr.specs.Store.{Store, row_count, row_maker};
 ghost use Rattle.text.specs.Text.{Put};
 ghost use Rattle.listing_fields.specs.Fields.{PutWithin};
@@ -16,7 +17,13 @@ use listing_fields::put_number;
 use listing_lines::RowMaker;
 use listing_rows::{spare, write_out};
 use listing_stored::{row_count, row_maker};
+use std::io::Write;
 use text::put_all;
+
+// What a buffer of lines holds, and one of a single line.
+const BUFFER_LENGTH: usize = 65536;
+
+const SHORT_BUFFER_LENGTH: usize = 4096;
 
 // The kinds in the width of a maker's numbers.
 const MASS: usize = BY_MASS as usize;
@@ -73,17 +80,19 @@ fn put_maker(out: &mut [u8], at: usize, row: usize, maker: RowMaker) -> usize
     text::put(out, f, b'\n')
 }
 
-fn write_makers(out: &mut [u8], shape: &[u16]) -> Output
+fn write_makers<W: Write>(writer: &mut W, out: &mut [u8], shape: &[u16]) -> Output
     requires { line_room ≤ length out.old }
-    ensures { (s : Store) → s.shape ≡ shape.now → result.bytes ≡ length (makers_text s (row_count s)) }
+    ensures bytes { (s : Store) → s.shape ≡ shape.now → result.bytes ≡ length (makers_text s (row_count s)) }
+    ensures text { (s : Store) → s.shape ≡ shape.now
+        → OnOk result.written (Appends (W.contents writer.old) (W.contents writer.new) (makers_text s (row_count s))) }
 {
     let end = row_count(shape);
     let mut at: usize = 0;
-    let mut written = true;
+    let mut written = Ok(());
     let mut bytes: usize = 0;
     let mut i: usize = 0;
     while i < end {
-        let room = spare(out, at, written);
+        let room = spare(writer, out, at, written);
         written = room.written;
         let start = room.at;
         at = put_maker(out, start, i, row_maker(shape, i));
@@ -92,37 +101,43 @@ fn write_makers(out: &mut [u8], shape: &[u16]) -> Output
     }
     Output {
         bytes,
-        written: write_out(out, at, written),
+        written: write_out(writer, out, at, written),
     }
 }
 
 // Writes the line of each row.
-pub fn list_makers(shape: &[u16]) -> Output
-    ensures { (s : Store) → s.shape ≡ shape.now → result.bytes ≡ length (makers_text s (row_count s)) }
+pub fn list_makers<W: Write>(writer: &mut W, shape: &[u16]) -> Output
+    ensures bytes { (s : Store) → s.shape ≡ shape.now → result.bytes ≡ length (makers_text s (row_count s)) }
+    ensures text { (s : Store) → s.shape ≡ shape.now
+        → OnOk result.written (Appends (W.contents writer.old) (W.contents writer.new) (makers_text s (row_count s))) }
 {
-    let mut out = io::large_buffer();
-    write_makers(&mut out, shape)
+    let mut out = [0u8; BUFFER_LENGTH];
+    write_makers(writer, &mut out, shape)
 }
 
 // Writes the line that stands at the front of the buffer when it returns, and answers its length.
-fn write_maker(out: &mut [u8], shape: &[u16], row: usize) -> Output
+fn write_maker<W: Write>(writer: &mut W, out: &mut [u8], shape: &[u16], row: usize) -> Output
     requires { (line_room ≤ length out.old) × (row < 2 ^ 32) }
-    ensures { (s : Store) → s.shape ≡ shape.now → Put (maker_line row (row_maker s row)) out.old 0 out.new result.bytes }
+    ensures line { (s : Store) → s.shape ≡ shape.now → Put (maker_line row (row_maker s row)) out.old 0 out.new result.bytes }
+    ensures text { (s : Store) → s.shape ≡ shape.now
+        → OnOk result.written (Appends (W.contents writer.old) (W.contents writer.new) (maker_line row (row_maker s row))) }
 {
     let end = put_maker(out, 0, row, row_maker(shape, row));
     Output {
         bytes: end,
-        written: write_out(out, end, true),
+        written: write_out(writer, out, end, Ok(())),
     }
 }
 
 // Writes the line of one row, or the N line of a row that is not there.
-pub fn list_maker(shape: &[u16], row: usize) -> Output
-    ensures { (s : Store) → s.shape ≡ shape.now → result.bytes ≡ length (maker_text s row) }
+pub fn list_maker<W: Write>(writer: &mut W, shape: &[u16], row: usize) -> Output
+    ensures bytes { (s : Store) → s.shape ≡ shape.now → result.bytes ≡ length (maker_text s row) }
+    ensures text { (s : Store) → s.shape ≡ shape.now
+        → OnOk result.written (Appends (W.contents writer.old) (W.contents writer.new) (maker_text s row)) }
 {
     if row < row_count(shape) {
-        let mut out = io::buffer();
-        return write_maker(&mut out, shape, row);
+        let mut out = [0u8; SHORT_BUFFER_LENGTH];
+        return write_maker(writer, &mut out, shape, row);
     }
-    listing::list_refusal(18, row)
+    listing::list_refusal(writer, 18, row)
 }

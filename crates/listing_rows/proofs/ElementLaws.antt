@@ -1,12 +1,12 @@
 -- The elements from one index up to another, of which the runs hold fewer, and the bytes of their lines. Assumes nothing.
 use Prim.Native.Nat.{ℕ, zero, suc, ◌+◌, ◌-◌, ◌<◌, ◌≤◌, min}
 use mathlib.Core.Path.{◌≡◌, refl, sym, ◌∙◌, ap}
-use mathlib.Core.List.{List, [], ◌∷◌}
+use mathlib.Core.List.{List, [], ◌∷◌, ◌++◌, append-nil}
 use native.Mathlib.Nat.{lt_of_not-le}
 use native.Mathlib.Numerals.{add-one}
 use native.Mathlib.Decide.{dec_le}
 use native.Mathlib.Omega.{arith}
-use lib.ListN.{length, get_or, take, drop, length-append, drop_of_length-le}
+use lib.ListN.{length, get_or, take, drop, drop_of_length-le}
 use lib.Seq.{slice, slice-cons, slice_empty, length-slice, take_all}
 use lib.Ieee.{Float, nan}
 use Rattle.pywr.specs.Rows.{Element, element}
@@ -18,19 +18,22 @@ use Rattle.listing_rows.specs.Rows.{element_text, elements_text}
 abbrev pub elements_from : List ℕ → List Float → ℕ → ℕ → List Element
 elements_from columns elements i end = elements_of (slice i end columns) (slice i end elements)
 
-abbrev pub bytes_from : List ℕ → List Float → ℕ → ℕ → ℕ
-bytes_from columns elements i end = length (elements_text (elements_from columns elements i end))
+abbrev pub text_from : List ℕ → List Float → ℕ → ℕ → List ℕ
+text_from columns elements i end = elements_text (elements_from columns elements i end)
 
-pub bytes_none : (columns : List ℕ) (elements : List Float) (end : ℕ) → bytes_from columns elements end end ≡ 0
+pub text_none : (columns : List ℕ) (elements : List Float) (end : ℕ) → text_from columns elements end end ≡ []
 unfolding elements_text elements_of
-bytes_none columns elements end = rw (slice_empty end columns)
+text_none columns elements end = rw (slice_empty end columns)
 
-pub bytes_more : (columns : List ℕ) (elements : List Float) (i end column : ℕ) → i < end → end ≤ length columns → end ≤ length elements → column ≡ get_or columns i 0
-    → bytes_from columns elements i end ≡ length (element_line column (get_or elements i nan)) + bytes_from columns elements (i + 1) end
+pub text_more : (columns : List ℕ) (elements : List Float) (i end column : ℕ) → i < end → end ≤ length columns → end ≤ length elements → column ≡ get_or columns i 0
+    → text_from columns elements i end ≡ element_line column (get_or elements i nan) ++ text_from columns elements (i + 1) end
 unfolding element_text elements_text elements_of
-bytes_more columns elements i end column h hc he e =
-    rw (e, add-one i, slice-cons i end columns 0 h hc, slice-cons i end elements nan h he)
-    (length-append (element_line (get_or columns i 0) (get_or elements i nan)) (elements_text (elements_from columns elements (suc i) end)))
+text_more columns elements i end column h hc he e = rw (e, add-one i, slice-cons i end columns 0 h hc, slice-cons i end elements nan h he)
+
+-- nothing is left of the text
+pub text_all : (columns : List ℕ) (elements : List Float) (i end : ℕ) (before whole : List ℕ) → i ≡ end → before ++ text_from columns elements i end ≡ whole → before ≡ whole
+text_all columns elements i end before whole e split =
+    sym (append-nil before) ∙ ap (λ l. before ++ l) (sym (text_none columns elements end)) ∙ ap (λ n. before ++ text_from columns elements n end) (sym e) ∙ split
 
 -- ---- clipping to what the runs hold
 

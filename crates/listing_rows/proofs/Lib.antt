@@ -1,2 +1,3 @@
 pub mod ElementLaws
 pub mod RowLaws
+pub mod GatherLaws

@@ -1,10 +1,15 @@
 -- The rows of a listing, as bytes. Document 01, "The lister": "`P` comes first, then every `C`, then each `R` followed by its `E` lines."
 -- Assumes nothing.
-use Rattle.std.specs.Prelude.{ℕ, zero, suc, ◌-◌, min, cond, List, [], ◌∷◌, ◌++◌, ltb, length}
+use Rattle.std.specs.Prelude.{ℕ, zero, suc, ◌-◌, min, cond, List, [], ◌∷◌, ◌++◌, ltb, length, Option}
+use Rattle.std.specs.Io.KnownBytes.{Appends, append_known}
 use Rattle.pywr.specs.Rows.{Element}
 use Rattle.pywr.specs.Store.{Store, row_count, row_entry}
 use Rattle.listing_lines.specs.Lines.{line_room, element_line}
 use Rattle.listing_stored.specs.Stored.{row_text}
+
+-- Behind what a writer holds, if that is known, the first bytes of a buffer come to it next: the text stands behind these and those that were there before.
+pub record Gathers (old : Option (List ℕ)) (before : List ℕ) (new : Option (List ℕ)) (now text : List ℕ) : Type 0 where
+  pub known : Appends (append_known old before) (append_known new now) text
 
 -- where the next line goes in a buffer of so many bytes: at its front where fewer than `line_room` are left
 unfoldable pub line_at : ℕ → ℕ → ℕ

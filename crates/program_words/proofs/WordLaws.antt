@@ -3,8 +3,7 @@ use Prim.Native.Nat.{ℕ, ◌+◌, ◌-◌, ◌*◌, ◌<◌, ◌≤◌}
 use mathlib.Core.Path.{◌≡◌, refl, sym}
 use mathlib.Core.List.{List, [], ◌∷◌}
 use native.Mathlib.Omega.{arith}
-use mathlib.Core.Logic.{◌⊎◌, inl, inr}
-use mathlib.Core.Bool.{Bool, true, false, ◌||◌}
+use mathlib.Core.Bool.{false}
 use borrow.Author.Tests.{lt-ltb, le-ltb, lt-leb, le-leb}
 use lib.Dec.{eqb}
 use lib.ListN.{length, get_or, drop, drop_of_length-le}
@@ -49,17 +48,6 @@ module _ (w : List ℕ) (value i b : ℕ) (h : i < length w) (eb : b ≡ get_or 
       goes_on few = rw (le-ltb b 48 le, le-ltb 57 b most, le-ltb 99999 value few) at at_byte
 
 -- ---- what a word asks for
-
--- two tests, and what either says
-pub either : (a b : Bool) {P Q : Type 0} → (a ≡ true → P) × (P → a ≡ true) → (b ≡ true → Q) × (Q → b ≡ true)
-    → ((a || b) ≡ true → P ⊎ Q) × (P ⊎ Q → (a || b) ≡ true)
-either true b h k = ((λ e. inl (h.0 refl)), (λ x. refl))
-either false true h k = ((λ e. inr (k.0 refl)), (λ x. refl))
-either false false {P} {Q} h k = ((λ e. inl (h.0 e)), none)
-  where
-    none : P ⊎ Q → false ≡ true
-    none (inl p) = h.1 p
-    none (inr q) = k.1 q
 
 pub too_short : (word : List ℕ) → length word < 2 → false ≡ is_option word
 unfolding is_option

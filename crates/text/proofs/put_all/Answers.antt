@@ -1,5 +1,4 @@
 -- `text::put_all` meets its contract. The loop's invariant: i bytes of s stand behind what stood before `at`.
-use Prim.Native.Nat.{◌-◌}
 use Rattle.text.proofs.Placed.{none, more, whole}
 use Rattle.text.proofs.put_all.Goals as goal
 

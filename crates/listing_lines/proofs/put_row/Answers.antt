@@ -1,0 +1,26 @@
+-- `listing_lines::put_row` meets its contract.
+use native.Mathlib.Omega.{arith}
+use Rattle.listing_fields.proofs.FieldLaws.{put_then}
+use Rattle.listing_lines.specs.Lines.{row_line}
+use Rattle.listing_lines.proofs.put_row.Goals as goal
+
+pub returns : goal.returns
+unfolding row_line
+returns c =
+    let e = c.varying_flag.ensures in
+    record {
+      put = rw (← e) (put_then c.put_head-a.ensures.put
+          (put_then c.put_number-b.ensures.put
+          (put_then c.put_bounds-c.ensures.put
+          (put_then c.put_number-d.ensures.put
+          (put_then c.put_maker_fields-e.ensures.put c.put.ensures)))));
+      end = omega (
+        arith,
+        c.put_head-a.ensures.end,
+        c.put_number-b.ensures.end,
+        c.put_bounds-c.ensures.end,
+        c.put_number-d.ensures.end,
+        c.put_maker_fields-e.ensures.end,
+        c.put.ensures.next,
+      );
+    }
