@@ -29,6 +29,7 @@ module _ (run : List ℕ) where
       let n : ℕ = length y.elements in
       let place : p + suc k ≡ p + 1 + k = omega arith in
       rw place (rises ys (p + 1) (at + n) k (held_tail 0 run p at (starts_from (at + n) ys) h) (let m : suc k < suc (length ys) = lt in omega arith))
+  rises [] p at k h lt = elim lt [ ]
 
   ends : (rows : List Row) (p at : ℕ) → Holds 0 run p (starts_from at rows) → get_or run (p + length rows) 0 ≡ at + element_count rows
   unfolding starts_from element_count
