@@ -1,5 +1,5 @@
 -- The answers of a step: a buffer is short, the file is refused, or the step is written. Assumes nothing.
-use mathlib.Core.Path.{◌≡◌, refl, sym, ◌∙◌, ap}
+use mathlib.Core.Path.{◌≡◌, sym, ◌∙◌, ap}
 use Prim.Native.Nat.{ℕ, ◌+◌}
 use mathlib.Core.List.{List}
 use mathlib.Core.Bool.{true, false, ◌&&◌}
@@ -10,7 +10,7 @@ use lib.Ieee.{Float}
 use Rattle.layout.specs.Layout.{flow_order_at}
 use Rattle.pywr.specs.declared.Answer.{Answer}
 use Rattle.pywr.specs.declared.Answer.TheVariants.{Accepted, Refused}
-use Rattle.pywr.specs.Result.{Result, value, refused, ◌>>=◌, need}
+use Rattle.pywr.specs.Result.{◌>>=◌, need}
 use Rattle.pywr.specs.Answers.{answer_of}
 use Rattle.pywr.specs.Numbers.{zero64}
 use Rattle.pywr.specs.Costs.{step_costs}

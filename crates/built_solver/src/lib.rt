@@ -1,4 +1,6 @@
 // The step: a step file's costs, bounds and coefficients written into a lent store (BuiltSolver::update and apply_updated_coefficients of builder.rs).
+#![tactic(auto)]
+
 ghost use Rattle.std.specs.Prelude.{◌≡◌, length, replicate};
 ghost use Rattle.pywr.specs.declared.Answer.TheVariants.{Refused};
 ghost use Rattle.pywr.specs.Numbers.{zero64};

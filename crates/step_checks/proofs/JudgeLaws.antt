@@ -24,7 +24,6 @@ use Rattle.store_shape.proofs.EntryLaws.{entries_length}
 use Rattle.step_file.specs.Decoded.{file_length}
 use Rattle.step_file.proofs.DecodedLaws.{accepted_decoded, accepted_length}
 use Rattle.step_work.specs.WorkRun.{IntervalsHeld}
-use Rattle.store.proofs.Passed.{shaped}
 use Rattle.step_checks.specs.Judged.{read_on, decoded_by, Judged}
 
 -- ---- answers and results
