@@ -1,7 +1,6 @@
 -- `network::scan` meets its contract. The invariant is `ScanInvariant`; the measure counts the records that may still come.
 use native.Mathlib.Omega.{arith}
 use mathlib.Core.Path.{sym, ◌∙◌}
-use Prim.Native.Nat.{◌-◌}
 use Rattle.network.proofs.ScanLoop.{first, fixed_at, node_more, edge_more, aggregate_more, virtual_storage_more, refusal, accepted, placed}
 use borrow.Author.Rules.{rules}
 use Rattle.network.proofs.scan.Goals as goal

@@ -18,52 +18,49 @@ returns-in-Refused-c c = (rw (← c.byte_field-k.ensures, c.in-Value.is, ← c.b
 
 pub returns-in-Refused-l : goal.returns-in-Refused-l
 unfolding check_aggregate
-returns-in-Refused-l c =
-    (
-      rw (
-        ← c.byte_field-k.ensures,
-        c.in-Value.is,
-        ← c.byte_field-c.ensures,
-        c.in-Value-c.is,
-        ←
-            c.active_field-l.ensures,
-        c.in-Refused-l.is,
-      ),
-      tt,
-    )
+returns-in-Refused-l c = (
+  rw (
+    ← c.byte_field-k.ensures,
+    c.in-Value.is,
+    ← c.byte_field-c.ensures,
+    c.in-Value-c.is,
+    ←
+        c.active_field-l.ensures,
+    c.in-Refused-l.is,
+  ),
+  tt,
+)
 
 pub returns-in-Refused-m : goal.returns-in-Refused-m
 unfolding check_aggregate
-returns-in-Refused-m c =
-    (
-      rw (
-        ← c.byte_field-k.ensures,
-        c.in-Value.is,
-        ← c.byte_field-c.ensures,
-        c.in-Value-c.is,
-        ←
-            c.active_field-l.ensures,
-        c.in-Value-l.is,
-        ← c.active_field-m.ensures,
-        c.in-Refused-m.is,
-      ),
-      tt,
-    )
+returns-in-Refused-m c = (
+  rw (
+    ← c.byte_field-k.ensures,
+    c.in-Value.is,
+    ← c.byte_field-c.ensures,
+    c.in-Value-c.is,
+    ←
+        c.active_field-l.ensures,
+    c.in-Value-l.is,
+    ← c.active_field-m.ensures,
+    c.in-Refused-m.is,
+  ),
+  tt,
+)
 
 pub returns-in-Value-m : goal.returns-in-Value-m
 unfolding check_aggregate
-returns-in-Value-m c =
-    (
-      rw (
-        ← c.byte_field-k.ensures,
-        c.in-Value.is,
-        ← c.byte_field-c.ensures,
-        c.in-Value-c.is,
-        ←
-            c.active_field-l.ensures,
-        c.in-Value-l.is,
-        ← c.active_field-m.ensures,
-        c.in-Value-m.is,
-      ) c.check_sets.ensures.0,
-      c.check_sets.ensures.1,
-    )
+returns-in-Value-m c = (
+  rw (
+    ← c.byte_field-k.ensures,
+    c.in-Value.is,
+    ← c.byte_field-c.ensures,
+    c.in-Value-c.is,
+    ←
+        c.active_field-l.ensures,
+    c.in-Value-l.is,
+    ← c.active_field-m.ensures,
+    c.in-Value-m.is,
+  ) c.check_sets.ensures.0,
+  c.check_sets.ensures.1,
+)

@@ -2,7 +2,6 @@
 use native.Mathlib.Nat.{sub-zero}
 use native.Mathlib.Omega.{arith}
 use mathlib.Core.Path.{sym, ◌∙◌}
-use Prim.Native.Nat.{◌-◌}
 use Rattle.fields.proofs.Within.{node_within}
 use Rattle.fields.proofs.RecordLaws.{each_more, each_refused, each_end}
 use Rattle.network_aggregate.specs.AggregatedNode.{check_member}
@@ -22,11 +21,10 @@ overflow_add-here c = omega (arith, (node_within _ _ _ _ _ (sym c.node_field-f.e
 
 pub loop-i-preserved : goal.loop-i-preserved
 unfolding check_member
-loop-i-preserved c =
-    (
-      (node_within _ _ _ _ _ (sym c.node_field-f.ensures ∙ c.in-Value.is)).0,
-      c.loop-i.invariant.1 ∙ each_more _ _ _ _ _ c.loop-i-test.true (rw (← c.node_field-f.ensures, c.in-Value.is)),
-    )
+loop-i-preserved c = (
+  (node_within _ _ _ _ _ (sym c.node_field-f.ensures ∙ c.in-Value.is)).0,
+  c.loop-i.invariant.1 ∙ each_more _ _ _ _ _ c.loop-i-test.true (rw (← c.node_field-f.ensures, c.in-Value.is)),
+)
 
 pub returns : goal.returns
 returns c = (sym (c.loop-i.invariant.1 ∙ each_end _ _ _ _ c.loop-i-test.false), c.loop-i.invariant.0)

@@ -2,7 +2,6 @@
 use native.Mathlib.Nat.{sub-zero}
 use native.Mathlib.Omega.{arith}
 use mathlib.Core.Path.{sym, ◌∙◌}
-use Prim.Native.Nat.{◌-◌}
 use Rattle.network_record.specs.Counts.{network_of}
 use Rattle.network_checks.proofs.NodeLoops.{refused_here, refused_later, refused_none}
 use Rattle.network_checks.proofs.Constants.{crossed, unbounded, bounded}

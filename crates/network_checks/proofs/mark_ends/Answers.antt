@@ -2,7 +2,7 @@
 use native.Mathlib.Nat.{sub-zero, add-zero}
 use native.Mathlib.Omega.{arith}
 use mathlib.Core.Path.{sym, ◌∙◌}
-use Prim.Native.Nat.{◌+◌, ◌-◌}
+use Prim.Native.Nat.{◌+◌}
 use Rattle.pywr.specs.Network.{source, target}
 use Rattle.fields.proofs.RecordLaws.{records_over}
 use Rattle.network_edge.specs.Edge.{edge_at}

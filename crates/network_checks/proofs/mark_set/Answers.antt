@@ -2,7 +2,7 @@
 use native.Mathlib.Nat.{sub-zero, add-zero}
 use native.Mathlib.Omega.{arith}
 use mathlib.Core.Path.{sym, ◌∙◌}
-use Prim.Native.Nat.{◌+◌, ◌-◌}
+use Prim.Native.Nat.{◌+◌}
 use Rattle.pywr.specs.Bytes.{le16}
 use Rattle.fields.proofs.RecordLaws.{records_over}
 use Rattle.network_checks.specs.Marks.{mark_all}
@@ -23,12 +23,11 @@ pub bounds-marks-i : goal.bounds-marks-i
 bounds-marks-i c = omega (arith, c.wide16-i.ensures.0, c.member-m.ensures, c.requires.members c.loop-k.k (omega arith))
 
 pub loop-k-preserved : goal.loop-k-preserved
-loop-k-preserved c =
-    (
-      search rules,
-      c.loop-k.invariant.1 ∙ mark_member c.args.s.now c.args.at _ _ c.loop-k.marks _ c.loop-k-test.true
-          (c.wide16-i.ensures.0 ∙ c.member-m.ensures),
-    )
+loop-k-preserved c = (
+  search rules,
+  c.loop-k.invariant.1 ∙ mark_member c.args.s.now c.args.at _ _ c.loop-k.marks _ c.loop-k-test.true
+      (c.wide16-i.ensures.0 ∙ c.member-m.ensures),
+)
 
 pub returns : goal.returns
 unfolding mark_all

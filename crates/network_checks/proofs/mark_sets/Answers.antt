@@ -2,7 +2,7 @@
 use native.Mathlib.Nat.{sub-zero}
 use native.Mathlib.Omega.{arith}
 use mathlib.Core.Path.{◌≡◌, sym, ◌∙◌, ap, subst}
-use Prim.Native.Nat.{ℕ, ◌+◌, ◌-◌}
+use Prim.Native.Nat.{ℕ, ◌+◌}
 use Rattle.fields.specs.Records.{records_end}
 use Rattle.fields.proofs.RecordLaws.{records_over, end_more}
 use Rattle.network_aggregate.specs.AggregatedNode.{aggregate_set_at, set_end}
@@ -31,18 +31,16 @@ set_end-here-requires c =
     omega (arith, h.within)
 
 pub loop-i-preserved : goal.loop-i-preserved
-loop-i-preserved c =
-    (
-      search rules,
-      c.set_end-here.ensures ∙ ap (set_end c.args.s.now) c.loop-i.invariant.1 ∙ sym (end_more (set_end c.args.s.now) _ _),
-      c.loop-i.invariant.2 ∙ mark_one_set c.args.s.now _ _ _ c.loop-i.marks c.loop-i-test.true ∙ rw (c.set_end-here.ensures, c.mark_set.ensures),
-    )
+loop-i-preserved c = (
+  search rules,
+  c.set_end-here.ensures ∙ ap (set_end c.args.s.now) c.loop-i.invariant.1 ∙ sym (end_more (set_end c.args.s.now) _ _),
+  c.loop-i.invariant.2 ∙ mark_one_set c.args.s.now _ _ _ c.loop-i.marks c.loop-i-test.true ∙ rw (c.set_end-here.ensures, c.mark_set.ensures),
+)
 
 pub returns : goal.returns
 unfolding mark_sets
-returns c =
-    (
-      c.loop-i.invariant.1 ∙ ap (λ (k : ℕ). records_end (set_end c.args.s.now) k (c.args.at + 12))
-          (let q : c.loop-i.i ≡ c.set_count-count.result = omega arith in q ∙ c.set_count-count.ensures.0),
-      sym (c.loop-i.invariant.2 ∙ rw (records_over (set_end c.args.s.now) _ _ _ c.loop-i-test.false (aggregate_set_at c.args.s.now))),
-    )
+returns c = (
+  c.loop-i.invariant.1 ∙ ap (λ (k : ℕ). records_end (set_end c.args.s.now) k (c.args.at + 12))
+      (let q : c.loop-i.i ≡ c.set_count-count.result = omega arith in q ∙ c.set_count-count.ensures.0),
+  sym (c.loop-i.invariant.2 ∙ rw (records_over (set_end c.args.s.now) _ _ _ c.loop-i-test.false (aggregate_set_at c.args.s.now))),
+)

@@ -28,15 +28,14 @@ returns-in-Refused-t c = (rw (← c.node_field-f.ensures, c.in-Value.is, ← c.n
 
 pub returns-in-Value-t : goal.returns-in-Value-t
 unfolding check_edge
-returns-in-Value-t c =
-    (
-      rw (
-        ← c.node_field-f.ensures,
-        c.in-Value.is,
-        ← c.node_field-t.ensures,
-        c.in-Value-t.is,
-        ← c.narrow16.ensures,
-        ← c.narrow16-in-Value-t.ensures,
-      ) c.check_ends.ensures.0,
-      c.check_ends.ensures.1,
-    )
+returns-in-Value-t c = (
+  rw (
+    ← c.node_field-f.ensures,
+    c.in-Value.is,
+    ← c.node_field-t.ensures,
+    c.in-Value-t.is,
+    ← c.narrow16.ensures,
+    ← c.narrow16-in-Value-t.ensures,
+  ) c.check_ends.ensures.0,
+  c.check_ends.ensures.1,
+)

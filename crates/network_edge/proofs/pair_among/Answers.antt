@@ -3,7 +3,7 @@ use Rattle.pywr.specs.Bytes.{le16}
 use native.Mathlib.Omega.{arith}
 use native.Mathlib.Nat.{sub-zero}
 use mathlib.Core.Path.{sym, ◌∙◌}
-use Prim.Native.Nat.{◌+◌, ◌-◌, ◌<◌}
+use Prim.Native.Nat.{◌+◌, ◌<◌}
 use Rattle.network_edge.proofs.Loops.{pair_here, pair_next, pair_end}
 use borrow.Author.Rules.{rules}
 use Rattle.network_edge.proofs.pair_among.Goals as goal
@@ -24,8 +24,7 @@ pub overflow_add-at-in-loop-i : goal.overflow_add-at-in-loop-i
 overflow_add-at-in-loop-i c = search rules
 
 pub loop-i-preserved : goal.loop-i-preserved
-loop-i-preserved c =
-    (
+loop-i-preserved c = (
   search rules,
   search rules,
   c.loop-i.invariant.2

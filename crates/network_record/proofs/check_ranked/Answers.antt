@@ -38,33 +38,31 @@ returns-then-m-eq2 c =
 
 pub returns-then-v-ge-VIRTUAL_STORAGE_CEILING : goal.returns-then-v-ge-VIRTUAL_STORAGE_CEILING
 unfolding check_ranked
-returns-then-v-ge-VIRTUAL_STORAGE_CEILING c =
-    (
-      rw (
-        ne_eqb _ _ c.if-m-eq0.false,
-        ne_eqb _ _ c.if-m-eq1.false,
-        ne_eqb _ _ c.if-m-eq2.false,
-        eq-eqb _ _
-            c.if-m-eq3.true,
-        le-ltb _ _ c.if-v-ge-VIRTUAL_STORAGE_CEILING.true,
-      ),
-      tt,
-    )
+returns-then-v-ge-VIRTUAL_STORAGE_CEILING c = (
+  rw (
+    ne_eqb _ _ c.if-m-eq0.false,
+    ne_eqb _ _ c.if-m-eq1.false,
+    ne_eqb _ _ c.if-m-eq2.false,
+    eq-eqb _ _
+        c.if-m-eq3.true,
+    le-ltb _ _ c.if-v-ge-VIRTUAL_STORAGE_CEILING.true,
+  ),
+  tt,
+)
 
 pub returns-then-m-eq3 : goal.returns-then-m-eq3
 unfolding check_ranked
-returns-then-m-eq3 c =
-    (
-      rw (
-        ne_eqb _ _ c.if-m-eq0.false,
-        ne_eqb _ _ c.if-m-eq1.false,
-        ne_eqb _ _ c.if-m-eq2.false,
-        eq-eqb _ _
-            c.if-m-eq3.true,
-        lt-ltb _ _ c.if-v-ge-VIRTUAL_STORAGE_CEILING.false,
-      ) c.check_virtual_storage.ensures.0,
-      c.check_virtual_storage.ensures.1,
-    )
+returns-then-m-eq3 c = (
+  rw (
+    ne_eqb _ _ c.if-m-eq0.false,
+    ne_eqb _ _ c.if-m-eq1.false,
+    ne_eqb _ _ c.if-m-eq2.false,
+    eq-eqb _ _
+        c.if-m-eq3.true,
+    lt-ltb _ _ c.if-v-ge-VIRTUAL_STORAGE_CEILING.false,
+  ) c.check_virtual_storage.ensures.0,
+  c.check_virtual_storage.ensures.1,
+)
 
 pub returns : goal.returns
 unfolding check_ranked

@@ -46,8 +46,7 @@ returns-then-m-eq2 c =
     )
 
 pub returns-in-Refused : goal.returns-in-Refused
-returns-in-Refused c =
-    (
+returns-in-Refused c = (
   sym (in_order _ _ _ _ _ _ _ _ _ (omega arith) c.mark_rank-m.ensures c.if-m-stage.false
       (sym c.check_ranked-r.ensures.0 ∙ c.in-Refused.is)),
   tt,

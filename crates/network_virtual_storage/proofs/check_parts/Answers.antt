@@ -2,7 +2,6 @@
 use native.Mathlib.Omega.{arith}
 use native.Mathlib.Nat.{sub-zero}
 use mathlib.Core.Path.{sym, ◌∙◌}
-use Prim.Native.Nat.{◌-◌}
 use Rattle.fields.proofs.Within.{node_within, factor_within}
 use Rattle.fields.proofs.RecordLaws.{each_more, each_refused, each_end}
 use Rattle.network_virtual_storage.specs.VirtualStorage.{check_part}
@@ -22,24 +21,22 @@ overflow_add-here c = omega (arith, (node_within _ _ _ _ _ (sym c.node_field-f.e
 
 pub returns-in-Refused-r : goal.returns-in-Refused-r
 unfolding check_part
-returns-in-Refused-r c =
-    (
-      sym (c.loop-i.invariant.1 ∙ each_refused _ _ _ _ _ _ c.loop-i-test.true
-          (rw (← c.node_field-f.ensures, c.in-Value.is, ← c.check_factor-r.ensures, c.in-Refused-r.is))),
-      tt,
-    )
+returns-in-Refused-r c = (
+  sym (c.loop-i.invariant.1 ∙ each_refused _ _ _ _ _ _ c.loop-i-test.true
+      (rw (← c.node_field-f.ensures, c.in-Value.is, ← c.check_factor-r.ensures, c.in-Refused-r.is))),
+  tt,
+)
 
 pub overflow_add-here-in-Next : goal.overflow_add-here-in-Next
 overflow_add-here-in-Next c = omega (arith, (factor_within _ _ _ _ (sym c.check_factor-r.ensures ∙ c.in-Next.is)).0)
 
 pub loop-i-preserved : goal.loop-i-preserved
 unfolding check_part
-loop-i-preserved c =
-    (
-      omega (arith, (factor_within _ _ _ _ (sym c.check_factor-r.ensures ∙ c.in-Next.is)).0),
-      c.loop-i.invariant.1 ∙ each_more _ _ _ _ _ c.loop-i-test.true
-          (rw (← c.node_field-f.ensures, c.in-Value.is, ← c.check_factor-r.ensures, c.in-Next.is)),
-    )
+loop-i-preserved c = (
+  omega (arith, (factor_within _ _ _ _ (sym c.check_factor-r.ensures ∙ c.in-Next.is)).0),
+  c.loop-i.invariant.1 ∙ each_more _ _ _ _ _ c.loop-i-test.true
+      (rw (← c.node_field-f.ensures, c.in-Value.is, ← c.check_factor-r.ensures, c.in-Next.is)),
+)
 
 pub returns : goal.returns
 returns c = (sym (c.loop-i.invariant.1 ∙ each_end _ _ _ _ c.loop-i-test.false), c.loop-i.invariant.0)

@@ -18,32 +18,30 @@ returns-in-Refused-d c = (rw (← c.byte_field-k.ensures, c.in-Value.is, ← c.c
 
 pub returns-in-Refused-c : goal.returns-in-Refused-c
 unfolding check_virtual_storage
-returns-in-Refused-c c =
-    (
-      rw (
-        ← c.byte_field-k.ensures,
-        c.in-Value.is,
-        ← c.check_dates-d.ensures,
-        c.in-Next.is,
-        ←
-            c.byte_field-c.ensures,
-        c.in-Refused-c.is,
-      ),
-      tt,
-    )
+returns-in-Refused-c c = (
+  rw (
+    ← c.byte_field-k.ensures,
+    c.in-Value.is,
+    ← c.check_dates-d.ensures,
+    c.in-Next.is,
+    ←
+        c.byte_field-c.ensures,
+    c.in-Refused-c.is,
+  ),
+  tt,
+)
 
 pub returns-in-Value-c : goal.returns-in-Value-c
 unfolding check_virtual_storage
-returns-in-Value-c c =
-    (
-      rw (
-        ← c.byte_field-k.ensures,
-        c.in-Value.is,
-        ← c.check_dates-d.ensures,
-        c.in-Next.is,
-        ←
-            c.byte_field-c.ensures,
-        c.in-Value-c.is,
-      ) c.check_parts.ensures.0,
-      c.check_parts.ensures.1,
-    )
+returns-in-Value-c c = (
+  rw (
+    ← c.byte_field-k.ensures,
+    c.in-Value.is,
+    ← c.check_dates-d.ensures,
+    c.in-Next.is,
+    ←
+        c.byte_field-c.ensures,
+    c.in-Value-c.is,
+  ) c.check_parts.ensures.0,
+  c.check_parts.ensures.1,
+)
