@@ -41,7 +41,7 @@ extern "C" {
 
 /* The least lengths of the work runs: words and numbers of a build, work of a step. They need not be cleared before a call; they are
  * zero throughout after it, but as they were after 16. */
-#define PYWR_BUILD_WORDS 19724
+#define PYWR_BUILD_WORDS 28428
 #define PYWR_BUILD_NUMBERS 6784
 #define PYWR_STEP_WORK 704
 

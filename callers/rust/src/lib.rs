@@ -20,7 +20,7 @@ pub const ROW_STARTS: usize = 1025;
 pub const SHAPE: usize = 23307;
 
 /// The least lengths of the work runs of a build and of a step.
-pub const BUILD_WORDS: usize = 19724;
+pub const BUILD_WORDS: usize = 28428;
 pub const BUILD_NUMBERS: usize = 6784;
 pub const STEP_WORK: usize = 704;
 
