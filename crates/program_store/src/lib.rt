@@ -195,12 +195,7 @@ pub fn name_answer<W: Write>(writer: &mut W, answer: Answer, runs: &Runs) -> Out
 }
 
 // Names one row by its maker after a call, or says the refusal: of the call, or of a row that is not there.
-pub fn name_row_answer<W: Write>(
-    writer: &mut W,
-    answer: Answer,
-    runs: &Runs,
-    row: usize,
-) -> Output
+pub fn name_row_answer<W: Write>(writer: &mut W, answer: Answer, runs: &Runs, row: usize) -> Output
     ensures bytes { result.bytes ≡ length (maker_answer_text answer (store_of runs.now) row) }
     ensures text { OnOk result.written (Appends (W.contents writer.old) (W.contents writer.new) (maker_answer_text answer (store_of runs.now) row)) }
 {
