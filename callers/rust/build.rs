@@ -5,7 +5,7 @@ fn main() {
     let named = std::env::var("PYWR_LIB").unwrap_or("../../target/staticlib".into());
     let folder = Path::new(env!("CARGO_MANIFEST_DIR")).join(named);
     let library = folder.join("libpywr_c.a");
-    assert!(library.exists(), "{} is not there: `rt staticlib pywr_c` makes it, PYWR_LIB names its folder", library.display());
+    assert!(library.exists(), "{} is not there: `bash tools/make.sh pywr_c` makes it, PYWR_LIB names its folder", library.display());
     println!("cargo:rerun-if-env-changed=PYWR_LIB");
     println!("cargo:rerun-if-changed={}", library.display());
     println!("cargo:rustc-link-search=native={}", folder.display());

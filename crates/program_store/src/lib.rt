@@ -1,7 +1,8 @@
 // The nine runs of a store as one value, for a program that holds one store: the build, the step, the listing and the rows' makers over it.
 #![tactic(auto)]
 
-ghost use Rattle.std.specs.Prelude.{◌≡◌, length};
+ghost use Rattle.std.specs.Prelude.{◌≡◌, length, OnOk};
+ghost use Rattle.std.specs.Io.KnownBytes.{Appends};
 ghost use Rattle.pywr.specs.Cases.{blank};
 ghost use Rattle.pywr.specs.Store.{row_count};
 ghost use Rattle.listing.specs.Listing.{programme_text};
@@ -14,6 +15,7 @@ use layout::{
 };
 use listing::Output;
 use pywr::{Answer, Sentinel};
+use std::io::Write;
 
 #[derive(Drop)]
 pub struct Runs {
@@ -137,71 +139,68 @@ pub fn step(file: &[u8], old: Runs) -> Called
 }
 
 // Lists the programme.
-pub fn list(runs: Runs) -> Output
-    ensures { result.bytes ≡ length (programme_text (store_of runs)) }
+pub fn list<W: Write>(writer: &mut W, runs: &Runs) -> Output
+    ensures bytes { result.bytes ≡ length (programme_text (store_of runs.now)) }
+    ensures text { OnOk result.written (Appends (W.contents writer.old) (W.contents writer.new) (programme_text (store_of runs.now))) }
 {
-    let col_lower = runs.col_lower;
-    let col_upper = runs.col_upper;
-    let col_obj_coef = runs.col_obj_coef;
-    let row_lower = runs.row_lower;
-    let row_upper = runs.row_upper;
-    let elements = runs.elements;
-    let columns = runs.columns;
-    let row_starts = runs.row_starts;
-    let shape = runs.shape;
     listing::list_programme(
-        &col_lower,
-        &col_upper,
-        &col_obj_coef,
-        &row_lower,
-        &row_upper,
-        &elements,
-        &columns,
-        &row_starts,
-        &shape,
+        writer,
+        &runs.col_lower,
+        &runs.col_upper,
+        &runs.col_obj_coef,
+        &runs.row_lower,
+        &runs.row_upper,
+        &runs.elements,
+        &runs.columns,
+        &runs.row_starts,
+        &runs.shape,
     )
 }
 
 // Lists what a call answered: the programme after it, or the refusal.
-pub fn list_answer(answer: Answer, runs: Runs) -> Output
-    ensures { result.bytes ≡ length (answer_text answer (store_of runs)) }
+pub fn list_answer<W: Write>(writer: &mut W, answer: Answer, runs: &Runs) -> Output
+    ensures bytes { result.bytes ≡ length (answer_text answer (store_of runs.now)) }
+    ensures text { OnOk result.written (Appends (W.contents writer.old) (W.contents writer.new) (answer_text answer (store_of runs.now))) }
 {
     match answer {
-        Answer::Refused(number, place) => listing::list_refusal(number, place),
-        Answer::Accepted => list(runs),
+        Answer::Refused(number, place) => listing::list_refusal(writer, number, place),
+        Answer::Accepted => list(writer, runs),
     }
 }
 
-fn name_rows(runs: Runs) -> Output
-    ensures { result.bytes ≡ length (makers_text (store_of runs) (row_count (store_of runs))) }
+fn name_rows<W: Write>(writer: &mut W, runs: &Runs) -> Output
+    ensures bytes { result.bytes ≡ length (makers_text (store_of runs.now) (row_count (store_of runs.now))) }
+    ensures text { OnOk result.written (Appends (W.contents writer.old) (W.contents writer.new)
+        (makers_text (store_of runs.now) (row_count (store_of runs.now)))) }
 {
-    let shape = runs.shape;
-    listing_makers::list_makers(&shape)
+    listing_makers::list_makers(writer, &runs.shape)
 }
 
-fn name_row(runs: Runs, row: usize) -> Output
-    ensures { result.bytes ≡ length (maker_text (store_of runs) row) }
+fn name_row<W: Write>(writer: &mut W, runs: &Runs, row: usize) -> Output
+    ensures bytes { result.bytes ≡ length (maker_text (store_of runs.now) row) }
+    ensures text { OnOk result.written (Appends (W.contents writer.old) (W.contents writer.new) (maker_text (store_of runs.now) row)) }
 {
-    let shape = runs.shape;
-    listing_makers::list_maker(&shape, row)
+    listing_makers::list_maker(writer, &runs.shape, row)
 }
 
 // Names every row by its maker after a call, or says the refusal.
-pub fn name_answer(answer: Answer, runs: Runs) -> Output
-    ensures { result.bytes ≡ length (makers_answer_text answer (store_of runs)) }
+pub fn name_answer<W: Write>(writer: &mut W, answer: Answer, runs: &Runs) -> Output
+    ensures bytes { result.bytes ≡ length (makers_answer_text answer (store_of runs.now)) }
+    ensures text { OnOk result.written (Appends (W.contents writer.old) (W.contents writer.new) (makers_answer_text answer (store_of runs.now))) }
 {
     match answer {
-        Answer::Refused(number, place) => listing::list_refusal(number, place),
-        Answer::Accepted => name_rows(runs),
+        Answer::Refused(number, place) => listing::list_refusal(writer, number, place),
+        Answer::Accepted => name_rows(writer, runs),
     }
 }
 
 // Names one row by its maker after a call, or says the refusal: of the call, or of a row that is not there.
-pub fn name_row_answer(answer: Answer, runs: Runs, row: usize) -> Output
-    ensures { result.bytes ≡ length (maker_answer_text answer (store_of runs) row) }
+pub fn name_row_answer<W: Write>(writer: &mut W, answer: Answer, runs: &Runs, row: usize) -> Output
+    ensures bytes { result.bytes ≡ length (maker_answer_text answer (store_of runs.now) row) }
+    ensures text { OnOk result.written (Appends (W.contents writer.old) (W.contents writer.new) (maker_answer_text answer (store_of runs.now) row)) }
 {
     match answer {
-        Answer::Refused(number, place) => listing::list_refusal(number, place),
-        Answer::Accepted => name_row(runs, row),
+        Answer::Refused(number, place) => listing::list_refusal(writer, number, place),
+        Answer::Accepted => name_row(writer, runs, row),
     }
 }

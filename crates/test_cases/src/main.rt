@@ -17,24 +17,25 @@ use layout::{
     SET_COUNT_AT, SHAPE_LENGTH, STEP_WORK_LENGTH, VARYING_COUNT_AT,
 };
 use program_store::Runs;
+use program_streams::read_all;
 use pywr::{Answer, Sentinel};
+use std::io;
+use std::io::Read;
 
-fn print_number(n: usize) {
-    io::write_all(1, b" ");
-    io::print_decimal(1, n as u64);
+// How many bytes a file has at most.
+const FILE_ROOM: usize = 65536;
+
+fn print_line(rt: &impl Print, line: &[u8]) -> io::Result<()> {
+    rt.write_all(line)?;
+    rt.write_all(b"\n")
 }
 
-fn print_line(line: &[u8]) {
-    io::write_all(1, line);
-    io::write_all(1, b"\n");
-}
-
-fn print_answer(answer: Answer) {
+fn print_answer(rt: &impl Print, answer: Answer) -> io::Result<()> {
     match answer {
         Answer::Refused(number, place) => {
-            listing::list_refusal(number, place);
+            listing::list_refusal(&mut io::writer(rt), number, place).written
         }
-        Answer::Accepted => print_line(b"A"),
+        Answer::Accepted => print_line(rt, b"A"),
     }
 }
 
@@ -46,11 +47,10 @@ fn sentinel(number: u16) -> Sentinel {
     }
 }
 
-fn build(file: &[u8], number: u16, runs: Runs) -> Runs {
+fn build(rt: &impl Print, file: &[u8], number: u16, runs: Runs) -> io::Result<Runs> {
     let built = program_store::build(file, sentinel(number), runs);
-    let answer = built.answer;
-    print_answer(answer);
-    built.runs
+    print_answer(rt, built.answer)?;
+    Ok(built.runs)
 }
 
 // 1 for an element that is not zero, and 0 for zero.
@@ -71,13 +71,12 @@ fn count_marked(run: &[f64]) -> usize {
     count
 }
 
-fn print_work(work: &[f64]) {
+fn print_work(rt: &impl Print, work: &[f64]) -> io::Result<()> {
     let count = count_marked(work);
     if 0 < count {
-        io::write_all(1, b"work");
-        print_number(count);
-        io::write_all(1, b"\n");
+        println!(rt; "work {count}")?;
     }
+    Ok(())
 }
 
 // A run that a step reads, or the run without its last element.
@@ -119,7 +118,7 @@ fn front_mut(run: &mut [f64], short: bool) -> &mut [f64] {
     run
 }
 
-fn step(file: &[u8], short: u16, store: Runs) -> Runs {
+fn step(rt: &impl Print, file: &[u8], short: u16, store: Runs) -> io::Result<Runs> {
     let col_lower = store.col_lower;
     let col_upper = store.col_upper;
     let mut col_obj_coef = store.col_obj_coef;
@@ -143,9 +142,9 @@ fn step(file: &[u8], short: u16, store: Runs) -> Runs {
         front_u16(&shape, short == 8),
         front_mut(&mut work, short == 9),
     );
-    print_answer(answer);
-    print_work(&work);
-    Runs {
+    print_answer(rt, answer)?;
+    print_work(rt, &work)?;
+    Ok(Runs {
         col_lower,
         col_upper,
         col_obj_coef,
@@ -155,53 +154,44 @@ fn step(file: &[u8], short: u16, store: Runs) -> Runs {
         columns,
         row_starts,
         shape,
-    }
+    })
 }
 
-fn print_change(run: &[u8], at: usize, old: u32, new: u16) {
-    io::write_all(1, run);
-    print_number(at);
-    print_number(old as usize);
-    print_number(new as usize);
-    io::write_all(1, b"\n");
+fn print_change(rt: &impl Print, run: &str, at: usize, old: u32, new: u16) -> io::Result<()> {
+    println!(rt; "{run} {at} {old} {new}")
 }
 
-fn change_shape(mut store: Runs, at: usize, word: u16) -> Runs {
+fn change_shape(rt: &impl Print, mut store: Runs, at: usize, word: u16) -> io::Result<Runs> {
     if at < SHAPE_LENGTH {
-        print_change(b"shape", at, store.shape[at] as u32, word);
+        print_change(rt, "shape", at, store.shape[at] as u32, word)?;
         store.shape[at] = word;
     }
-    store
+    Ok(store)
 }
 
-fn change_column(mut store: Runs, at: usize, column: u16) -> Runs {
+fn change_column(rt: &impl Print, mut store: Runs, at: usize, column: u16) -> io::Result<Runs> {
     if at < ELEMENT_CEILING {
-        print_change(b"column", at, store.columns[at] as u32, column);
+        print_change(rt, "column", at, store.columns[at] as u32, column)?;
         store.columns[at] = column;
     }
-    store
+    Ok(store)
 }
 
-fn change_start(mut store: Runs, at: usize, start: u16) -> Runs {
+fn change_start(rt: &impl Print, mut store: Runs, at: usize, start: u16) -> io::Result<Runs> {
     if at < ROW_STARTS_LENGTH {
-        print_change(b"start", at, store.row_starts[at], start);
+        print_change(rt, "start", at, store.row_starts[at], start)?;
         store.row_starts[at] = start as u32;
     }
-    store
-}
-
-fn print_sum(a: u16, b: u16) {
-    print_number(a as usize + b as usize);
+    Ok(store)
 }
 
 // The counts that the shape run starts with: columns of edges and of sets, varying and fixed rows, elements.
-fn print_counts(store: Runs) {
-    io::write_all(1, b"P");
-    print_sum(store.shape[EDGE_COLUMN_COUNT_AT], store.shape[SET_COUNT_AT]);
-    print_sum(store.shape[VARYING_COUNT_AT], store.shape[FIXED_COUNT_AT]);
-    print_sum(store.shape[VARYING_COUNT_AT], 0);
-    print_sum(store.shape[ELEMENT_COUNT_AT], 0);
-    io::write_all(1, b"\n");
+fn print_counts(rt: &impl Print, store: &Runs) -> io::Result<()> {
+    let columns = store.shape[EDGE_COLUMN_COUNT_AT] as usize + store.shape[SET_COUNT_AT] as usize;
+    let varying = store.shape[VARYING_COUNT_AT] as usize;
+    let rows = varying + store.shape[FIXED_COUNT_AT] as usize;
+    let elements = store.shape[ELEMENT_COUNT_AT];
+    println!(rt; "P {columns} {rows} {varying} {elements}")
 }
 
 fn word_of(low: u8, high: u8) -> u16 {
@@ -209,30 +199,30 @@ fn word_of(low: u8, high: u8) -> u16 {
 }
 
 // Runs a command on the store; a letter that is none does nothing.
-fn run(command: [u8; 5], file: &[u8], store: Runs) -> Runs {
+fn run(rt: &impl Print, command: [u8; 5], file: &[u8], store: Runs) -> io::Result<Runs> {
     let letter = command[0];
     let first = word_of(command[1], command[2]);
     let second = word_of(command[3], command[4]);
     match letter {
         b'T' => {
-            print_line(file);
-            store
+            print_line(rt, file)?;
+            Ok(store)
         }
-        b'B' => build(file, first, store),
-        b'S' => step(file, first, store),
-        b'H' => change_shape(store, first as usize, second),
-        b'C' => change_column(store, first as usize, second),
-        b'R' => change_start(store, first as usize, second),
+        b'B' => build(rt, file, first, store),
+        b'S' => step(rt, file, first, store),
+        b'H' => change_shape(rt, store, first as usize, second),
+        b'C' => change_column(rt, store, first as usize, second),
+        b'R' => change_start(rt, store, first as usize, second),
         b'P' => {
-            print_counts(store);
-            store
+            print_counts(rt, &store)?;
+            Ok(store)
         }
         b'L' => {
-            program_store::list(store);
-            store
+            program_store::list(&mut io::writer(rt), &store).written?;
+            Ok(store)
         }
-        b'Z' => program_store::zeros(),
-        _ => store,
+        b'Z' => Ok(program_store::zeros()),
+        _ => Ok(store),
     }
 }
 
@@ -251,29 +241,29 @@ fn file_length(command: [u8; 5]) -> usize
     }
 }
 
-// Reads n bytes of standard input; answers whether it had as many.
-fn read(buffer: &mut [u8], n: usize) -> bool
+// Reads n bytes; answers whether there were as many.
+fn read(reader: &mut impl Read, buffer: &mut [u8], n: usize) -> io::Result<bool>
     requires { n ≤ length buffer.old }
 {
-    let got = io::read_full(0, &mut buffer[0..n]);
-    got == n
+    let got = read_all(reader, &mut buffer[..n])?;
+    Ok(got == n)
 }
 
 // At most 65,536 commands.
-fn main() {
-    let mut buffer = io::large_buffer();
+fn main(rt: HostRuntime) -> io::Result<()> {
+    let mut input = rt.stdin();
+    let mut buffer = [0u8; FILE_ROOM];
     let mut store = program_store::zeros();
-    let mut i: usize = 0;
-    while i < 65536 {
+    for _ in 0..65536u32 {
         let mut command = [0u8; 5];
-        if !read(&mut command, 5) {
-            return;
+        if !read(&mut input, &mut command, 5)? {
+            return Ok(());
         }
         let n = file_length(command);
-        if !read(&mut buffer, n) {
-            return;
+        if !read(&mut input, &mut buffer, n)? {
+            return Ok(());
         }
-        store = run(command, &buffer[0..n], store);
-        i += 1;
+        store = run(&rt, command, &buffer[..n], store)?;
     }
+    Ok(())
 }

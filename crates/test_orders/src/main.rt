@@ -3,7 +3,7 @@
 // counts; a refused build would count as no column. scripts/lines.py writes what must come out.
 #![tactic(auto)]
 
-ghost use Rattle.std.specs.Prelude.{◌<◌, ◌≤◌, length};
+ghost use Rattle.std.specs.Prelude.{◌<◌, ◌≤◌, length, IfOk};
 
 use layout::{
     BY_MASS, EDGE_COLUMN_COUNT_AT, EDGE_WIDTH, EDGES_AT, ELEMENT_CEILING, FIXED_COUNT_AT,
@@ -11,6 +11,7 @@ use layout::{
 };
 use program_store::Runs;
 use pywr::Sentinel;
+use std::io;
 
 const MOST_NODES: usize = 6;
 
@@ -71,10 +72,8 @@ fn in_order(given: Edges, count: usize, k: usize) -> Edges
     requires { count ≤ 5 }
 {
     let mut edges = given;
-    let mut i: usize = 0;
-    while i < count {
+    for i in 0..count {
         move_edge(&mut edges, i + next_edge(k, count - i), i);
-        i += 1;
     }
     edges
 }
@@ -83,27 +82,23 @@ fn in_order(given: Edges, count: usize, k: usize) -> Edges
 fn put_nodes(file: &mut [u8; FILE_LENGTH], kinds: &[u8])
     requires { length kinds.now ≤ 6 }
 {
-    let mut n: usize = 0;
-    while n < kinds.len() {
+    for n in 0..kinds.len() {
         let at = NODE_LENGTH * n;
         file[at] = b'N';
         file[at + 1] = b'D';
         file[at + 2] = kinds[n];
-        n += 1;
     }
 }
 
 fn put_edges(file: &mut [u8; FILE_LENGTH], start: usize, edges: Edges, count: usize)
     requires { (start ≤ 120) × (count ≤ 5) }
 {
-    let mut e: usize = 0;
-    while e < count {
+    for e in 0..count {
         let at = start + EDGE_LENGTH * e;
         file[at] = b'E';
         file[at + 1] = b'D';
         file[at + 2] = edges[e] / 16;
         file[at + 4] = edges[e] % 16;
-        e += 1;
     }
 }
 
@@ -124,47 +119,32 @@ fn build(kinds: &[u8], edges: Edges, count: usize) -> Runs
     build_front(file, start + EDGE_LENGTH * count)
 }
 
-fn print_number(n: usize) {
-    io::write_all(1, b" ");
-    io::print_decimal(1, widths::usize_to_u64(n));
-}
-
-fn print_word(word: u16) {
-    print_number(widths::wide16(word));
-}
-
-fn print_counts(columns: usize, mass: usize) {
-    io::write_all(1, b"columns");
-    print_number(columns);
-    io::write_all(1, b", mass rows");
-    print_number(mass);
+fn print_counts(rt: &impl Print, columns: usize, mass: usize) -> io::Result<()> {
+    print!(rt; "columns {columns}, mass rows {mass}")
 }
 
 // The edges as they are keyed, each with its column.
-fn print_edges(store: Runs, edges: Edges, count: usize)
+fn print_edges(rt: &impl Print, store: &Runs, edges: Edges, count: usize) -> io::Result<()>
     requires { count ≤ 5 }
 {
-    let mut e: usize = 0;
-    while e < count {
-        io::print_decimal(1, widths::byte_to_u64(edges[e] / 16));
-        io::write_all(1, b"-");
-        io::print_decimal(1, widths::byte_to_u64(edges[e] % 16));
-        io::write_all(1, b" in");
-        print_word(store.shape[EDGES_AT + EDGE_WIDTH * e + MAPPED_COLUMN]);
-        io::write_all(1, b"; ");
-        e += 1;
+    for e in 0..count {
+        let from = edges[e] / 16;
+        let to = edges[e] % 16;
+        let column = store.shape[EDGES_AT + EDGE_WIDTH * e + MAPPED_COLUMN];
+        print!(rt; "{from}-{to} in {column}; ")?;
     }
+    Ok(())
 }
 
-fn print_element(x: f64) {
+fn print_element(rt: &impl Print, x: f64) -> io::Result<()> {
     if x == 1.0 {
-        io::write_all(1, b" 1");
+        print!(rt; " 1")
     } else if x == -1.0 {
-        io::write_all(1, b" -1");
+        print!(rt; " -1")
     } else if x == 0.0 {
-        io::write_all(1, b" 0");
+        print!(rt; " 0")
     } else {
-        io::write_all(1, b" another");
+        print!(rt; " another")
     }
 }
 
@@ -174,46 +154,43 @@ fn least(a: usize, b: usize) -> usize
     if a < b { a } else { b }
 }
 
-fn print_elements(store: Runs, row: usize)
+fn print_elements(rt: &impl Print, store: &Runs, row: usize) -> io::Result<()>
     requires { row < 1024 }
 {
     let end = least(widths::wide32(store.row_starts[row + 1]), ELEMENT_CEILING);
-    let mut at = widths::wide32(store.row_starts[row]);
-    while at < end {
-        print_element(store.elements[at]);
-        at += 1;
+    let start = widths::wide32(store.row_starts[row]);
+    for at in start..end {
+        print_element(rt, store.elements[at])?;
     }
+    Ok(())
 }
 
 // Writes a mass row. Answers 1 for a mass row and 0 for another.
-fn mass_row(store: Runs, row: usize) -> usize
+fn mass_row(rt: &impl Print, store: &Runs, row: usize) -> io::Result<usize>
     requires { row < 1024 }
-    ensures { result ≤ 1 }
+    ensures { IfOk result (λ n. n ≤ 1) }
 {
     let at = MAKERS_AT + MAKER_WIDTH * row;
     if store.shape[at] != BY_MASS {
-        return 0;
+        return Ok(0);
     }
-    io::write_all(1, b"link");
-    print_word(store.shape[at + MAKER_INDEX]);
-    io::write_all(1, b":");
-    print_elements(store, row);
-    io::write_all(1, b"; ");
-    1
+    let link = store.shape[at + MAKER_INDEX];
+    print!(rt; "link {link}:")?;
+    print_elements(rt, store, row)?;
+    print!(rt; "; ")?;
+    Ok(1)
 }
 
 // Writes the mass rows. Answers how many there are.
-fn mass_rows(store: Runs) -> usize {
+fn mass_rows(rt: &impl Print, store: &Runs) -> io::Result<usize> {
     let made = widths::wide16(store.shape[VARYING_COUNT_AT])
         + widths::wide16(store.shape[FIXED_COUNT_AT]);
     let rows = least(made, ROW_CEILING);
     let mut count: usize = 0;
-    let mut row: usize = 0;
-    while row < rows {
-        count += mass_row(store, row);
-        row += 1;
+    for row in 0..rows {
+        count += mass_row(rt, store, row)?;
     }
-    count
+    Ok(count)
 }
 
 // At 6 c + m stands how many orders gave c columns and m mass rows.
@@ -228,74 +205,71 @@ fn count_order(tally: &mut Tally, columns: usize, mass: usize) {
     }
 }
 
-fn print_tally(tally: Tally) {
-    let mut at: usize = 0;
-    while at < 36 {
-        let orders = tally[at];
-        if 0 < orders {
-            print_counts(at / 6, at % 6);
-            io::write_all(1, b": orders");
-            print_word(orders);
-            io::write_all(1, b"\n");
+fn print_tally(rt: &impl Print, tally: &Tally) -> io::Result<()> {
+    for (at, orders) in tally.iter().enumerate() {
+        if 0 < *orders {
+            print_counts(rt, at / 6, at % 6)?;
+            println!(rt; ": orders {orders}")?;
         }
-        at += 1;
     }
+    Ok(())
 }
 
-fn every_order(kinds: &[u8], edges: Edges, count: usize)
+fn every_order(rt: &impl Print, kinds: &[u8], edges: Edges, count: usize) -> io::Result<()>
     requires { (length kinds.now ≤ 6) × (count ≤ 5) }
 {
     let mut tally = [0u16; 36];
-    let end = orders(count);
-    let mut k: usize = 0;
-    while k < end {
+    for k in 0..orders(count) {
         let keyed = in_order(edges, count, k);
         let store = build(kinds, keyed, count);
-        print_edges(store, keyed, count);
-        let mass = mass_rows(store);
+        print_edges(rt, &store, keyed, count)?;
+        let mass = mass_rows(rt, &store)?;
         let columns = widths::wide16(store.shape[EDGE_COLUMN_COUNT_AT]);
-        print_counts(columns, mass);
-        io::write_all(1, b"\n");
+        print_counts(rt, columns, mass)?;
+        println!(rt)?;
         count_order(&mut tally, columns, mass);
-        k += 1;
     }
-    print_tally(tally);
+    print_tally(rt, &tally)
 }
 
-fn chain() {
-    io::write_all(1, b"# a chain: input 0, links 1 to 3, output 4\n");
+fn chain(rt: &impl Print) -> io::Result<()> {
+    println!(rt; "# a chain: input 0, links 1 to 3, output 4")?;
     every_order(
+        rt,
         &[INPUT, LINK, LINK, LINK, OUTPUT],
         [0x01, 0x12, 0x23, 0x34, 0],
         4,
-    );
+    )
 }
 
-fn ring_behind_an_input() {
-    io::write_all(1, b"# a ring behind an input: input 0, links 1 and 2\n");
-    every_order(&[INPUT, LINK, LINK], [0x01, 0x12, 0x21, 0, 0], 3);
+fn ring_behind_an_input(rt: &impl Print) -> io::Result<()> {
+    println!(rt; "# a ring behind an input: input 0, links 1 and 2")?;
+    every_order(rt, &[INPUT, LINK, LINK], [0x01, 0x12, 0x21, 0, 0], 3)
 }
 
-fn closed_ring() {
-    io::write_all(1, b"# a closed ring: links 0 to 3\n");
-    every_order(&[LINK, LINK, LINK, LINK], [0x01, 0x12, 0x23, 0x30, 0], 4);
-}
-
-fn meeting_chains() {
-    io::write_all(
-        1,
-        b"# two chains that meet: inputs 0 and 1, links 2 to 4, output 5\n",
-    );
+fn closed_ring(rt: &impl Print) -> io::Result<()> {
+    println!(rt; "# a closed ring: links 0 to 3")?;
     every_order(
+        rt,
+        &[LINK, LINK, LINK, LINK],
+        [0x01, 0x12, 0x23, 0x30, 0],
+        4,
+    )
+}
+
+fn meeting_chains(rt: &impl Print) -> io::Result<()> {
+    println!(rt; "# two chains that meet: inputs 0 and 1, links 2 to 4, output 5")?;
+    every_order(
+        rt,
         &[INPUT, INPUT, LINK, LINK, LINK, OUTPUT],
         [0x02, 0x24, 0x13, 0x34, 0x45],
         5,
-    );
+    )
 }
 
-fn main() {
-    chain();
-    ring_behind_an_input();
-    closed_ring();
-    meeting_chains();
+fn main(rt: HostRuntime) -> io::Result<()> {
+    chain(&rt)?;
+    ring_behind_an_input(&rt)?;
+    closed_ring(&rt)?;
+    meeting_chains(&rt)
 }

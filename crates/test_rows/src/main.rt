@@ -16,6 +16,7 @@ use layout::{
     SHAPE_LENGTH, VARYING_COUNT_AT, VIRTUAL_STORAGE_CEILING, VIRTUAL_STORAGE_COUNT_AT,
     VIRTUAL_STORAGES_AT,
 };
+use std::io;
 
 // The second entries of the tables of nodes and of node rows.
 const SECOND_NODE: usize = NODES_AT + NODE_WIDTH;
@@ -126,13 +127,15 @@ fn front_u16(run: &[u16], short: bool) -> &[u16] {
     run
 }
 
-fn print_number(n: usize) {
-    io::write_all(1, b" ");
-    io::print_decimal(1, n as u64);
-}
-
 // Reads a row of the store with these runs and runs of zeros; run `short`, if under 9, is one short.
-fn read(columns: &[u16], row_starts: &[u32], shape: &[u16], row: usize, short: usize) {
+fn read(
+    rt: &impl Print,
+    columns: &[u16],
+    row_starts: &[u32],
+    shape: &[u16],
+    row: usize,
+    short: usize,
+) -> io::Result<()> {
     let col_lower = [0.0f64; COLUMN_CEILING];
     let col_upper = [0.0f64; COLUMN_CEILING];
     let col_obj_coef = [0.0f64; COLUMN_CEILING];
@@ -156,211 +159,199 @@ fn read(columns: &[u16], row_starts: &[u32], shape: &[u16], row: usize, short: u
         &mut place,
     );
     let length = part.len();
-    io::write_all(1, b":");
-    print_number(number as usize);
-    print_number(place);
-    print_number(length);
-    io::write_all(1, b"\n");
+    println!(rt; ": {number} {place} {length}")
 }
 
-fn row(r: usize) {
+fn row(rt: &impl Print, r: usize) -> io::Result<()> {
     let columns = small_columns();
     let starts = small_starts();
     let shape = small_shape();
-    io::write_all(1, b"row");
-    print_number(r);
-    read(&columns, &starts, &shape, r, 9);
+    print!(rt; "row {r}")?;
+    read(rt, &columns, &starts, &shape, r, 9);
 }
 
-fn short_run(k: usize) {
+fn short_run(rt: &impl Print, k: usize) -> io::Result<()> {
     let columns = small_columns();
     let starts = small_starts();
     let shape = small_shape();
-    io::write_all(1, b"short");
-    print_number(k);
-    read(&columns, &starts, &shape, 4, k);
+    print!(rt; "short {k}")?;
+    read(rt, &columns, &starts, &shape, 4, k);
 }
 
 // The same with another maker of row 3.
-fn maker(kind: u16, index: u16, shared_by: u16) {
+fn maker(rt: &impl Print, kind: u16, index: u16, shared_by: u16) -> io::Result<()> {
     let columns = small_columns();
     let starts = small_starts();
     let shape = shape_with(kind, index, shared_by);
-    io::write_all(1, b"maker");
-    print_number(kind as usize);
-    print_number(index as usize);
-    print_number(shared_by as usize);
-    read(&columns, &starts, &shape, 0, 9);
+    print!(rt; "maker {kind} {index} {shared_by}")?;
+    read(rt, &columns, &starts, &shape, 0, 9);
 }
 
-fn shape_word(at: usize, word: u16) {
+fn shape_word(rt: &impl Print, at: usize, word: u16) -> io::Result<()> {
     let columns = small_columns();
     let starts = small_starts();
     let mut shape = small_shape();
     if at < SHAPE_LENGTH {
         shape[at] = word;
-        io::write_all(1, b"shape");
-        print_number(at);
-        print_number(word as usize);
-        read(&columns, &starts, &shape, 0, 9);
+        print!(rt; "shape {at} {word}")?;
+        read(rt, &columns, &starts, &shape, 0, 9)?;
     }
+    Ok(())
 }
 
-fn row_start(r: usize, start: u32) {
+fn row_start(rt: &impl Print, r: usize, start: u32) -> io::Result<()> {
     let columns = small_columns();
     let mut starts = small_starts();
     let shape = small_shape();
     if r < ROW_STARTS_LENGTH {
         starts[r] = start;
-        io::write_all(1, b"start");
-        print_number(r);
-        print_number(start as usize);
-        read(&columns, &starts, &shape, 0, 9);
+        print!(rt; "start {r} {start}")?;
+        read(rt, &columns, &starts, &shape, 0, 9)?;
     }
+    Ok(())
 }
 
-fn column(at: usize, column: u16) {
+fn column(rt: &impl Print, at: usize, column: u16) -> io::Result<()> {
     let mut columns = small_columns();
     let starts = small_starts();
     let shape = small_shape();
     if at < ELEMENT_CEILING {
         columns[at] = column;
-        io::write_all(1, b"column");
-        print_number(at);
-        print_number(column as usize);
-        read(&columns, &starts, &shape, 0, 9);
+        print!(rt; "column {at} {column}")?;
+        read(rt, &columns, &starts, &shape, 0, 9)?;
     }
+    Ok(())
 }
 
-fn rows() {
-    row(0);
-    row(1);
-    row(2);
-    row(3);
-    row(4);
-    row(ROW_CEILING);
-    row(18446744073709551615);
+fn rows(rt: &impl Print) -> io::Result<()> {
+    row(rt, 0)?;
+    row(rt, 1)?;
+    row(rt, 2)?;
+    row(rt, 3)?;
+    row(rt, 4)?;
+    row(rt, ROW_CEILING)?;
+    row(rt, 18446744073709551615)
 }
 
-fn short_runs() {
-    short_run(0);
-    short_run(1);
-    short_run(2);
-    short_run(3);
-    short_run(4);
-    short_run(5);
-    short_run(6);
-    short_run(7);
-    short_run(8);
+fn short_runs(rt: &impl Print) -> io::Result<()> {
+    short_run(rt, 0)?;
+    short_run(rt, 1)?;
+    short_run(rt, 2)?;
+    short_run(rt, 3)?;
+    short_run(rt, 4)?;
+    short_run(rt, 5)?;
+    short_run(rt, 6)?;
+    short_run(rt, 7)?;
+    short_run(rt, 8)
 }
 
 // The other sentinel, neither, each count over its ceiling, and an element count that the starts do not end at.
-fn counts() {
-    shape_word(SENTINEL_AT, 1);
-    shape_word(SENTINEL_AT, 2);
-    shape_word(NODE_COUNT_AT, NODE_CEILING as u16 + 1);
-    shape_word(EDGE_COUNT_AT, EDGE_CEILING as u16 + 1);
-    shape_word(EDGE_COLUMN_COUNT_AT, EDGE_CEILING as u16 + 1);
-    shape_word(SET_COUNT_AT, SET_CEILING as u16 + 1);
-    shape_word(VARYING_COUNT_AT, ROW_CEILING as u16 - 1);
-    shape_word(FIXED_COUNT_AT, ROW_CEILING as u16 - 1);
-    shape_word(ELEMENT_COUNT_AT, ELEMENT_CEILING as u16 + 1);
-    shape_word(NODE_ROW_COUNT_AT, NODE_ROW_CEILING as u16 + 1);
-    shape_word(AGGREGATE_COUNT_AT, AGGREGATE_CEILING as u16 + 1);
-    shape_word(VIRTUAL_STORAGE_COUNT_AT, VIRTUAL_STORAGE_CEILING as u16 + 1);
-    shape_word(ELEMENT_COUNT_AT, 3);
+fn counts(rt: &impl Print) -> io::Result<()> {
+    shape_word(rt, SENTINEL_AT, 1)?;
+    shape_word(rt, SENTINEL_AT, 2)?;
+    shape_word(rt, NODE_COUNT_AT, NODE_CEILING as u16 + 1)?;
+    shape_word(rt, EDGE_COUNT_AT, EDGE_CEILING as u16 + 1)?;
+    shape_word(rt, EDGE_COLUMN_COUNT_AT, EDGE_CEILING as u16 + 1)?;
+    shape_word(rt, SET_COUNT_AT, SET_CEILING as u16 + 1)?;
+    shape_word(rt, VARYING_COUNT_AT, ROW_CEILING as u16 - 1)?;
+    shape_word(rt, FIXED_COUNT_AT, ROW_CEILING as u16 - 1)?;
+    shape_word(rt, ELEMENT_COUNT_AT, ELEMENT_CEILING as u16 + 1)?;
+    shape_word(rt, NODE_ROW_COUNT_AT, NODE_ROW_CEILING as u16 + 1)?;
+    shape_word(rt, AGGREGATE_COUNT_AT, AGGREGATE_CEILING as u16 + 1)?;
+    shape_word(rt, VIRTUAL_STORAGE_COUNT_AT, VIRTUAL_STORAGE_CEILING as u16 + 1)?;
+    shape_word(rt, ELEMENT_COUNT_AT, 3)
 }
 
 // A node's kind and flag; an edge's nodes and column; an aggregate's row; a virtual storage's row and flag.
-fn tables() {
-    shape_word(NODES_AT, 3);
-    shape_word(NODES_AT, 4);
-    shape_word(NODES_AT + NODE_FLAG, 2);
-    shape_word(EDGES_AT, 2);
-    shape_word(EDGES_AT + EDGE_TO, 2);
-    shape_word(EDGES_AT + MAPPED_COLUMN, 1);
-    shape_word(AGGREGATES_AT, 1);
-    shape_word(AGGREGATES_AT, 2);
-    shape_word(VIRTUAL_STORAGES_AT, 2);
-    shape_word(VIRTUAL_STORAGES_AT + PERIOD_FLAG, 0);
-    shape_word(VIRTUAL_STORAGES_AT + PERIOD_FLAG, 2);
+fn tables(rt: &impl Print) -> io::Result<()> {
+    shape_word(rt, NODES_AT, 3)?;
+    shape_word(rt, NODES_AT, 4)?;
+    shape_word(rt, NODES_AT + NODE_FLAG, 2)?;
+    shape_word(rt, EDGES_AT, 2)?;
+    shape_word(rt, EDGES_AT + EDGE_TO, 2)?;
+    shape_word(rt, EDGES_AT + MAPPED_COLUMN, 1)?;
+    shape_word(rt, AGGREGATES_AT, 1)?;
+    shape_word(rt, AGGREGATES_AT, 2)?;
+    shape_word(rt, VIRTUAL_STORAGES_AT, 2)?;
+    shape_word(rt, VIRTUAL_STORAGES_AT + PERIOD_FLAG, 0)?;
+    shape_word(rt, VIRTUAL_STORAGES_AT + PERIOD_FLAG, 2)
 }
 
 // The second node row: its node, its row (row 0 has no integer column), its type (without a type its set is not read) and its set.
-fn node_rows() {
-    shape_word(SECOND_NODE_ROW, 2);
-    shape_word(SECOND_NODE_ROW + NODE_ROW_ROW, 2);
-    shape_word(SECOND_NODE_ROW + NODE_ROW_ROW, 0);
-    shape_word(SECOND_NODE_ROW + NODE_ROW_TYPE, 2);
-    shape_word(SECOND_NODE_ROW + NODE_ROW_TYPE, 3);
-    shape_word(SECOND_NODE_ROW + NODE_ROW_SET, 1);
-    shape_word(NODE_ROWS_AT + NODE_ROW_SET, 1);
+fn node_rows(rt: &impl Print) -> io::Result<()> {
+    shape_word(rt, SECOND_NODE_ROW, 2)?;
+    shape_word(rt, SECOND_NODE_ROW + NODE_ROW_ROW, 2)?;
+    shape_word(rt, SECOND_NODE_ROW + NODE_ROW_ROW, 0)?;
+    shape_word(rt, SECOND_NODE_ROW + NODE_ROW_TYPE, 2)?;
+    shape_word(rt, SECOND_NODE_ROW + NODE_ROW_TYPE, 3)?;
+    shape_word(rt, SECOND_NODE_ROW + NODE_ROW_SET, 1)?;
+    shape_word(rt, NODE_ROWS_AT + NODE_ROW_SET, 1)
 }
 
 // Of the first, the third and the last row's maker each word out of range; what stands behind the last is not read.
-fn maker_words() {
-    shape_word(MAKERS_AT, 5);
-    shape_word(MAKERS_AT + MAKER_INDEX, 1);
-    shape_word(MAKERS_AT + MAKER_INDEX, 2);
-    shape_word(MAKERS_AT + MAKER_SHARED_BY, 0);
-    shape_word(THIRD_MAKER, 5);
-    shape_word(THIRD_MAKER + MAKER_INDEX, 2);
-    shape_word(THIRD_MAKER + MAKER_SHARED_BY, 0);
-    shape_word(FOURTH_MAKER, 65535);
-    shape_word(FOURTH_MAKER + MAKER_INDEX, 1);
-    shape_word(FOURTH_MAKER + MAKER_SHARED_BY, 0);
-    shape_word(FOURTH_MAKER + MAKER_SHARED_BY, 65535);
-    shape_word(FIFTH_MAKER, 5);
-    shape_word(FIFTH_MAKER + MAKER_INDEX, 65535);
+fn maker_words(rt: &impl Print) -> io::Result<()> {
+    shape_word(rt, MAKERS_AT, 5)?;
+    shape_word(rt, MAKERS_AT + MAKER_INDEX, 1)?;
+    shape_word(rt, MAKERS_AT + MAKER_INDEX, 2)?;
+    shape_word(rt, MAKERS_AT + MAKER_SHARED_BY, 0)?;
+    shape_word(rt, THIRD_MAKER, 5)?;
+    shape_word(rt, THIRD_MAKER + MAKER_INDEX, 2)?;
+    shape_word(rt, THIRD_MAKER + MAKER_SHARED_BY, 0)?;
+    shape_word(rt, FOURTH_MAKER, 65535)?;
+    shape_word(rt, FOURTH_MAKER + MAKER_INDEX, 1)?;
+    shape_word(rt, FOURTH_MAKER + MAKER_SHARED_BY, 0)?;
+    shape_word(rt, FOURTH_MAKER + MAKER_SHARED_BY, 65535)?;
+    shape_word(rt, FIFTH_MAKER, 5)?;
+    shape_word(rt, FIFTH_MAKER + MAKER_INDEX, 65535)
 }
 
 // Each kind with its last index and the one behind it, of two nodes, one aggregate and one virtual storage; shared by none; no such kind.
-fn makers() {
-    maker(0, 1, 1);
-    maker(0, 2, 1);
-    maker(0, 1, 0);
-    maker(1, 1, 1);
-    maker(1, 2, 1);
-    maker(1, 1, 0);
-    maker(2, 0, 1);
-    maker(2, 1, 1);
-    maker(2, 0, 0);
-    maker(3, 0, 1);
-    maker(3, 1, 1);
-    maker(3, 0, 0);
-    maker(4, 0, 1);
-    maker(4, 1, 1);
-    maker(4, 0, 0);
-    maker(5, 0, 1);
+fn makers(rt: &impl Print) -> io::Result<()> {
+    maker(rt, 0, 1, 1)?;
+    maker(rt, 0, 2, 1)?;
+    maker(rt, 0, 1, 0)?;
+    maker(rt, 1, 1, 1)?;
+    maker(rt, 1, 2, 1)?;
+    maker(rt, 1, 1, 0)?;
+    maker(rt, 2, 0, 1)?;
+    maker(rt, 2, 1, 1)?;
+    maker(rt, 2, 0, 0)?;
+    maker(rt, 3, 0, 1)?;
+    maker(rt, 3, 1, 1)?;
+    maker(rt, 3, 0, 0)?;
+    maker(rt, 4, 0, 1)?;
+    maker(rt, 4, 1, 1)?;
+    maker(rt, 4, 0, 0)?;
+    maker(rt, 5, 0, 1)
 }
 
 // Not from 0; falling; not ending at the element count; row 2 empty and row 3 not; row 2 with columns 1, 0; row 1 with columns 0, 0, 1.
-fn row_starts() {
-    row_start(0, 1);
-    row_start(1, 4);
-    row_start(4, 5);
-    row_start(3, 3);
-    row_start(2, 2);
-    row_start(1, 0);
+fn row_starts(rt: &impl Print) -> io::Result<()> {
+    row_start(rt, 0, 1)?;
+    row_start(rt, 1, 4)?;
+    row_start(rt, 4, 5)?;
+    row_start(rt, 3, 3)?;
+    row_start(rt, 2, 2)?;
+    row_start(rt, 1, 0)
 }
 
 // Out of range; row 1 with columns 1, 1 and 0, 0; another column in row 2; a column behind the last row, which is not read.
-fn columns() {
-    column(0, 2);
-    column(1, 1);
-    column(2, 0);
-    column(3, 1);
-    column(4, 2);
+fn columns(rt: &impl Print) -> io::Result<()> {
+    column(rt, 0, 2)?;
+    column(rt, 1, 1)?;
+    column(rt, 2, 0)?;
+    column(rt, 3, 1)?;
+    column(rt, 4, 2)
 }
 
-fn main() {
-    rows();
-    short_runs();
-    counts();
-    tables();
-    node_rows();
-    maker_words();
-    makers();
-    row_starts();
-    columns();
+fn main(rt: HostRuntime) -> io::Result<()> {
+    rows(&rt)?;
+    short_runs(&rt)?;
+    counts(&rt)?;
+    tables(&rt)?;
+    node_rows(&rt)?;
+    maker_words(&rt)?;
+    makers(&rt)?;
+    row_starts(&rt)?;
+    columns(&rt)
 }
