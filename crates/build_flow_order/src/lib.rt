@@ -1,4 +1,6 @@
 // The edges in flow order: "Sum each column in flow order; a closed ring starts at its lowest edge." (document 02, L10)
+#![tactic(auto)]
+
 ghost use Rattle.std.specs.Prelude.{◌≡◌, ℕ, ◌+◌, ◌<◌, ◌≤◌, List, [], length};
 ghost use Rattle.std.proofs.Math.Option.{some};
 ghost use Rattle.std.proofs.lemmas.List.Edits.{sets};

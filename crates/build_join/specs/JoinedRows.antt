@@ -6,7 +6,6 @@ use Rattle.pywr.specs.declared.Sentinel.{Sentinel}
 use Rattle.pywr.specs.Rows.{Element}
 use Rattle.pywr.specs.VariableRows.{Joined, add_variable_rows}
 use Rattle.pywr.specs.VaryingRows.{fresh_row}
-use Rattle.build_row.specs.RowBuilder.{gathered, Rising}
 use Rattle.build_append.specs.declared.Filled.{Filled}
 use Rattle.build_append.specs.declared.RowsAdded.{RowsAdded}
 use Rattle.build_append.specs.declared.RowsAdded.TheVariants.{Done, Full}

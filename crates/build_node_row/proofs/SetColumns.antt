@@ -3,7 +3,6 @@ use mathlib.Core.Path.{◌≡◌}
 use Prim.Native.Nat.{ℕ, ◌+◌, ◌<◌}
 use native.Mathlib.Omega.{arith}
 use mathlib.Core.List.{List}
-use lib.ListN.{length}
 use Rattle.pywr.specs.ColEdgeMap.{columns}
 use Rattle.network_laws.proofs.Index.{edge_count}
 use Rattle.network_record.specs.declared.Counts.{Counts}

@@ -1,6 +1,5 @@
 -- `build_col_edge_map::map_edges` meets its contract. The loop's invariant: the table holds the columns after the first e edges.
 -- The measure is how many edges are left.
-use Prim.Native.Nat.{◌-◌}
 use mathlib.Core.Path.{sym, ◌∙◌}
 use native.Mathlib.Nat.{le_trans}
 use native.Mathlib.Omega.{arith}

@@ -1,6 +1,5 @@
 -- `build_col_edge_map::unite_under` meets its contract. The loop's invariant: the entries before e are united, the rest stands as it was.
 -- The measure is how many edges are left.
-use Prim.Native.Nat.{◌-◌}
 use mathlib.Core.Path.{refl}
 use Rattle.build_col_edge_map.proofs.MappedLaws.{next_united, all_united, mapped_united}
 use borrow.Author.Rules.{rules}

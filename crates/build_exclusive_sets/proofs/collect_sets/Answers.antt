@@ -1,5 +1,5 @@
 -- `build_exclusive_sets::collect_sets` meets its contract: the sets of the first i aggregates were collected.
-use Prim.Native.Nat.{ℕ, ◌-◌}
+use Prim.Native.Nat.{ℕ}
 use mathlib.Core.Path.{sym, subst, ◌∙◌}
 use native.Mathlib.Omega.{arith}
 use Rattle.network_edge.specs.Edge.{edge_place}
@@ -20,8 +20,8 @@ is_exclusive-requires c =
     let collecting : let p = c.args in Collecting p.s.now (edge_place p.c.nodes p.c.edges) p.c.aggregates c.loop-i.set_at c.loop-i.count c.loop-i.at c.loop-i.i = rw c.edges_end-at.ensures at c.loop-i.invariant in
     -- the aggregate that stands next
     let fits : AggregatePassed c.args.s.now 256 c.loop-i.at =
-        subst (λ (at : ℕ). AggregatePassed c.args.s.now 256 at) (sym collecting.stands)
-        (aggregate_passed_256 _ _ _ _ _ _ c.requires.0 c.loop-i.i c.loop-i-test.true) in
+    subst (λ (at : ℕ). AggregatePassed c.args.s.now 256 at) (sym collecting.stands)
+    (aggregate_passed_256 _ _ _ _ _ _ c.requires.0 c.loop-i.i c.loop-i-test.true) in
     fields_within _ _ _ fits
 
 pub add_sets-r-requires : goal.add_sets-r-requires
@@ -30,8 +30,8 @@ add_sets-r-requires c =
     let collecting : let p = c.args in Collecting p.s.now (edge_place p.c.nodes p.c.edges) p.c.aggregates c.loop-i.set_at c.loop-i.count c.loop-i.at c.loop-i.i = rw c.edges_end-at.ensures at c.loop-i.invariant in
     -- the aggregate that stands next
     let fits : AggregatePassed c.args.s.now 256 c.loop-i.at =
-        subst (λ (at : ℕ). AggregatePassed c.args.s.now 256 at) (sym collecting.stands)
-        (aggregate_passed_256 _ _ _ _ _ _ c.requires.0 c.loop-i.i c.loop-i-test.true) in
+    subst (λ (at : ℕ). AggregatePassed c.args.s.now 256 at) (sym collecting.stands)
+    (aggregate_passed_256 _ _ _ _ _ _ c.requires.0 c.loop-i.i c.loop-i-test.true) in
     (fits, c.loop-i.invariant.fit, let h = few_bytes _ _ _ _ _ _ c.requires.0 in omega arith)
 
 pub returns-in-TooMany : goal.returns-in-TooMany
@@ -49,8 +49,8 @@ aggregate_end-at-requires c =
     let collecting : let p = c.args in Collecting p.s.now (edge_place p.c.nodes p.c.edges) p.c.aggregates c.loop-i.set_at c.loop-i.count c.loop-i.at c.loop-i.i = rw c.edges_end-at.ensures at c.loop-i.invariant in
     -- the aggregate that stands next
     let fits : AggregatePassed c.args.s.now 256 c.loop-i.at =
-        subst (λ (at : ℕ). AggregatePassed c.args.s.now 256 at) (sym collecting.stands)
-        (aggregate_passed_256 _ _ _ _ _ _ c.requires.0 c.loop-i.i c.loop-i-test.true) in
+    subst (λ (at : ℕ). AggregatePassed c.args.s.now 256 at) (sym collecting.stands)
+    (aggregate_passed_256 _ _ _ _ _ _ c.requires.0 c.loop-i.i c.loop-i-test.true) in
     fits.within
 
 pub loop-i-preserved-in-Count : goal.loop-i-preserved-in-Count
@@ -64,8 +64,8 @@ aggregate_end-at-requires-else-is_exclusive c =
     let collecting : let p = c.args in Collecting p.s.now (edge_place p.c.nodes p.c.edges) p.c.aggregates c.loop-i.set_at c.loop-i.count c.loop-i.at c.loop-i.i = rw c.edges_end-at.ensures at c.loop-i.invariant in
     -- the aggregate that stands next
     let fits : AggregatePassed c.args.s.now 256 c.loop-i.at =
-        subst (λ (at : ℕ). AggregatePassed c.args.s.now 256 at) (sym collecting.stands)
-        (aggregate_passed_256 _ _ _ _ _ _ c.requires.0 c.loop-i.i c.loop-i-test.true) in
+    subst (λ (at : ℕ). AggregatePassed c.args.s.now 256 at) (sym collecting.stands)
+    (aggregate_passed_256 _ _ _ _ _ _ c.requires.0 c.loop-i.i c.loop-i-test.true) in
     fits.within
 
 pub loop-i-preserved : goal.loop-i-preserved

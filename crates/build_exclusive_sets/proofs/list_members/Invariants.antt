@@ -1,5 +1,5 @@
 -- `build_exclusive_sets::list_members` meets its contract: the memberships in the sets numbered from k are linked.
-use Prim.Native.Nat.{◌*◌, ◌-◌, ◌≤◌}
+use Prim.Native.Nat.{◌*◌, ◌≤◌}
 use Rattle.build_exclusive_sets.specs.Sets.{Memberships}
 use Rattle.build_exclusive_sets.proofs.ListMembers.{from_set}
 use Rattle.build_exclusive_sets.proofs.list_members.Given as goal

@@ -18,24 +18,24 @@ pub bounds-first-n : goal.bounds-first-n
 bounds-first-n c =
     -- a member's number
     let small : c.wide16-n.result < 256 =
-        let i = c.loop-i.i - 1 in
-        omega (arith, c.wide16-n.ensures.0, c.member-m.ensures, c.requires.1.members i (omega arith)) in
+    let i = c.loop-i.i - 1 in
+    omega (arith, c.wide16-n.ensures.0, c.member-m.ensures, c.requires.1.members i (omega arith)) in
     small
 
 pub bounds-first-n-in-loop-i : goal.bounds-first-n-in-loop-i
 bounds-first-n-in-loop-i c =
     -- a member's number
     let small : c.wide16-n.result < 256 =
-        let i = c.loop-i.i - 1 in
-        omega (arith, c.wide16-n.ensures.0, c.member-m.ensures, c.requires.1.members i (omega arith)) in
+    let i = c.loop-i.i - 1 in
+    omega (arith, c.wide16-n.ensures.0, c.member-m.ensures, c.requires.1.members i (omega arith)) in
     small
 
 pub loop-i-preserved : goal.loop-i-preserved
 loop-i-preserved c =
     -- a member's number
     let small : c.wide16-n.result < 256 =
-        let i = c.loop-i.i - 1 in
-        omega (arith, c.wide16-n.ensures.0, c.member-m.ensures, c.requires.1.members i (omega arith)) in
+    let i = c.loop-i.i - 1 in
+    omega (arith, c.wide16-n.ensures.0, c.member-m.ensures, c.requires.1.members i (omega arith)) in
     let l = c.loop-i in
     let p = c.args in
     let e : l.i ≡ l.i - 1 + 1 = omega arith in (

@@ -1,5 +1,5 @@
 -- `build_exclusive_sets::list_set` meets its contract: the members from i on stand in front of the memberships so far.
-use Prim.Native.Nat.{ℕ, ◌+◌, ◌*◌, ◌-◌, ◌≤◌}
+use Prim.Native.Nat.{ℕ, ◌+◌, ◌*◌, ◌≤◌}
 use mathlib.Core.List.{List}
 use Rattle.pywr.specs.Bytes.{byte}
 use Rattle.build_exclusive_sets.specs.Sets.{Memberships}

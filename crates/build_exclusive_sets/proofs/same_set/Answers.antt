@@ -1,5 +1,4 @@
 -- `build_exclusive_sets::same_set` meets its contract: after i members alike, the sets are the same if the rest is.
-use Prim.Native.Nat.{◌-◌}
 use mathlib.Core.Path.{refl, sym, ◌∙◌}
 use native.Mathlib.Omega.{arith}
 use Rattle.network_aggregate.specs.AggregatedNode.{aggregate_set_at}

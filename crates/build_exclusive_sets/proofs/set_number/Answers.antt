@@ -1,5 +1,4 @@
 -- `build_exclusive_sets::set_number` meets its contract: none of the first k sets is the same, so that its number is k more than among the rest.
-use Prim.Native.Nat.{◌-◌}
 use mathlib.Core.Path.{sym, ◌∙◌}
 use native.Mathlib.Omega.{arith}
 use native.Mathlib.Nat.{zero-add}

@@ -20,13 +20,12 @@ pub shape_of-shape-then-seen-e : goal.shape_of-shape-then-seen-e
 shape_of-shape-then-seen-e c = c.loop-next.invariant.long
 
 pub returns-then-seen-e : goal.returns-then-seen-e
-returns-then-seen-e c =
-    (
-      c.loop-next.invariant.marked,
-      λ a v base order o.
-          followed_before _ _ _ c.loop-next.invariant _ a v base order (omega arith) o _ c.loop-next-test.true
-          c.wide16-e.ensures.0 c.if-seen-e.true,
-    )
+returns-then-seen-e c = (
+  c.loop-next.invariant.marked,
+  λ a v base order o.
+      followed_before _ _ _ c.loop-next.invariant _ a v base order (omega arith) o _ c.loop-next-test.true
+      c.wide16-e.ensures.0 c.if-seen-e.true,
+)
 
 pub overflow_add-shape : goal.overflow_add-shape
 overflow_add-shape c =
@@ -88,8 +87,7 @@ pub shape_of-shape : goal.shape_of-shape
 shape_of-shape c = c.loop-next.invariant.long
 
 pub returns : goal.returns
-returns c =
-    (
-      c.loop-next.invariant.marked,
-      λ a v base order o. all_followed _ _ _ c.loop-next.invariant _ a v base order (omega arith) o c.loop-next-test.false,
-    )
+returns c = (
+  c.loop-next.invariant.marked,
+  λ a v base order o. all_followed _ _ _ c.loop-next.invariant _ a v base order (omega arith) o c.loop-next-test.false,
+)

@@ -1,6 +1,6 @@
 -- `build_flow_order::follow_paths` meets its contract. The loop's invariant: the paths that start before edge e are in the order.
 -- The measure is how many edges are left.
-use Prim.Native.Nat.{ℕ, ◌-◌}
+use Prim.Native.Nat.{ℕ}
 use mathlib.Core.Path.{◌≡◌}
 use native.Mathlib.Nat.{le_trans}
 use native.Mathlib.Omega.{arith}
@@ -32,24 +32,23 @@ shares_with-before-requires c =
     )
 
 pub follow-count-requires : goal.follow-count-requires
-follow-count-requires c =
-    (
-      c.requires.0,
-      omega (arith, c.loop-e.invariant.long, c.requires.1),
-      c.loop-e.invariant.marked,
-      omega (arith, c.narrow16.ensures, c.loop-e-test.true),
-    )
+follow-count-requires c = (
+  c.requires.0,
+  omega (arith, c.loop-e.invariant.long, c.requires.1),
+  c.loop-e.invariant.marked,
+  omega (arith, c.narrow16.ensures, c.loop-e-test.true),
+)
 
 pub loop-e-preserved-then-before-eq0 : goal.loop-e-preserved-then-before-eq0
 loop-e-preserved-then-before-eq0 c =
     -- the edge that edge e shares with, plus 1
     let Before : Type 0 =
-        let p = c.args in
-        let net = network_at p.s.now p.nodes p.edges in
-        (a v : ℕ) → c.shares_with-before.result ≡ code (shares_with (net a v) (edge_numbered (net a v) c.loop-e.e)) in
+    let p = c.args in
+    let net = network_at p.s.now p.nodes p.edges in
+    (a v : ℕ) → c.shares_with-before.result ≡ code (shares_with (net a v) (edge_numbered (net a v) c.loop-e.e)) in
     let before-is : Before =
-        before_read _ _ _ c.requires.0 c.loop-e.e c.loop-e-test.true _ _
-        (rw c.narrow16.ensures at c.from_node_index-from.ensures) c.shares_with-before.ensures in
+    before_read _ _ _ c.requires.0 c.loop-e.e c.loop-e-test.true _ _
+    (rw c.narrow16.ensures at c.from_node_index-from.ensures) c.shares_with-before.ensures in
     edge_followed _ _ _ _ _ _ c.loop-e.invariant c.loop-e-test.true _
     (λ a v. path_starts _ _ _ (before-is a v) c.if-before-eq0.true)
     c.narrow16.ensures (search rules) c.follow-count.ensures.0 c.follow-count.ensures.1
@@ -58,12 +57,12 @@ pub loop-e-preserved : goal.loop-e-preserved
 loop-e-preserved c =
     -- the edge that edge e shares with, plus 1
     let Before : Type 0 =
-        let p = c.args in
-        let net = network_at p.s.now p.nodes p.edges in
-        (a v : ℕ) → c.shares_with-before.result ≡ code (shares_with (net a v) (edge_numbered (net a v) c.loop-e.e)) in
+    let p = c.args in
+    let net = network_at p.s.now p.nodes p.edges in
+    (a v : ℕ) → c.shares_with-before.result ≡ code (shares_with (net a v) (edge_numbered (net a v) c.loop-e.e)) in
     let before-is : Before =
-        before_read _ _ _ c.requires.0 c.loop-e.e c.loop-e-test.true _ _
-        (rw c.narrow16.ensures at c.from_node_index-from.ensures) c.shares_with-before.ensures in
+    before_read _ _ _ c.requires.0 c.loop-e.e c.loop-e-test.true _ _
+    (rw c.narrow16.ensures at c.from_node_index-from.ensures) c.shares_with-before.ensures in
     edge_left _ _ _ _ _ _ c.loop-e.invariant c.loop-e-test.true
     (λ a v. path_goes_on _ _ _ (before-is a v) c.if-before-eq0.false)
 

@@ -1,7 +1,5 @@
 -- `build_flow_order::follow_rings` meets its contract. The loop's invariant: the order has the edges before edge `start` and what follows from them.
 -- The measure is how many edges are left.
-use Prim.Native.Nat.{◌-◌}
-use mathlib.Core.Bool.{true}
 use mathlib.Core.Path.{refl}
 use native.Mathlib.Omega.{arith}
 use Rattle.build_flow_order.proofs.Passes.{no_rings, edge_followed, pass_whole}
@@ -12,13 +10,12 @@ pub loop-start-init : goal.loop-start-init
 loop-start-init c = no_rings _ _ _ _ _ _ c.requires.2
 
 pub follow-n-requires : goal.follow-n-requires
-follow-n-requires c =
-    (
-      c.requires.0,
-      omega (arith, c.loop-start.invariant.long, c.requires.1),
-      c.loop-start.invariant.marked,
-      omega (arith, c.narrow16.ensures, c.loop-start-test.true),
-    )
+follow-n-requires c = (
+  c.requires.0,
+  omega (arith, c.loop-start.invariant.long, c.requires.1),
+  c.loop-start.invariant.marked,
+  omega (arith, c.narrow16.ensures, c.loop-start-test.true),
+)
 
 pub loop-start-preserved : goal.loop-start-preserved
 loop-start-preserved c =

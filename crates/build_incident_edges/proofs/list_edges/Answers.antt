@@ -14,8 +14,8 @@ pub bounds-first-node : goal.bounds-first-node
 bounds-first-node c =
     -- the node at this end of edge k
     let end-node : ℕ → ℕ =
-        λ k. let p = c.args in
-        end_of p.end (edge_at p.s.now (edge_place p.nodes k)) in
+    λ k. let p = c.args in
+    end_of p.end (edge_at p.s.now (edge_place p.nodes k)) in
     let node_is : c.wide16-node.result ≡ end-node (c.loop-e.e - 1) = c.wide16-node.ensures.0 ∙ c.end_node-i.ensures ∙ ap end-node c.narrow16.ensures in
     let node_under : c.wide16-node.result < 256 = omega (arith, node_is, c.requires.0, c.requires.3 (c.loop-e.e - 1) (omega arith)) in
     omega (arith, node_under)
@@ -24,8 +24,8 @@ pub bounds-first-node-in-loop-e : goal.bounds-first-node-in-loop-e
 bounds-first-node-in-loop-e c =
     -- the node at this end of edge k
     let end-node : ℕ → ℕ =
-        λ k. let p = c.args in
-        end_of p.end (edge_at p.s.now (edge_place p.nodes k)) in
+    λ k. let p = c.args in
+    end_of p.end (edge_at p.s.now (edge_place p.nodes k)) in
     let node_is : c.wide16-node.result ≡ end-node (c.loop-e.e - 1) = c.wide16-node.ensures.0 ∙ c.end_node-i.ensures ∙ ap end-node c.narrow16.ensures in
     let node_under : c.wide16-node.result < 256 = omega (arith, node_is, c.requires.0, c.requires.3 (c.loop-e.e - 1) (omega arith)) in
     omega (arith, node_under)
@@ -34,8 +34,8 @@ pub loop-e-preserved : goal.loop-e-preserved
 loop-e-preserved c =
     -- the node at this end of edge k
     let end-node : ℕ → ℕ =
-        λ k. let p = c.args in
-        end_of p.end (edge_at p.s.now (edge_place p.nodes k)) in
+    λ k. let p = c.args in
+    end_of p.end (edge_at p.s.now (edge_place p.nodes k)) in
     let node_is : c.wide16-node.result ≡ end-node (c.loop-e.e - 1) = c.wide16-node.ensures.0 ∙ c.end_node-i.ensures ∙ ap end-node c.narrow16.ensures in
     let node_under : c.wide16-node.result < 256 = omega (arith, node_is, c.requires.0, c.requires.3 (c.loop-e.e - 1) (omega arith)) in
     edge_listed _ _ _ _ _ _ _ _ _ _ (omega arith) c.narrow16-in-loop-e.ensures node_is node_under c.requires.1 c.loop-e.invariant

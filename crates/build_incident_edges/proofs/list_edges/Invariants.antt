@@ -1,6 +1,5 @@
 -- `build_incident_edges::list_edges` meets its contract. The loop's invariant: the tables list the edges from e on. The measure is e.
 --
-use Prim.Native.Nat.{◌-◌}
 use Rattle.build_incident_edges.proofs.Turn.{ListedFrom}
 use Rattle.build_incident_edges.proofs.list_edges.Given as goal
 

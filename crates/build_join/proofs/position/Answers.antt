@@ -1,6 +1,5 @@
 -- `build_join::position` meets its contract. The loop's invariant: none of the first k rows equals the gathered row.
 use mathlib.Core.Path.{sym}
-use Prim.Native.Nat.{◌-◌}
 use native.Mathlib.Nat.{zero-add}
 use native.Mathlib.Omega.{arith}
 use Rattle.build_join.proofs.PositionLaws.{found, passed_next, none_equal}

@@ -1,6 +1,5 @@
 -- `build_join::same_elements` meets its contract. The loop's invariant: the rows are the same exactly if they are from element i on.
 use mathlib.Core.Path.{sym, ◌∙◌}
-use Prim.Native.Nat.{◌-◌}
 use native.Mathlib.Nat.{sub-zero}
 use lib.Ieee.{ne}
 use borrow.Author.Tests.{not-true, not-false}

@@ -1,5 +1,4 @@
 -- `build_makers::put_makers` meets its contract. The loop's invariant: the entries of the rows before `row` are put.
-use Prim.Native.Nat.{◌-◌}
 use native.Mathlib.Omega.{arith}
 use Rattle.pywr.specs.Written.{maker_words}
 use Rattle.build_makers.proofs.Entries.{put_none, put_more, put_all}

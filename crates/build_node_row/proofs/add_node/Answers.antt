@@ -15,13 +15,12 @@ pub add_columns-m-requires : goal.add_columns-m-requires
 add_columns-m-requires c = (c.requires.2, c.requires.3, c.requires.4, in_listed _ _ _ _ _ _ _ c.requires.0 c.wide16-k.result)
 
 pub add_columns-requires-then-kind-eq3 : goal.add_columns-requires-then-kind-eq3
-add_columns-requires-then-kind-eq3 c =
-    (
-      c.add_columns-m.ensures.few,
-      omega (arith, c.add_columns-m.auto.elements, c.requires.3),
-      c.add_columns-m.ensures.rising,
-      out_listed _ _ _ _ _ _ _ c.requires.0 c.wide16-k.result,
-    )
+add_columns-requires-then-kind-eq3 c = (
+  c.add_columns-m.ensures.few,
+  omega (arith, c.add_columns-m.auto.elements, c.requires.3),
+  c.add_columns-m.ensures.rising,
+  out_listed _ _ _ _ _ _ _ c.requires.0 c.wide16-k.result,
+)
 
 pub returns-then-kind-eq3 : goal.returns-then-kind-eq3
 returns-then-kind-eq3 c =

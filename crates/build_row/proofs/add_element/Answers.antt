@@ -17,8 +17,8 @@ insert_column-requires c =
     -- past the tests the column is not in the row, so that a place is free
     let absent : let a = c.args in Absent a.columns.now a.n a.column.0 c.place_of-p.result = elim c.if-p-n.branch [ then-p-n+else-columns-p w ↦ (λ l q. w.if-columns-p.false q) | else-p-n w ↦ (λ l q. omega arith) ] in
     let free : c.args.n < 640 =
-        let long : length c.args.columns.now ≡ 640 = omega arith in
-        place_free _ _ _ _ long c.requires.0 c.requires.2 c.requires.3 c.place_of-p.ensures absent in
+    let long : length c.args.columns.now ≡ 640 = omega arith in
+    place_free _ _ _ _ long c.requires.0 c.requires.2 c.requires.3 c.place_of-p.ensures absent in
     let f = free in omega arith
 
 pub insert_element-requires : goal.insert_element-requires
@@ -26,8 +26,8 @@ insert_element-requires c =
     -- past the tests the column is not in the row, so that a place is free
     let absent : let a = c.args in Absent a.columns.now a.n a.column.0 c.place_of-p.result = elim c.if-p-n.branch [ then-p-n+else-columns-p w ↦ (λ l q. w.if-columns-p.false q) | else-p-n w ↦ (λ l q. omega arith) ] in
     let free : c.args.n < 640 =
-        let long : length c.args.columns.now ≡ 640 = omega arith in
-        place_free _ _ _ _ long c.requires.0 c.requires.2 c.requires.3 c.place_of-p.ensures absent in
+    let long : length c.args.columns.now ≡ 640 = omega arith in
+    place_free _ _ _ _ long c.requires.0 c.requires.2 c.requires.3 c.place_of-p.ensures absent in
     let f = free in omega arith
 
 pub returns : goal.returns

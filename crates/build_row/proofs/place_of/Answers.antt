@@ -1,5 +1,4 @@
 -- `build_row::place_of` meets its contract: `Search.antt` has the turns of the loop.
-use Prim.Native.Nat.{◌-◌}
 use native.Mathlib.Omega.{arith}
 use Rattle.build_row.proofs.Search.{place_none, place_last, search_first, search_up, search_down, search_done}
 use Rattle.build_row.proofs.place_of.Goals as goal
