@@ -1,4 +1,6 @@
 // One node's request for one row: its own row, or its row with a set's column.
+#![tactic(auto)]
+
 ghost use Rattle.std.specs.Prelude.{◌≡◌, List, [], ◌∷◌, ◌++◌, ◌<◌, ◌≤◌, length};
 ghost use Rattle.layout.specs.Layout.{column_ceiling, node_row_ceiling, words_length, numbers_length};
 ghost use Rattle.pywr.specs.Rows.{column_map, add_element, add_node, node_row};

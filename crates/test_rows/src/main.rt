@@ -258,7 +258,11 @@ fn counts(rt: &impl Print) -> io::Result<()> {
     shape_word(rt, ELEMENT_COUNT_AT, ELEMENT_CEILING as u16 + 1)?;
     shape_word(rt, NODE_ROW_COUNT_AT, NODE_ROW_CEILING as u16 + 1)?;
     shape_word(rt, AGGREGATE_COUNT_AT, AGGREGATE_CEILING as u16 + 1)?;
-    shape_word(rt, VIRTUAL_STORAGE_COUNT_AT, VIRTUAL_STORAGE_CEILING as u16 + 1)?;
+    shape_word(
+        rt,
+        VIRTUAL_STORAGE_COUNT_AT,
+        VIRTUAL_STORAGE_CEILING as u16 + 1,
+    )?;
     shape_word(rt, ELEMENT_COUNT_AT, 3)
 }
 

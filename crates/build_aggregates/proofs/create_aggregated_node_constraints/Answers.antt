@@ -87,8 +87,7 @@ loop-i-smaller c = omega (arith, c.loop-i-test.true)
 
 pub loop-i-preserved : goal.loop-i-preserved
 loop-i-preserved c =
-    let lt = c.loop-i-test.true in
-    (
+    let lt = c.loop-i-test.true in (
       (λ rows held.
           let a = c.loop-i.invariant.0 rows held in
           asked_more _ _ _ _ _ _ _ (omega arith) _ _ _ _ _ _ _ _ (asked_under _ c.args.c c.requires.0.sections _ _ lt c.loop-i.invariant.1)

@@ -52,13 +52,12 @@ loop-link-smaller c =
     membership_falls _ _ _ _ _ _ _ _ _ _ _ _ _ c.loop-link.invariant.0 c.loop-link-test.true _ c.wide16-link-in-Done.ensures.0
 
 pub loop-link-preserved : goal.loop-link-preserved
-loop-link-preserved c =
-    (
-      walk_next _ _ _ _ _ _ _ _ _ _ _ _ _ c.loop-link.invariant.0 c.loop-link-test.true _ _ _
-          c.add_bounded_rows-r.ensures _ _ c.in-Done.is c.wide16-link-in-Done.ensures.0,
-      c.add_bounded_rows-r.auto.words ∙ c.loop-link.invariant.1,
-      c.add_bounded_rows-r.auto.numbers ∙ c.loop-link.invariant.2,
-    )
+loop-link-preserved c = (
+  walk_next _ _ _ _ _ _ _ _ _ _ _ _ _ c.loop-link.invariant.0 c.loop-link-test.true _ _ _
+      c.add_bounded_rows-r.ensures _ _ c.in-Done.is c.wide16-link-in-Done.ensures.0,
+  c.add_bounded_rows-r.auto.words ∙ c.loop-link.invariant.1,
+  c.add_bounded_rows-r.auto.numbers ∙ c.loop-link.invariant.2,
+)
 
 pub shape_of-words : goal.shape_of-words
 shape_of-words c = c.loop-link.invariant.1

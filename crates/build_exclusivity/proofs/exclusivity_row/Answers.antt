@@ -44,12 +44,11 @@ set_end-here-requires c =
 
 pub loop-i-preserved : goal.loop-i-preserved
 unfolding one64 of_bits
-loop-i-preserved c =
-    (
-      rw c.set_end-here.ensures (gathering_next _ _ _ _ _ _ _ _ _ _ _ c.loop-i.invariant.0 c.loop-i-test.true _ _ _ _ _ _
-          c.set_number-k.ensures c.narrow16.ensures refl c.add_element-n.ensures),
-      c.add_element-n.auto.elements ∙ c.loop-i.invariant.1,
-    )
+loop-i-preserved c = (
+  rw c.set_end-here.ensures (gathering_next _ _ _ _ _ _ _ _ _ _ _ c.loop-i.invariant.0 c.loop-i-test.true _ _ _ _ _ _
+      c.set_number-k.ensures c.narrow16.ensures refl c.add_element-n.ensures),
+  c.add_element-n.auto.elements ∙ c.loop-i.invariant.1,
+)
 
 pub shape_of-elements : goal.shape_of-elements
 shape_of-elements c = c.loop-i.invariant.1

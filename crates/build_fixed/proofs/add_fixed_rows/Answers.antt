@@ -7,53 +7,51 @@ use Rattle.build_fixed.proofs.Fixed.{mass_full, mass_holding, constant_full, con
 use Rattle.build_fixed.proofs.add_fixed_rows.Goals as goal
 
 pub create_constant_constraints-b-requires : goal.create_constant_constraints-b-requires
-create_constant_constraints-b-requires c =
-    (
-      c.requires.0,
-      c.requires.2,
-      record { aggregate_set_at = _; sets = _; tables = c.requires.1 },
-      record {
-        words_room = omega (
-          arith,
-          c.create_mass_balance_constraints-m.auto.words,
-          c.requires.3.words_room,
-        );
-        numbers_room = omega (
-          arith,
-          c.create_mass_balance_constraints-m.auto.numbers,
-          c.requires.3.numbers_room,
-        );
-      },
-      mass_holding c.args.sentinel (network_of c.args.s.now c.args.c) _ _ _ _ _ _
-          c.create_mass_balance_constraints-m.ensures _ c.in-Done.is c.requires.4,
-    )
+create_constant_constraints-b-requires c = (
+  c.requires.0,
+  c.requires.2,
+  record { aggregate_set_at = _; sets = _; tables = c.requires.1 },
+  record {
+    words_room = omega (
+      arith,
+      c.create_mass_balance_constraints-m.auto.words,
+      c.requires.3.words_room,
+    );
+    numbers_room = omega (
+      arith,
+      c.create_mass_balance_constraints-m.auto.numbers,
+      c.requires.3.numbers_room,
+    );
+  },
+  mass_holding c.args.sentinel (network_of c.args.s.now c.args.c) _ _ _ _ _ _
+      c.create_mass_balance_constraints-m.ensures _ c.in-Done.is c.requires.4,
+)
 
 pub create_mutual_exclusivity_constraints-requires : goal.create_mutual_exclusivity_constraints-requires
-create_mutual_exclusivity_constraints-requires c =
-    (
-      c.requires.0.sections,
-      c.requires.1.fit,
-      c.requires.1.held,
-      c.requires.2,
-      columns_most _ _ _ _ _ _ _ c.requires.0 _ c.requires.2,
-      record {
-        words_room = omega (
-          arith,
-          c.create_mass_balance_constraints-m.auto.words,
-          c.create_constant_constraints-b.auto.words,
-          c.requires.3.words_room,
-        );
-        numbers_room = omega (
-          arith,
-          c.create_mass_balance_constraints-m.auto.numbers,
-          c.create_constant_constraints-b.auto.numbers,
-          c.requires.3.numbers_room,
-        );
-      },
-      constant_holding c.args.sentinel (network_of c.args.s.now c.args.c) _ _ _ _ _ _
-          c.create_mass_balance_constraints-m.ensures _ c.in-Done.is _ _ _
-          c.create_constant_constraints-b.ensures _ c.in-Done-b.is c.requires.4,
-    )
+create_mutual_exclusivity_constraints-requires c = (
+  c.requires.0.sections,
+  c.requires.1.fit,
+  c.requires.1.held,
+  c.requires.2,
+  columns_most _ _ _ _ _ _ _ c.requires.0 _ c.requires.2,
+  record {
+    words_room = omega (
+      arith,
+      c.create_mass_balance_constraints-m.auto.words,
+      c.create_constant_constraints-b.auto.words,
+      c.requires.3.words_room,
+    );
+    numbers_room = omega (
+      arith,
+      c.create_mass_balance_constraints-m.auto.numbers,
+      c.create_constant_constraints-b.auto.numbers,
+      c.requires.3.numbers_room,
+    );
+  },
+  constant_holding c.args.sentinel (network_of c.args.s.now c.args.c) _ _ _ _ _ _
+      c.create_mass_balance_constraints-m.ensures _ c.in-Done.is _ _ _
+      c.create_constant_constraints-b.ensures _ c.in-Done-b.is c.requires.4,
+)
 
 pub shape_of-words-in-Full : goal.shape_of-words-in-Full
 shape_of-words-in-Full c = c.create_mass_balance_constraints-m.auto.words

@@ -17,13 +17,12 @@ pub returns-then-kind-ne2 : goal.returns-then-kind-ne2
 returns-then-kind-ne2 c = no_mass_row_lem _ _ _ (λ e. c.if-kind-ne2.true (c.kind.ensures ∙ e)) _ _ _
 
 pub mass_row-n-requires : goal.mass_row-n-requires
-mass_row-n-requires c =
-    (
-      (lent_room _ _ _ c.requires.3 c.requires.2.numbers_room).1,
-      in_listed _ _ _ _ _ _ _ c.requires.0 c.wide16-k.result,
-      out_listed _ _ _
-          _ _ _ _ c.requires.0 c.wide16-k.result,
-    )
+mass_row-n-requires c = (
+  (lent_room _ _ _ c.requires.3 c.requires.2.numbers_room).1,
+  in_listed _ _ _ _ _ _ _ c.requires.0 c.wide16-k.result,
+  out_listed _ _ _
+      _ _ _ _ c.requires.0 c.wide16-k.result,
+)
 
 pub slice_bounds-row-end : goal.slice_bounds-row-end
 slice_bounds-row-end c =

@@ -35,13 +35,12 @@ pub returns-in-Full : goal.returns-in-Full
 returns-in-Full c = order_full _ _ _ _ _ _ _ c.requires.0 _ _ _ (c.narrow16.result + 1) _ c.request_rows-r.ensures c.in-Full.is
 
 pub loop-i-preserved : goal.loop-i-preserved
-loop-i-preserved c =
-    (
-      rw c.narrow16.ensures at (c.request_rows-r.ensures.done _ c.in-Done.is),
-      c.request_rows-r.auto.words
-          ∙ c.loop-i.invariant.1,
-      c.request_rows-r.auto.numbers ∙ c.loop-i.invariant.2,
-    )
+loop-i-preserved c = (
+  rw c.narrow16.ensures at (c.request_rows-r.ensures.done _ c.in-Done.is),
+  c.request_rows-r.auto.words
+      ∙ c.loop-i.invariant.1,
+  c.request_rows-r.auto.numbers ∙ c.loop-i.invariant.2,
+)
 
 pub shape_of-words : goal.shape_of-words
 shape_of-words c = c.loop-i.invariant.1

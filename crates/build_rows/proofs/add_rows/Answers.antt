@@ -23,14 +23,13 @@ use Rattle.build_rows.proofs.Finish.{varying_refused, fixed_refused, few, varyin
 use Rattle.build_rows.proofs.add_rows.Goals as goal
 
 pub add_varying_rows-v-requires : goal.add_varying_rows-v-requires
-add_varying_rows-v-requires c =
-    (
-      c.requires.0,
-      record { aggregate_set_at = _; sets = _; tables = c.requires.1 },
-      c.requires.2,
-      record { words_room = omega (arith, c.start_rows.auto.words, c.requires.3.words_room); numbers_room = c.requires.3.numbers_room },
-      c.start_rows.ensures.0 _,
-    )
+add_varying_rows-v-requires c = (
+  c.requires.0,
+  record { aggregate_set_at = _; sets = _; tables = c.requires.1 },
+  c.requires.2,
+  record { words_room = omega (arith, c.start_rows.auto.words, c.requires.3.words_room); numbers_room = c.requires.3.numbers_room },
+  c.start_rows.ensures.0 _,
+)
 
 pub put_varying_makers-requires : goal.put_varying_makers-requires
 put_varying_makers-requires c =
@@ -69,11 +68,10 @@ add_fixed_rows-f-requires c =
     let words₂ : List ℕ = put_tail shape_made_at words₁ c.put_varying_makers.new.shape in
     let long₂ : length words₂ ≡ length words₁ = tail_kept shape_made_at words₁ c.put_varying_makers.new.shape c.put_varying_makers.auto.shape in
     let made : MadeHeld (programme_of c.args.sentinel net).programme.varying (makers_of_varying c.args.sentinel net) words₂ numbers₁ c.in-Done.n.filled =
-        varying_made c.args.sentinel net c.in-Done.n words₁ numbers₁ varying room₁
-        c.args.c.aggregates c.args.c.virtual_storages aggregates_are virtual_storages_are c.put_varying_makers.new.shape
-        c.put_varying_makers.ensures.0 c.put_varying_makers.ensures.1 in
-    let room₂ : words_length ≤ length words₂ = omega (arith, long₂, room₁) in
-    (
+    varying_made c.args.sentinel net c.in-Done.n words₁ numbers₁ varying room₁
+    c.args.c.aggregates c.args.c.virtual_storages aggregates_are virtual_storages_are c.put_varying_makers.new.shape
+    c.put_varying_makers.ensures.0 c.put_varying_makers.ensures.1 in
+    let room₂ : words_length ≤ length words₂ = omega (arith, long₂, room₁) in (
       c.requires.0,
       c.requires.1,
       c.requires.2,
@@ -98,14 +96,14 @@ finish_shape-requires c =
     let words₂ : List ℕ = put_tail shape_made_at words₁ c.put_varying_makers.new.shape in
     let long₂ : length words₂ ≡ length words₁ = tail_kept shape_made_at words₁ c.put_varying_makers.new.shape c.put_varying_makers.auto.shape in
     let made : MadeHeld (programme_of c.args.sentinel net).programme.varying (makers_of_varying c.args.sentinel net) words₂ numbers₁ c.in-Done.n.filled =
-        varying_made c.args.sentinel net c.in-Done.n words₁ numbers₁ varying room₁
-        c.args.c.aggregates c.args.c.virtual_storages aggregates_are virtual_storages_are c.put_varying_makers.new.shape
-        c.put_varying_makers.ensures.0 c.put_varying_makers.ensures.1 in
+    varying_made c.args.sentinel net c.in-Done.n words₁ numbers₁ varying room₁
+    c.args.c.aggregates c.args.c.virtual_storages aggregates_are virtual_storages_are c.put_varying_makers.new.shape
+    c.put_varying_makers.ensures.0 c.put_varying_makers.ensures.1 in
     let laid : VaryingLaid c.args.sentinel net c.in-Done.n words₂ numbers₁ =
-        let sections = c.requires.0.sections in
-        still_laid c.args.sentinel net c.in-Done.n words₁ numbers₁ varying room₁
-        c.args.c.aggregates c.args.c.virtual_storages aggregates_are virtual_storages_are c.put_varying_makers.new.shape
-        c.put_varying_makers.ensures.0 c.put_varying_makers.ensures.1 few-rows sections.few_aggregates_lem sections.few_virtual_storages_lem in
+    let sections = c.requires.0.sections in
+    still_laid c.args.sentinel net c.in-Done.n words₁ numbers₁ varying room₁
+    c.args.c.aggregates c.args.c.virtual_storages aggregates_are virtual_storages_are c.put_varying_makers.new.shape
+    c.put_varying_makers.ensures.0 c.put_varying_makers.ensures.1 few-rows sections.few_aggregates_lem sections.few_virtual_storages_lem in
     let room₂ : words_length ≤ length words₂ = omega (arith, long₂, room₁) in
     let words₃ : List ℕ = c.add_fixed_rows-f.new.words in
     let room₃ : words_length ≤ length words₃ = omega (arith, c.add_fixed_rows-f.auto.words, room₂) in
@@ -139,8 +137,8 @@ shape_of-words-in-Full-f c =
     let words₃ : List ℕ = c.add_fixed_rows-f.new.words in
     -- the runs keep their lengths
     let words-kept : length words₃ ≡ length c.args.words.now =
-        c.add_fixed_rows-f.auto.words ∙ long₂ ∙ c.add_varying_rows-v.auto.words
-        ∙ c.start_rows.auto.words in
+    c.add_fixed_rows-f.auto.words ∙ long₂ ∙ c.add_varying_rows-v.auto.words
+    ∙ c.start_rows.auto.words in
     words-kept
 
 pub shape_of-numbers-in-Full-f : goal.shape_of-numbers-in-Full-f
@@ -159,9 +157,9 @@ returns-in-Full-f c =
     let virtual_storages_are : c.args.c.virtual_storages ≡ length net.virtual_storages = let k = c.args.c in sym (virtual_storage_count_lem _ k.nodes k.edges k.aggregates k.virtual_storages) in
     let words₂ : List ℕ = put_tail shape_made_at words₁ c.put_varying_makers.new.shape in
     let made : MadeHeld (programme_of c.args.sentinel net).programme.varying (makers_of_varying c.args.sentinel net) words₂ numbers₁ c.in-Done.n.filled =
-        varying_made c.args.sentinel net c.in-Done.n words₁ numbers₁ varying room₁
-        c.args.c.aggregates c.args.c.virtual_storages aggregates_are virtual_storages_are c.put_varying_makers.new.shape
-        c.put_varying_makers.ensures.0 c.put_varying_makers.ensures.1 in
+    varying_made c.args.sentinel net c.in-Done.n words₁ numbers₁ varying room₁
+    c.args.c.aggregates c.args.c.virtual_storages aggregates_are virtual_storages_are c.put_varying_makers.new.shape
+    c.put_varying_makers.ensures.0 c.put_varying_makers.ensures.1 in
     let words₃ : List ℕ = c.add_fixed_rows-f.new.words in
     let fixed : let s : Sentinel = c.args.sentinel in AfterMade ((programme_of s net).programme.varying ++ (programme_of s net).programme.fixed) (makers_of_varying s net ++ fixed_makers s (column_map net) net) words₂ c.add_fixed_rows-f.result words₃ c.add_fixed_rows-f.new.numbers = c.add_fixed_rows-f.ensures _ _ made in
     fixed_refused c.args.sentinel _ c.args.c _ _ _ _ _ c.requires.0 _ _ (fixed.full c.in-Full-f.is)
@@ -174,8 +172,8 @@ shape_of-words-in-Done-f c =
     let words₃ : List ℕ = c.add_fixed_rows-f.new.words in
     -- the runs keep their lengths
     let words-kept : length words₃ ≡ length c.args.words.now =
-        c.add_fixed_rows-f.auto.words ∙ long₂ ∙ c.add_varying_rows-v.auto.words
-        ∙ c.start_rows.auto.words in
+    c.add_fixed_rows-f.auto.words ∙ long₂ ∙ c.add_varying_rows-v.auto.words
+    ∙ c.start_rows.auto.words in
     c.finish_shape.auto.words ∙ words-kept
 
 pub shape_of-numbers-in-Done-f : goal.shape_of-numbers-in-Done-f
@@ -196,14 +194,14 @@ returns-in-Done-f c =
     let words₂ : List ℕ = put_tail shape_made_at words₁ c.put_varying_makers.new.shape in
     let long₂ : length words₂ ≡ length words₁ = tail_kept shape_made_at words₁ c.put_varying_makers.new.shape c.put_varying_makers.auto.shape in
     let made : MadeHeld (programme_of c.args.sentinel net).programme.varying (makers_of_varying c.args.sentinel net) words₂ numbers₁ c.in-Done.n.filled =
-        varying_made c.args.sentinel net c.in-Done.n words₁ numbers₁ varying room₁
-        c.args.c.aggregates c.args.c.virtual_storages aggregates_are virtual_storages_are c.put_varying_makers.new.shape
-        c.put_varying_makers.ensures.0 c.put_varying_makers.ensures.1 in
+    varying_made c.args.sentinel net c.in-Done.n words₁ numbers₁ varying room₁
+    c.args.c.aggregates c.args.c.virtual_storages aggregates_are virtual_storages_are c.put_varying_makers.new.shape
+    c.put_varying_makers.ensures.0 c.put_varying_makers.ensures.1 in
     let laid : VaryingLaid c.args.sentinel net c.in-Done.n words₂ numbers₁ =
-        let sections = c.requires.0.sections in
-        still_laid c.args.sentinel net c.in-Done.n words₁ numbers₁ varying room₁
-        c.args.c.aggregates c.args.c.virtual_storages aggregates_are virtual_storages_are c.put_varying_makers.new.shape
-        c.put_varying_makers.ensures.0 c.put_varying_makers.ensures.1 few-rows sections.few_aggregates_lem sections.few_virtual_storages_lem in
+    let sections = c.requires.0.sections in
+    still_laid c.args.sentinel net c.in-Done.n words₁ numbers₁ varying room₁
+    c.args.c.aggregates c.args.c.virtual_storages aggregates_are virtual_storages_are c.put_varying_makers.new.shape
+    c.put_varying_makers.ensures.0 c.put_varying_makers.ensures.1 few-rows sections.few_aggregates_lem sections.few_virtual_storages_lem in
     let room₂ : words_length ≤ length words₂ = omega (arith, long₂, room₁) in
     let words₃ : List ℕ = c.add_fixed_rows-f.new.words in
     let room₃ : words_length ≤ length words₃ = omega (arith, c.add_fixed_rows-f.auto.words, room₂) in

@@ -22,8 +22,8 @@ pub add_sharer-requires : goal.add_sharer-requires
 add_sharer-requires c =
     -- the row of node row i is read as it stood
     let row_is : get_or c.loop-i.shape (node_rows_at + 4 * c.loop-i.i + 1) 0 ≡ (node_asker c.args.shape.now c.loop-i.i).row =
-        word_kept c.args.shape.now c.loop-i.shape (node_rows_at + 4 * c.loop-i.i + 1)
-        (omega (arith, c.loop-i-test.true, c.requires.0)) c.loop-i.invariant.counted.kept in
+    word_kept c.args.shape.now c.loop-i.shape (node_rows_at + 4 * c.loop-i.i + 1)
+    (omega (arith, c.loop-i-test.true, c.requires.0)) c.loop-i.invariant.counted.kept in
     let row = c.wide16-row.ensures.0 ∙ row_is in (
       rw row (next_under _ _ _ c.requires.2 _ _ c.loop-i-test.true c.loop-i.invariant),
       omega (arith, c.requires.1, c.loop-i.invariant.long),
@@ -34,8 +34,8 @@ pub loop-i-preserved : goal.loop-i-preserved
 loop-i-preserved c =
     -- the row of node row i is read as it stood
     let row_is : get_or c.loop-i.shape (node_rows_at + 4 * c.loop-i.i + 1) 0 ≡ (node_asker c.args.shape.now c.loop-i.i).row =
-        word_kept c.args.shape.now c.loop-i.shape (node_rows_at + 4 * c.loop-i.i + 1)
-        (omega (arith, c.loop-i-test.true, c.requires.0)) c.loop-i.invariant.counted.kept in
+    word_kept c.args.shape.now c.loop-i.shape (node_rows_at + 4 * c.loop-i.i + 1)
+    (omega (arith, c.loop-i-test.true, c.requires.0)) c.loop-i.invariant.counted.kept in
     let node = word_kept c.args.shape.now c.loop-i.shape (node_rows_at + 4 * c.loop-i.i)
     (omega (arith, c.loop-i-test.true, c.requires.0)) c.loop-i.invariant.counted.kept in
     walked_more _ _ _ c.requires.2 _ _ c.loop-i-test.true c.loop-i.invariant c.requires.1 _

@@ -8,18 +8,16 @@ pub overflow_mul-z : goal.overflow_mul-z
 overflow_mul-z c = record { fits = omega (arith, c.requires.0.rows) }
 
 pub copy_u16-requires : goal.copy_u16-requires
-copy_u16-requires c =
-    (
-      omega (arith, c.write_tables.auto.shape, c.requires.0.rows, c.requires.2),
-      made_room c.args.words.now _ c.requires.1 (omega (arith, c.requires.0.rows)),
-    )
+copy_u16-requires c = (
+  omega (arith, c.write_tables.auto.shape, c.requires.0.rows, c.requires.2),
+  made_room c.args.words.now _ c.requires.1 (omega (arith, c.requires.0.rows)),
+)
 
 pub copy_u16-requires-2 : goal.copy_u16-requires-2
-copy_u16-requires-2 c =
-    (
-      omega (arith, c.copy_u16.auto.d, c.write_tables.auto.shape, c.requires.0.edges, c.requires.2),
-      made_room c.args.words.now _ c.requires.1 (omega (arith, c.requires.0.edges)),
-    )
+copy_u16-requires-2 c = (
+  omega (arith, c.copy_u16.auto.d, c.write_tables.auto.shape, c.requires.0.edges, c.requires.2),
+  made_room c.args.words.now _ c.requires.1 (omega (arith, c.requires.0.edges)),
+)
 
 pub shape_of-shape : goal.shape_of-shape
 shape_of-shape c = c.copy_u16-2.auto.d ∙ c.copy_u16.auto.d ∙ c.write_tables.auto.shape

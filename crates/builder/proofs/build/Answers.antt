@@ -14,18 +14,18 @@ pub returns-then-not-build_has_room : goal.returns-then-not-build_has_room
 returns-then-not-build_has_room c =
     -- the store that was lent
     let lent : Store =
-        let a = c.args in
-        record {
-          col_lower = a.col_lower.now;
-          col_upper = a.col_upper.now;
-          col_obj_coef = a.col_obj_coef.now;
-          row_lower = a.row_lower.now;
-          row_upper = a.row_upper.now;
-          elements = a.elements.now;
-          columns = a.columns.now;
-          row_starts = a.row_starts.now;
-          shape = a.shape.now;
-        } in
+    let a = c.args in
+    record {
+      col_lower = a.col_lower.now;
+      col_upper = a.col_upper.now;
+      col_obj_coef = a.col_obj_coef.now;
+      row_lower = a.row_lower.now;
+      row_upper = a.row_upper.now;
+      elements = a.elements.now;
+      columns = a.columns.now;
+      row_starts = a.row_starts.now;
+      shape = a.shape.now;
+    } in
     -- what the test of the lengths told
     let told : c.build_has_room.result ≡ build_room lent c.args.words.now c.args.numbers.now = c.build_has_room.ensures lent c.args.words.now c.args.numbers.now (lengths lent) refl refl in
     short c.args.sentinel c.args.file.now lent c.args.words.now c.args.numbers.now
@@ -35,18 +35,18 @@ pub assemble-a-requires : goal.assemble-a-requires
 assemble-a-requires c =
     -- the store that was lent
     let lent : Store =
-        let a = c.args in
-        record {
-          col_lower = a.col_lower.now;
-          col_upper = a.col_upper.now;
-          col_obj_coef = a.col_obj_coef.now;
-          row_lower = a.row_lower.now;
-          row_upper = a.row_upper.now;
-          elements = a.elements.now;
-          columns = a.columns.now;
-          row_starts = a.row_starts.now;
-          shape = a.shape.now;
-        } in
+    let a = c.args in
+    record {
+      col_lower = a.col_lower.now;
+      col_upper = a.col_upper.now;
+      col_obj_coef = a.col_obj_coef.now;
+      row_lower = a.row_lower.now;
+      row_upper = a.row_upper.now;
+      elements = a.elements.now;
+      columns = a.columns.now;
+      row_starts = a.row_starts.now;
+      shape = a.shape.now;
+    } in
     -- what the test of the lengths told
     let told : c.build_has_room.result ≡ build_room lent c.args.words.now c.args.numbers.now = c.build_has_room.ensures lent c.args.words.now c.args.numbers.now (lengths lent) refl refl in
     let enough-room : build_room lent c.args.words.now c.args.numbers.now ≡ true = sym told ∙ c.if-not-build_has_room.false in
@@ -57,18 +57,18 @@ pub write_columns-requires : goal.write_columns-requires
 write_columns-requires c =
     -- the store that was lent
     let lent : Store =
-        let a = c.args in
-        record {
-          col_lower = a.col_lower.now;
-          col_upper = a.col_upper.now;
-          col_obj_coef = a.col_obj_coef.now;
-          row_lower = a.row_lower.now;
-          row_upper = a.row_upper.now;
-          elements = a.elements.now;
-          columns = a.columns.now;
-          row_starts = a.row_starts.now;
-          shape = a.shape.now;
-        } in
+    let a = c.args in
+    record {
+      col_lower = a.col_lower.now;
+      col_upper = a.col_upper.now;
+      col_obj_coef = a.col_obj_coef.now;
+      row_lower = a.row_lower.now;
+      row_upper = a.row_upper.now;
+      elements = a.elements.now;
+      columns = a.columns.now;
+      row_starts = a.row_starts.now;
+      shape = a.shape.now;
+    } in
     -- what the test of the lengths told
     let told : c.build_has_room.result ≡ build_room lent c.args.words.now c.args.numbers.now = c.build_has_room.ensures lent c.args.words.now c.args.numbers.now (lengths lent) refl refl in
     let enough-room : build_room lent c.args.words.now c.args.numbers.now ≡ true = sym told ∙ c.if-not-build_has_room.false in
@@ -81,18 +81,18 @@ pub write_rows-requires : goal.write_rows-requires
 write_rows-requires c =
     -- the store that was lent
     let lent : Store =
-        let a = c.args in
-        record {
-          col_lower = a.col_lower.now;
-          col_upper = a.col_upper.now;
-          col_obj_coef = a.col_obj_coef.now;
-          row_lower = a.row_lower.now;
-          row_upper = a.row_upper.now;
-          elements = a.elements.now;
-          columns = a.columns.now;
-          row_starts = a.row_starts.now;
-          shape = a.shape.now;
-        } in
+    let a = c.args in
+    record {
+      col_lower = a.col_lower.now;
+      col_upper = a.col_upper.now;
+      col_obj_coef = a.col_obj_coef.now;
+      row_lower = a.row_lower.now;
+      row_upper = a.row_upper.now;
+      elements = a.elements.now;
+      columns = a.columns.now;
+      row_starts = a.row_starts.now;
+      shape = a.shape.now;
+    } in
     -- what the test of the lengths told
     let told : c.build_has_room.result ≡ build_room lent c.args.words.now c.args.numbers.now = c.build_has_room.ensures lent c.args.words.now c.args.numbers.now (lengths lent) refl refl in
     let enough-room : build_room lent c.args.words.now c.args.numbers.now ≡ true = sym told ∙ c.if-not-build_has_room.false in
@@ -105,18 +105,18 @@ pub write_matrix-requires : goal.write_matrix-requires
 write_matrix-requires c =
     -- the store that was lent
     let lent : Store =
-        let a = c.args in
-        record {
-          col_lower = a.col_lower.now;
-          col_upper = a.col_upper.now;
-          col_obj_coef = a.col_obj_coef.now;
-          row_lower = a.row_lower.now;
-          row_upper = a.row_upper.now;
-          elements = a.elements.now;
-          columns = a.columns.now;
-          row_starts = a.row_starts.now;
-          shape = a.shape.now;
-        } in
+    let a = c.args in
+    record {
+      col_lower = a.col_lower.now;
+      col_upper = a.col_upper.now;
+      col_obj_coef = a.col_obj_coef.now;
+      row_lower = a.row_lower.now;
+      row_upper = a.row_upper.now;
+      elements = a.elements.now;
+      columns = a.columns.now;
+      row_starts = a.row_starts.now;
+      shape = a.shape.now;
+    } in
     -- what the test of the lengths told
     let told : c.build_has_room.result ≡ build_room lent c.args.words.now c.args.numbers.now = c.build_has_room.ensures lent c.args.words.now c.args.numbers.now (lengths lent) refl refl in
     let enough-room : build_room lent c.args.words.now c.args.numbers.now ≡ true = sym told ∙ c.if-not-build_has_room.false in
@@ -139,18 +139,18 @@ pub write_shape-requires : goal.write_shape-requires
 write_shape-requires c =
     -- the store that was lent
     let lent : Store =
-        let a = c.args in
-        record {
-          col_lower = a.col_lower.now;
-          col_upper = a.col_upper.now;
-          col_obj_coef = a.col_obj_coef.now;
-          row_lower = a.row_lower.now;
-          row_upper = a.row_upper.now;
-          elements = a.elements.now;
-          columns = a.columns.now;
-          row_starts = a.row_starts.now;
-          shape = a.shape.now;
-        } in
+    let a = c.args in
+    record {
+      col_lower = a.col_lower.now;
+      col_upper = a.col_upper.now;
+      col_obj_coef = a.col_obj_coef.now;
+      row_lower = a.row_lower.now;
+      row_upper = a.row_upper.now;
+      elements = a.elements.now;
+      columns = a.columns.now;
+      row_starts = a.row_starts.now;
+      shape = a.shape.now;
+    } in
     -- what the test of the lengths told
     let told : c.build_has_room.result ≡ build_room lent c.args.words.now c.args.numbers.now = c.build_has_room.ensures lent c.args.words.now c.args.numbers.now (lengths lent) refl refl in
     let enough-room : build_room lent c.args.words.now c.args.numbers.now ≡ true = sym told ∙ c.if-not-build_has_room.false in
@@ -199,18 +199,18 @@ pub returns-in-Done : goal.returns-in-Done
 returns-in-Done c =
     -- the store that was lent
     let lent : Store =
-        let a = c.args in
-        record {
-          col_lower = a.col_lower.now;
-          col_upper = a.col_upper.now;
-          col_obj_coef = a.col_obj_coef.now;
-          row_lower = a.row_lower.now;
-          row_upper = a.row_upper.now;
-          elements = a.elements.now;
-          columns = a.columns.now;
-          row_starts = a.row_starts.now;
-          shape = a.shape.now;
-        } in
+    let a = c.args in
+    record {
+      col_lower = a.col_lower.now;
+      col_upper = a.col_upper.now;
+      col_obj_coef = a.col_obj_coef.now;
+      row_lower = a.row_lower.now;
+      row_upper = a.row_upper.now;
+      elements = a.elements.now;
+      columns = a.columns.now;
+      row_starts = a.row_starts.now;
+      shape = a.shape.now;
+    } in
     -- what the test of the lengths told
     let told : c.build_has_room.result ≡ build_room lent c.args.words.now c.args.numbers.now = c.build_has_room.ensures lent c.args.words.now c.args.numbers.now (lengths lent) refl refl in
     let enough-room : build_room lent c.args.words.now c.args.numbers.now ≡ true = sym told ∙ c.if-not-build_has_room.false in
@@ -223,18 +223,18 @@ pub returns-in-Refused : goal.returns-in-Refused
 returns-in-Refused c =
     -- the store that was lent
     let lent : Store =
-        let a = c.args in
-        record {
-          col_lower = a.col_lower.now;
-          col_upper = a.col_upper.now;
-          col_obj_coef = a.col_obj_coef.now;
-          row_lower = a.row_lower.now;
-          row_upper = a.row_upper.now;
-          elements = a.elements.now;
-          columns = a.columns.now;
-          row_starts = a.row_starts.now;
-          shape = a.shape.now;
-        } in
+    let a = c.args in
+    record {
+      col_lower = a.col_lower.now;
+      col_upper = a.col_upper.now;
+      col_obj_coef = a.col_obj_coef.now;
+      row_lower = a.row_lower.now;
+      row_upper = a.row_upper.now;
+      elements = a.elements.now;
+      columns = a.columns.now;
+      row_starts = a.row_starts.now;
+      shape = a.shape.now;
+    } in
     -- what the test of the lengths told
     let told : c.build_has_room.result ≡ build_room lent c.args.words.now c.args.numbers.now = c.build_has_room.ensures lent c.args.words.now c.args.numbers.now (lengths lent) refl refl in
     let enough-room : build_room lent c.args.words.now c.args.numbers.now ≡ true = sym told ∙ c.if-not-build_has_room.false in
