@@ -1,4 +1,6 @@
 // The rows of the aggregated nodes (SolverBuilder::create_aggregated_node_constraints of builder.rs).
+#![tactic(auto)]
+
 ghost use Rattle.std.specs.Prelude.{◌≡◌, List, [], ◌∷◌, map, ℕ, ◌+◌, ◌<◌, ◌≤◌, length};
 ghost use Rattle.std.proofs.lemmas.List.Edits.{sets};
 ghost use Rattle.layout.specs.Layout.{column_ceiling, aggregates_at, aggregates_made_at, words_length, numbers_length};

@@ -1,4 +1,6 @@
 // The rows that a node asks for where exclusive sets list it: an upper and a lower one for each membership.
+#![tactic(auto)]
+
 ghost use Rattle.std.specs.Prelude.{◌≡◌, List, [], ◌∷◌, ◌++◌, ◌+◌, ◌<◌, ◌≤◌, length};
 ghost use Rattle.layout.specs.Layout.{set_ceiling, node_row_ceiling, words_length, numbers_length};
 ghost use Rattle.pywr.specs.Rows.{column_map};

@@ -1,4 +1,6 @@
 // The exclusivity rows of the exclusive aggregates (SolverBuilder::create_mutual_exclusivity_constraints of builder.rs).
+#![tactic(auto)]
+
 ghost use Rattle.std.specs.Prelude.{◌≡◌, ◌+◌, ◌≤◌, true, List, [], ◌∷◌, ◌++◌, length};
 ghost use Rattle.layout.specs.Layout.{edge_ceiling, column_ceiling};
 ghost use Rattle.pywr.specs.ColEdgeMap as ColEdgeMap;

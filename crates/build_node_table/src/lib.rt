@@ -1,4 +1,6 @@
 // The table of node rows: a row that a node asks for, and its entry.
+#![tactic(auto)]
+
 ghost use Rattle.std.specs.Prelude.{◌≡◌, List, [], ◌∷◌, ◌++◌, ◌+◌, ◌*◌, ◌<◌, ◌≤◌, length, drop};
 ghost use Rattle.std.proofs.lemmas.List.Edits.{sets};
 ghost use Rattle.layout.specs.Layout.{column_ceiling, node_row_ceiling, node_row_width, node_rows_at, words_length, elements_made_at, numbers_length};

@@ -1,4 +1,6 @@
 // The rows of the varying nodes (SolverBuilder::create_node_constraints of builder.rs).
+#![tactic(auto)]
+
 ghost use Rattle.std.specs.Prelude.{◌≡◌, [], ◌+◌, ◌<◌, ◌≤◌, length};
 ghost use Rattle.layout.specs.Layout.{words_length, numbers_length};
 ghost use Rattle.pywr.specs.Rows.{column_map};

@@ -1,4 +1,6 @@
 // A programme in the work runs of a build: all rows with their makers, the tables of nodes and edges, the counts, the flow order.
+#![tactic(auto)]
+
 ghost use Rattle.std.specs.Prelude.{◌≡◌, ℕ, ◌<◌, ◌≤◌, length, get_or};
 ghost use Rattle.layout.specs.Layout.{words_length};
 ghost use Rattle.network_edge.specs.Edge.{edge_place};

@@ -1,4 +1,6 @@
 // The tables of the shape run that follow from the network file and its columns. `shape` is the part of a build's work run where the shape run is made.
+#![tactic(auto)]
+
 ghost use Rattle.std.specs.Prelude.{◌≡◌, ℕ, suc, ◌<◌, ◌≤◌, length, get_or};
 ghost use mathlib.Core.List.{List, [], ◌∷◌, map, flat_map};
 ghost use Rattle.std.proofs.lemmas.List.Edits.{sets};

@@ -1,5 +1,7 @@
 // Who made the varying rows, which makers may share: the first that asked for a row, and how many did. `shape` is the part of a build's work run where
 // the shape run is made, with the tables of node rows, aggregates and virtual storages in it.
+#![tactic(auto)]
+
 ghost use Rattle.std.specs.Prelude.{◌≡◌, ◌+◌, ◌*◌, ◌<◌, ◌≤◌, length, take};
 ghost use mathlib.Core.List.{flat_map};
 ghost use Rattle.std.proofs.lemmas.List.Edits.{sets};

@@ -1,4 +1,6 @@
 // The varying rows of a programme: those of nodes, of aggregates and of virtual storages.
+#![tactic(auto)]
+
 ghost use Rattle.std.specs.Prelude.{◌≡◌, ◌≤◌, [], length};
 ghost use Rattle.layout.specs.Layout.{words_length, numbers_length};
 ghost use Rattle.build_node_row.specs.EdgeColumns.{edge_columns_of};

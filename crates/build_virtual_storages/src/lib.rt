@@ -1,4 +1,6 @@
 // The rows of the virtual storages (SolverBuilder::create_virtual_storage_constraints of builder.rs).
+#![tactic(auto)]
+
 ghost use Rattle.std.specs.Prelude.{◌≡◌, List, map, not, ◌+◌, ◌*◌, ◌≤◌, length};
 ghost use Rattle.std.proofs.lemmas.List.Edits.{sets};
 ghost use Rattle.layout.specs.Layout.{column_ceiling, virtual_storage_width, virtual_storages_at, virtual_storages_made_at, words_length, numbers_length};

@@ -1,4 +1,6 @@
 // An assembled programme written from the work runs into the store's runs (LpBuilder::build of builder.rs).
+#![tactic(auto)]
+
 ghost use Rattle.std.specs.Prelude.{◌≡◌, ◌≤◌, length};
 ghost use Rattle.std.proofs.lemmas.List.Edits.{sets};
 ghost use Rattle.layout.specs.Layout.{column_ceiling, row_ceiling, element_ceiling, row_starts_length, shape_length, words_length, elements_made_at, numbers_length};
