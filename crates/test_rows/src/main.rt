@@ -167,7 +167,7 @@ fn row(rt: &impl Print, r: usize) -> io::Result<()> {
     let starts = small_starts();
     let shape = small_shape();
     print!(rt; "row {r}")?;
-    read(rt, &columns, &starts, &shape, r, 9);
+    read(rt, &columns, &starts, &shape, r, 9)
 }
 
 fn short_run(rt: &impl Print, k: usize) -> io::Result<()> {
@@ -175,7 +175,7 @@ fn short_run(rt: &impl Print, k: usize) -> io::Result<()> {
     let starts = small_starts();
     let shape = small_shape();
     print!(rt; "short {k}")?;
-    read(rt, &columns, &starts, &shape, 4, k);
+    read(rt, &columns, &starts, &shape, 4, k)
 }
 
 // The same with another maker of row 3.
@@ -184,7 +184,7 @@ fn maker(rt: &impl Print, kind: u16, index: u16, shared_by: u16) -> io::Result<(
     let starts = small_starts();
     let shape = shape_with(kind, index, shared_by);
     print!(rt; "maker {kind} {index} {shared_by}")?;
-    read(rt, &columns, &starts, &shape, 0, 9);
+    read(rt, &columns, &starts, &shape, 0, 9)
 }
 
 fn shape_word(rt: &impl Print, at: usize, word: u16) -> io::Result<()> {
