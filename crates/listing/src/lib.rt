@@ -24,7 +24,7 @@ const BUFFER_LENGTH: usize = 65536;
 const SHORT_BUFFER_LENGTH: usize = 4096;
 
 // How many bytes a text has, and whether the writer took them all, or why not.
-#[derive(Drop)]
+#[derive(Clone, Copy)]
 pub struct Output {
     pub bytes: usize,
     pub written: io::Result<()>,

@@ -19,7 +19,7 @@ use std::io::Write;
 use widths::{wide16, wide32};
 
 // Where the next line goes, how many bytes were put, and whether all writes succeeded.
-#[derive(Drop)]
+#[derive(Clone, Copy)]
 pub struct Listed {
     pub at: usize,
     pub bytes: usize,
@@ -27,7 +27,7 @@ pub struct Listed {
 }
 
 // Where a line goes, and whether all writes succeeded.
-#[derive(Drop)]
+#[derive(Clone, Copy)]
 pub struct Room {
     pub at: usize,
     pub written: io::Result<()>,
