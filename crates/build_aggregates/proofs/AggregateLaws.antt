@@ -3,6 +3,7 @@ use mathlib.Core.Path.{◌≡◌, refl, sym, ap, ap₂, ◌∙◌}
 use Prim.Native.Nat.{ℕ, ◌+◌, ◌*◌, ◌<◌, ◌≤◌}
 use native.Mathlib.Omega.{arith}
 use mathlib.Core.List.{List, []}
+use Rattle.std.specs.Prelude.{Result, Ok}
 use lib.ListN.{length, get_or, length-map}
 use lib.Ieee.{Float}
 use Rattle.pywr.specs.Bytes.{byte, le16}
@@ -12,7 +13,7 @@ use Rattle.pywr.specs.Store.{elements_of}
 use Rattle.pywr.specs.Rows.{Element, ColumnMap, column_map, add_node, add_nodes, add_sets_of, aggregate_row}
 use Rattle.pywr.proofs.ListLaws.{found_get, found_map}
 use Rattle.fields.specs.Records.{records_at, records_end}
-use Rattle.fields.specs.declared.Checked.{Checked}
+use Rattle.pywr.specs.declared.Refusal.{Refusal}
 use Rattle.fields.proofs.RecordLaws.{end_more, end_after}
 use Rattle.network_aggregate.specs.AggregatedNode.{aggregate_set_at, set_end, aggregate_at, aggregate_end, check_aggregate}
 use Rattle.network_laws.specs.NetworkAt.{aggregate_start}
@@ -88,7 +89,7 @@ module _ (file : List ℕ) (c : Counts) (at : ℕ) where
 
 -- ---- an aggregate that passed
 
-module _ (file : List ℕ) (nodes at : ℕ) (passed : check_aggregate file nodes at ≡ Checked.Next (aggregate_end file at)) where
+module _ (file : List ℕ) (nodes at : ℕ) (passed : check_aggregate file nodes at ≡ Ok (aggregate_end file at)) where
   told : AggregatePassed file nodes at
   told = aggregate_passed file nodes at (aggregate_end file at) passed
 
@@ -118,8 +119,8 @@ module _ (file : List ℕ) (c : Counts) (sections : Sections file c.nodes c.edge
   asked_count = length-map (network_of file c).aggregates (aggregate_row (column_map (network_of file c))) ∙ aggregate_count_lem file c.nodes c.edges c.aggregates c.virtual_storages
 
   module _ (i at : ℕ) (lt : i < c.aggregates) (e : at ≡ aggregate_start file c.nodes c.edges i) where
-    pub aggregate_check : check_aggregate file c.nodes at ≡ Checked.Next (aggregate_end file at)
-    aggregate_check = rw e (sections.aggregates_pass i lt ∙ ap (λ (x : ℕ). Checked.Next x) (end_more (aggregate_end file) i (20 * c.nodes + 6 * c.edges)))
+    pub aggregate_check : check_aggregate file c.nodes at ≡ Ok (aggregate_end file at)
+    aggregate_check = rw e (sections.aggregates_pass i lt ∙ ap {B = Result ℕ Refusal} (λ (x : ℕ). Ok x) (end_more (aggregate_end file) i (20 * c.nodes + 6 * c.edges)))
 
     pub aggregate_next : (next : ℕ) → next ≡ aggregate_end file at → next ≡ aggregate_start file c.nodes c.edges (i + 1)
     aggregate_next next q = q ∙ ap (aggregate_end file) e ∙ sym (end_more (aggregate_end file) i (20 * c.nodes + 6 * c.edges))

@@ -3,6 +3,7 @@ use mathlib.Core.Path.{◌≡◌, refl, sym, ap, ◌∙◌, subst}
 use Prim.Native.Nat.{ℕ, ◌+◌, ◌<◌, ◌≤◌}
 use native.Mathlib.Omega.{arith}
 use mathlib.Core.Bool.{false}
+use Rattle.std.specs.Prelude.{Result, Ok, Err}
 use mathlib.Core.List.{List, [], ◌∷◌, ◌++◌, map, flat_map}
 use lib.ListN.{length, take, drop, set, length-append, length-drop, length-set}
 use lib.Seq.{sets, length-sets, length-take-le, drop-set-lt}
@@ -18,21 +19,21 @@ use Rattle.pywr.proofs.FitLaws.{elements_append}
 use Rattle.build_row.specs.RowBuilder.{gathered}
 use Rattle.build_append.specs.LpBuilder.{RowsHeld, within_ceilings, AfterRows}
 use Rattle.build_append.specs.declared.Filled.{Filled}
-use Rattle.build_append.specs.declared.RowsAdded.TheVariants.{Done, Full}
+use Rattle.build_exclusive_sets.specs.declared.ProgrammeFull.{ProgrammeFull}
 use Rattle.build_append.proofs.RowLaws.{part_more, drop_sets, flat_snoc, starts_snoc, gathered_length, gathered_columns, gathered_values}
 use Rattle.build_append.proofs.RowsHeldLaws.{held_few, over_rows, over_elements}
 
 -- ---- the answer's two cases
 
-rows_full : (rows : List Row) (words : List ℕ) (numbers : List Float) → within_ceilings rows ≡ false → AfterRows rows words Full words numbers
-rows_full rows words numbers over = record { held = λ f e. absurd (let z : ◌≡◌ {A = ℕ} 0 1 = cc in omega arith); full = λ e. over; kept = refl }
+rows_full : (rows : List Row) (words : List ℕ) (numbers : List Float) (full : ProgrammeFull) → within_ceilings rows ≡ false → AfterRows rows words (Err full) words numbers
+rows_full rows words numbers full over = record { held = λ f e. absurd (cc); full = λ full e. over; kept = refl }
 
 rows_done : (rows : List Row) (words words' : List ℕ) (numbers : List Float) (f : Filled) → RowsHeld rows words' numbers f → drop shape_made_at words' ≡ drop shape_made_at words
-    → AfterRows rows words (Done f) words' numbers
+    → AfterRows rows words (Ok f) words' numbers
 rows_done rows words words' numbers f held kept =
-    record { held = λ g e. subst (RowsHeld rows words' numbers) (same f g e) held; full = λ e. absurd (let z : ◌≡◌ {A = ℕ} 0 1 = cc in omega arith); kept = kept }
+    record { held = λ g e. subst (RowsHeld rows words' numbers) (same f g e) held; full = λ full e. absurd (cc); kept = kept }
   where
-    same : (f g : Filled) → Done f ≡ Done g → f ≡ g
+    same : (f g : Filled) → ◌≡◌ {A = Result Filled ProgrammeFull} (Ok f) (Ok g) → f ≡ g
     same f g e = cc
 
 -- ---- the gathered row behind the rows held
@@ -50,8 +51,8 @@ module _ (rows : List Row) (lower upper : Float) (columns words : List ℕ) (num
   abbrev more : List Row
   more = rows ++ (row ∷ [])
 
-  pub rows_over : 1024 ≤ r → AfterRows more words Full words numbers
-  rows_over h = rows_full more words numbers (over_rows more (omega (arith, length-append rows (row ∷ []), held.row_count)))
+  pub rows_over : (full : ProgrammeFull) → 1024 ≤ r → AfterRows more words (Err full) words numbers
+  rows_over full h = rows_full more words numbers full (over_rows more (omega (arith, length-append rows (row ∷ []), held.row_count)))
 
   module _ (long_numbers : numbers_length ≤ length numbers) (long_columns : 640 ≤ length columns) (few : n ≤ 640) where
     behind : n ≤ length (drop (2048 + e) numbers)
@@ -60,9 +61,9 @@ module _ (rows : List Row) (lower upper : Float) (columns words : List ℕ) (num
     count : length row.elements ≡ n
     count = gathered_length columns (drop (2048 + e) numbers) n (omega arith) behind
 
-    pub elements_over : 4096 < e + n → AfterRows more words Full words numbers
+    pub elements_over : (full : ProgrammeFull) → 4096 < e + n → AfterRows more words (Err full) words numbers
     unfolding element_count
-    elements_over h = rows_full more words numbers (over_elements more (omega (arith, elements_append rows (row ∷ []), held.elements_count, count)))
+    elements_over full h = rows_full more words numbers full (over_elements more (omega (arith, elements_append rows (row ∷ []), held.elements_count, count)))
 
     module _ (long_words : words_length ≤ length words) (few_rows : r < 1024) (fits : e + n ≤ 4096) where
       abbrev cs : List ℕ
@@ -135,7 +136,7 @@ module _ (rows : List Row) (lower upper : Float) (columns words : List ℕ) (num
 
       -- the columns put, the next start and the two bounds written
       pub row_added : (words' : List ℕ) (next : ℕ) → words' ≡ with_columns → next ≡ e + n
-          → AfterRows more words (Done (record { rows = r + 1; elements = e + n })) (set words' (4096 + r + 1) next) with_bounds
+          → AfterRows more words (Ok (record { rows = r + 1; elements = e + n })) (set words' (4096 + r + 1) next) with_bounds
       row_added words' next ew en =
           rw (ew, en)
           (rows_done more words with_row with_bounds (record { rows = r + 1; elements = e + n }) row_held

@@ -2,6 +2,7 @@
 use mathlib.Core.Path.{◌≡◌, sym, ap, ◌∙◌}
 use Prim.Native.Nat.{ℕ, ◌+◌, ◌-◌, ◌≤◌}
 use native.Mathlib.Omega.{arith}
+use Rattle.std.specs.Prelude.{Result, Ok}
 use mathlib.Core.List.{List, [], ◌∷◌}
 use lib.ListN.{length, drop}
 use lib.Ieee.{Float}
@@ -11,8 +12,7 @@ use Rattle.pywr.specs.Rows.{Element}
 use Rattle.build_row.specs.RowBuilder.{gathered}
 use Rattle.build_append.specs.LpBuilder.{Holding}
 use Rattle.build_append.specs.declared.Filled.{Filled}
-use Rattle.build_append.specs.declared.RowsAdded.{RowsAdded}
-use Rattle.build_append.specs.declared.RowsAdded.TheVariants.{Done}
+use Rattle.build_exclusive_sets.specs.declared.ProgrammeFull.{ProgrammeFull}
 use Rattle.build_append.proofs.RowsHeldLaws.{held_few, held_lent, lent_written}
 use Rattle.build_append.proofs.AddingRows.{Adds, adds_none}
 
@@ -32,10 +32,10 @@ module _ (words : List ℕ) (numbers ys : List Float) (f : Filled) (a : ℕ) (e 
   lent = put_mid a (length numbers - a) numbers ys
 
   -- nothing of it becomes a row
-  pub lent_none : Adds [] words numbers f (Done f) words lent
+  pub lent_none : Adds [] words numbers f (Ok f) words lent
   lent_none rows h = adds_none words lent f rows (held_lent numbers ys a ha rows words f e h)
 
-  pub lent_row : (columns : List ℕ) (n : ℕ) (lower upper lower' upper' : Float) (elements' : List Element) (r : RowsAdded) (words' : List ℕ) (numbers' : List Float)
+  pub lent_row : (columns : List ℕ) (n : ℕ) (lower upper lower' upper' : Float) (elements' : List Element) (r : Result Filled ProgrammeFull) (words' : List ℕ) (numbers' : List Float)
       → lower ≡ lower' → upper ≡ upper' → gathered columns ys n ≡ elements'
       → Adds (record { lower = lower; upper = upper; elements = gathered columns (drop (2048 + f.elements) lent) n } ∷ []) words lent f r words' numbers'
       → Adds (record { lower = lower'; upper = upper'; elements = elements' } ∷ []) words numbers f r words' numbers'

@@ -3,3 +3,4 @@ pub mod RowsHeldLaws
 pub mod AddLaws
 pub mod AddingRows
 pub mod LentRow
+pub mod Kept

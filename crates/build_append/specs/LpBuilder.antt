@@ -1,6 +1,6 @@
 -- The rows made so far as the two work runs of a build hold them (LpBuilder of builder.rs). In `words` the columns of the elements stand from 0,
 -- in `numbers` the lower bounds. Assumes nothing.
-use Rattle.std.specs.Prelude.{◌≡◌, ℕ, ◌+◌, ◌≤◌, Bool, false, ◌&&◌, length, drop, leb, Float}
+use Rattle.std.specs.Prelude.{◌≡◌, ℕ, ◌+◌, ◌≤◌, Bool, false, ◌&&◌, length, drop, leb, Float, Result, Ok, Err}
 use mathlib.Core.List.{List, map, flat_map}
 use Rattle.layout.specs.Layout.{row_ceiling, element_ceiling, starts_made_at, shape_made_at, uppers_made_at, elements_made_at}
 use Rattle.laws.specs.Part.{part}
@@ -8,9 +8,9 @@ use Rattle.pywr.specs.Rows.{Element}
 use Rattle.pywr.specs.Programme.{Row}
 use Rattle.pywr.specs.Build.{element_count}
 use Rattle.pywr.specs.Written.{starts_from, columns_in, values_in, lower_of, upper_of}
+use Rattle.build_exclusive_sets.specs.declared.ProgrammeFull.{ProgrammeFull}
 use Rattle.build_append.specs.declared.Filled.{Filled}
-use Rattle.build_append.specs.declared.RowsAdded.{RowsAdded}
-use Rattle.build_append.specs.declared.RowsAdded.TheVariants.{Done, Full}
+use Rattle.build_append.specs.declared.LpBuilder.{LpBuilder}
 
 -- the elements of each row
 abbrev pub element_lists : List Row → List (List Element)
@@ -37,7 +37,20 @@ unfoldable pub within_ceilings : List Row → Bool
 within_ceilings rows = leb (length rows) row_ceiling && leb (element_count rows) element_ceiling
 
 -- the work runs hold these rows, or the rows are over the ceilings; the shape run's words stay
-pub record AfterRows (rows : List Row) (words : List ℕ) (r : RowsAdded) (words' : List ℕ) (numbers' : List Float) : Type 0 where
-  pub held : (f : Filled) → r ≡ Done f → RowsHeld rows words' numbers' f
-  pub full : r ≡ Full → within_ceilings rows ≡ false
+pub record AfterRows (rows : List Row) (words : List ℕ) (r : Result Filled ProgrammeFull) (words' : List ℕ) (numbers' : List Float) : Type 0 where
+  pub held : (f : Filled) → r ≡ Ok f → RowsHeld rows words' numbers' f
+  pub full : (full : ProgrammeFull) → r ≡ Err full → within_ceilings rows ≡ false
   pub kept : drop shape_made_at words' ≡ drop shape_made_at words
+
+-- what the builder holds then, where rows were added
+abbrev pub filled_then : Result (Unit {0}) ProgrammeFull → Filled → Result Filled ProgrammeFull
+filled_then (Ok u) f = Ok f
+filled_then (Err full) f = Err full
+
+-- the builder has the runs that were lent, each as long as it was, and its sentinel
+pub record SameRuns (old new : LpBuilder) : Type 0 where
+  pub words : new.words.ghost_name ≡ old.words.ghost_name
+  pub numbers : new.numbers.ghost_name ≡ old.numbers.ghost_name
+  pub words_long : length new.words.now ≡ length old.words.now
+  pub numbers_long : length new.numbers.now ≡ length old.numbers.now
+  pub sentinel : new.sentinel ≡ old.sentinel

@@ -22,6 +22,7 @@ use Rattle.network_laws.specs.NetworkAt.{edge_records, network_at}
 use Rattle.network_laws.proofs.Index.{edge_count, edge_index}
 use Rattle.network_laws.proofs.RecordReaders.{kind_law}
 use Rattle.laws.specs.Linked.{Linked}
+use Rattle.build_incident_edges.specs.declared.EdgeLists.{EdgeLists}
 use Rattle.build_incident_edges.specs.IncidentEdges.{EdgesListed}
 use Rattle.build_col_edge_map.specs.Mapped.{code, Mapped, only, shares_across}
 use Rattle.build_col_edge_map.proofs.MappedLaws.{mapped_at}
@@ -75,21 +76,21 @@ module _ (kind : ℕ) (into out : List ℕ) where
   across q f = rw (eq-eqb kind 2 q, one_out into out f)
 
   -- it is one of the edges in
-  in_under : (size : ℕ) (next : List ℕ) (first before : ℕ) → Linked size next first into → before ≡ code (shares_across kind into out) → before ≢ 0 → before - 1 < size
-  in_under size next first before l q f = go (eqb kind link) (single into out) refl q
+  in_under : (size : ℕ) (next : List ℕ) (first before : ℕ) → Linked size next first into → suc before ≡ code (shares_across kind into out) → before < size
+  in_under size next first before l q = go (eqb kind link) (single into out) refl q
     where
-      go : (b : Bool) (o : Option ℕ) → single into out ≡ o → before ≡ code (cond b o none) → before - 1 < size
-      go false o s e = absurd (f e)
-      go true none s e = absurd (f e)
+      go : (b : Bool) (o : Option ℕ) → single into out ≡ o → suc before ≡ code (cond b o none) → before < size
+      go false o s e = absurd (omega arith)
+      go true none s e = absurd (omega arith)
       go true (some p) s e = let m : Linked size next first (p ∷ []) = rw (single_is into out p s).into_is at l in omega (arith, m.1)
 
 pub code_none : (o : Option ℕ) → code o ≡ 0 → o ≡ none
 code_none none q = refl
 code_none (some n) q = absurd (omega arith)
 
-pub code_some : (o : Option ℕ) (k : ℕ) → k ≡ code o → k ≢ 0 → o ≡ some (k - 1)
-code_some none k q f = absurd (f q)
-code_some (some n) k q f = let e : n ≡ k - 1 = omega arith in ap {B = Option ℕ} some e
+pub code_some : (o : Option ℕ) (k : ℕ) → suc k ≡ code o → o ≡ some k
+code_some none k q = absurd (omega arith)
+code_some (some n) k q = let e : n ≡ k = omega arith in ap {B = Option ℕ} some e
 
 -- ---- the walk
 
@@ -153,9 +154,9 @@ module _ (file : List ℕ) (nodes edges : ℕ) where
       let from : ℕ = le16 file (20 * nodes + 6 * e + 2) in
       shares_across (byte file (20 * from + 2)) (edges_with target from 0 (edge_records file nodes edges)) (edges_with source from 0 (edge_records file nodes edges))
 
-  module _ {first-in next-in first_out next-out : List ℕ} (ins : EdgesListed target file nodes edges first-in next-in) (outs : EdgesListed source file nodes edges first_out next-out) where
+  module _ {incoming outgoing : EdgeLists} (ins : EdgesListed target file nodes edges incoming) (outs : EdgesListed source file nodes edges outgoing) where
     pub shared_read : (e from before : ℕ) → from ≡ le16 file (20 * nodes + 6 * e + 2)
-        → ((size : ℕ) (into out : List ℕ) → Linked size next-in (get_or first-in from 0) into → Linked size next-out (get_or first_out from 0) out
+        → ((size : ℕ) (into out : List ℕ) → Linked size incoming.next (get_or incoming.first from 0) into → Linked size outgoing.next (get_or outgoing.first from 0) out
         → before ≡ code (shares_across (byte file (20 * from + 2)) into out))
         → before ≡ code (shared_by e)
     shared_read e from before q h =
@@ -163,10 +164,10 @@ module _ (file : List ℕ) (nodes edges : ℕ) where
         (rw q at h) edges (edges_with target n 0 (edge_records file nodes edges)) (edges_with source n 0 (edge_records file nodes edges)) (ins.listed n) (outs.listed n)
 
   -- it is an edge
-  pub shared_under : {first-in next-in : List ℕ} → EdgesListed target file nodes edges first-in next-in → (e before : ℕ) → before ≡ code (shared_by e) → before ≢ 0 → before - 1 < edges
-  shared_under {first-in} {next-in} ins e before q f =
+  pub shared_under : {lists : EdgeLists} → EdgesListed target file nodes edges lists → (e before : ℕ) → suc before ≡ code (shared_by e) → before < edges
+  shared_under {lists} ins e before q =
       let n : ℕ = le16 file (20 * nodes + 6 * e + 2) in
-      in_under (byte file (20 * n + 2)) (edges_with target n 0 (edge_records file nodes edges)) (edges_with source n 0 (edge_records file nodes edges)) edges next-in (get_or first-in n 0) before (ins.listed n) q f
+      in_under (byte file (20 * n + 2)) (edges_with target n 0 (edge_records file nodes edges)) (edges_with source n 0 (edge_records file nodes edges)) edges lists.next (get_or lists.first n 0) before (ins.listed n) q
 
   shared_is : (a v e : ℕ) → le16 file (20 * nodes + 6 * e + 2) < nodes → shares_with (network_at file nodes edges a v) (edge_at file (20 * nodes + 6 * e)) ≡ shared_by e
   unfolding shares_with incoming outgoing network_at
@@ -229,10 +230,10 @@ module _ (file : List ℕ) (nodes edges : ℕ) where
     unfolding place_edge
     simple_placed q m = placed none (code_none (shared_by e) q) m
 
-    pub equal_placed : (before : ℕ) → before ≡ code (shared_by e) → before ≢ 0
-        → Mapped (add_equal_edges (column_at h.now_columns e) (column_at h.now_columns (before - 1)) e (before - 1) h.now_columns) table' r → Placed (e + 1) r table'
+    pub equal_placed : (before : ℕ) → suc before ≡ code (shared_by e)
+        → Mapped (add_equal_edges (column_at h.now_columns e) (column_at h.now_columns before) e before h.now_columns) table' r → Placed (e + 1) r table'
     unfolding place_edge
-    equal_placed before q f m = placed (some (before - 1)) (code_some (shared_by e) before q f) m
+    equal_placed before q m = placed (some before) (code_some (shared_by e) before q) m
 
   pub all_placed : (e count : ℕ) (table : List ℕ) → Placed e count table → edges ≤ e → (a v : ℕ) → Mapped (columns (network_at file nodes edges a v)) table count
   unfolding place_edges

@@ -1,8 +1,15 @@
 -- The columns of the edges in a table of numbers: at an edge its column plus 1, or 0 if it has none yet. Assumes nothing.
 use Rattle.std.specs.Prelude.{ℕ, suc, ◌≡◌, List, [], ◌∷◌, map, cond, length, take, eqb}
 use Rattle.std.proofs.Math.Option.{Option, none, some}
+use Rattle.std.specs.Prelude as declared
+use Rattle.pywr.specs.declared.EdgeIndex.{EdgeIndex}
 use Rattle.pywr.specs.Network.{link}
 use Rattle.pywr.specs.ColEdgeMap.{Columns, single}
+
+-- an edge's number plus 1, or 0 for no edge
+abbrev pub number_of : declared.Option EdgeIndex → ℕ
+number_of declared.None = 0
+number_of (declared.Some edge) = suc edge.0
 
 abbrev pub code : Option ℕ → ℕ
 code none = 0

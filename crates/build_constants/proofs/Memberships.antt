@@ -1,9 +1,10 @@
 -- The walk over a node's memberships: each gives the node's rows in one set. Assumes nothing.
-use mathlib.Core.Path.{◌≡◌, refl, sym, ap, ◌∙◌}
-use Prim.Native.Nat.{ℕ, ◌+◌, ◌-◌, ◌<◌, ◌≤◌}
+use mathlib.Core.Path.{◌≡◌}
+use Prim.Native.Nat.{ℕ, ◌-◌, ◌<◌, ◌≤◌}
 use native.Mathlib.Omega.{arith}
 use mathlib.Core.Bool.{cond}
 use mathlib.Core.Logic.{inl, inr, ◌≢◌}
+use Rattle.std.specs.Prelude.{Result, Ok, Err}
 use mathlib.Core.List.{List, [], ◌∷◌, ◌++◌, map, append-nil}
 use lib.ListN.{get_or}
 use lib.Dec.{eqb}
@@ -19,10 +20,10 @@ use Rattle.pywr.specs.Rows.{ColumnMap, column_map, lower_row}
 use Rattle.pywr.specs.FixedRows.{lower_coefficient, exclusive_rows}
 use Rattle.pywr.specs.Programme.{Row}
 use Rattle.network_record.specs.declared.Counts.{Counts}
-use Rattle.build_append.specs.LpBuilder.{RowsHeld, AfterRows}
+use Rattle.build_append.specs.LpBuilder.{RowsHeld}
 use Rattle.build_append.specs.declared.Filled.{Filled}
-use Rattle.build_append.specs.declared.RowsAdded.{RowsAdded}
-use Rattle.build_append.specs.declared.RowsAdded.TheVariants.{Done, Full}
+use Rattle.build_exclusive_sets.specs.declared.ProgrammeFull.{ProgrammeFull}
+use Rattle.build_exclusive_sets.specs.declared.Memberships.{Memberships}
 use Rattle.build_exclusive_sets.specs.Sets.{sets_at, memberships_of}
 use Rattle.build_exclusive_sets.proofs.MembershipLaws.{set_of, node_sets}
 use Rattle.build_node_row.specs.Tables.{network_of, MembershipTables}
@@ -52,7 +53,7 @@ module _ (s : Sentinel) (f : ColumnMap) (n : ℕ) (x : Node) where
 
   module _ (next sets words₀ : List ℕ) (numbers₀ : List Float) (f₀ : Filled) (words : List ℕ) (numbers : List Float) (filled : Filled) (link : ℕ)
       (w : Walking next sets words₀ numbers₀ f₀ words numbers filled link) where
-    pub walked : link ≡ 0 → Adds (exclusive_rows s f n x sets) words₀ numbers₀ f₀ (Done filled) words numbers
+    pub walked : link ≡ 0 → Adds (exclusive_rows s f n x sets) words₀ numbers₀ f₀ (Ok filled) words numbers
     unfolding exclusive_rows
     walked z rows h =
         let none : w.memberships ≡ [] = walk_end 2048 next link w.memberships w.linked z in
@@ -72,11 +73,11 @@ module _ (s : Sentinel) (f : ColumnMap) (n : ℕ) (x : Node) where
           → Adding (rows ++ exclusive_rows s f n x sets) (exclusive_rows s f n x (set_of (link - 1) ∷ []) ++ exclusive_rows s f n x (map set_of step.rest)) words₀ words numbers filled
       here rows h = rw (step.is, set_more (set_of (link - 1)) (map set_of step.rest)) at (w.adding rows h)
 
-      module _ (r : RowsAdded) (words' : List ℕ) (numbers' : List Float) (added : Adds (exclusive_rows s f n x (set_of (link - 1) ∷ [])) words numbers filled r words' numbers') where
-        pub walk_over : r ≡ Full → Adds (exclusive_rows s f n x sets) words₀ numbers₀ f₀ Full words' numbers'
-        walk_over e rows h = adding_over _ _ _ words₀ words numbers filled (here rows h) r words' numbers' added e
+      module _ (r : Result Filled ProgrammeFull) (words' : List ℕ) (numbers' : List Float) (added : Adds (exclusive_rows s f n x (set_of (link - 1) ∷ [])) words numbers filled r words' numbers') where
+        pub walk_over : (full : ProgrammeFull) → r ≡ Err full → Adds (exclusive_rows s f n x sets) words₀ numbers₀ f₀ (Err full) words' numbers'
+        walk_over full e rows h = adding_over _ _ _ words₀ words numbers filled (here rows h) r words' numbers' added full e
 
-        pub walk_next : (g : Filled) (then : ℕ) → r ≡ Done g → then ≡ get_or next (link - 1) 0 → Walking next sets words₀ numbers₀ f₀ words' numbers' g then
+        pub walk_next : (g : Filled) (then : ℕ) → r ≡ Ok g → then ≡ get_or next (link - 1) 0 → Walking next sets words₀ numbers₀ f₀ words' numbers' g then
         walk_next g then e q = record {
           memberships = step.rest;
           linked = rw q step.linked;
@@ -84,13 +85,13 @@ module _ (s : Sentinel) (f : ColumnMap) (n : ℕ) (x : Node) where
         }
 
 -- the walk starts at the node's first membership
-module _ (s : Sentinel) (n : ℕ) (x : Node) (file : List ℕ) (c : Counts) (first_membership next_membership : List ℕ) (k link : ℕ) (words : List ℕ) (numbers : List Float) (filled : Filled)
-    (t : MembershipTables file c first_membership next_membership) (e : k ≡ n) (under : n < 256) (el : link ≡ get_or first_membership k 0) where
+module _ (s : Sentinel) (n : ℕ) (x : Node) (file : List ℕ) (c : Counts) (memberships : Memberships) (k link : ℕ) (words : List ℕ) (numbers : List Float) (filled : Filled)
+    (t : MembershipTables file c memberships) (e : k ≡ n) (under : n < 256) (el : link ≡ get_or memberships.first k 0) where
   sets_are : map set_of (memberships_of n 0 (sets_at file t.aggregate_set_at t.sets)) ≡ sets_with_node n 0 (column_map (network_of file c)).sets
   unfolding column_map
   sets_are = node_sets file t.aggregate_set_at t.sets t.tables.fit (network_of file c) t.tables.held n
 
-  pub walk_first : Walking s (column_map (network_of file c)) n x next_membership (sets_with_node n 0 (column_map (network_of file c)).sets) words numbers filled words numbers filled link
+  pub walk_first : Walking s (column_map (network_of file c)) n x memberships.next (sets_with_node n 0 (column_map (network_of file c)).sets) words numbers filled words numbers filled link
   walk_first = record {
     memberships = memberships_of n 0 (sets_at file t.aggregate_set_at t.sets);
     linked = rw (el, e) (t.tables.listed n under);

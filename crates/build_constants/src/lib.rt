@@ -8,267 +8,116 @@ ghost use Rattle.pywr.specs.FixedRows.{exclusive_rows, constant_rows_from};
 ghost use Rattle.pywr.specs.Programme.{Row, Maker};
 ghost use Rattle.pywr.specs.Makers.{constant_makers};
 ghost use Rattle.network_node.specs.Node.{node_at, node_place};
-ghost use Rattle.build_append.specs.LpBuilder.{RowsHeld, Holding, AfterRows};
+ghost use Rattle.build_append.specs.LpBuilder.{RowsHeld, Holding, AfterRows, filled_then, SameRuns};
 ghost use Rattle.build_makers.specs.MadeRows.{MadeHeld, MadeHolding, AfterMade};
-ghost use Rattle.build_node_row.specs.Tables.{network_of, EdgeTables, MembershipTables};
+ghost use Rattle.build_node_row.specs.Tables.{network_of, TablesHold, MembershipTables};
 ghost use Rattle.build_node_row.specs.EdgeColumns.{edge_columns_of};
 ghost use Rattle.layout.specs.WorkRoom.{WorkRoom};
 
-use build_append::{Filled, RowsAdded};
-use layout::{
-    BY_NODE, COLUMN_CEILING, EDGE_CEILING, ELEMENTS_MADE_AT, MEMBERSHIP_CEILING, NODE_CEILING,
-    SET_SIZE_CEILING, SHAPE_MADE_AT,
-};
-use network_record::Counts;
-use pywr::{ColumnNumber, Interval, NodeIndex, Sentinel};
+use build_append::LpBuilder;
+use build_exclusive_sets::{Memberships, ProgrammeFull};
+use build_makers::MakerKind;
+use build_node_row::EdgeTables;
+use layout::{ELEMENTS_MADE_AT, SET_SIZE_CEILING, SHAPE_MADE_AT};
+use pywr::{Interval, NodeIndex};
 
 // A constant node's row, with its min and max as bounds, becomes the last row.
 fn add_node_row(
-    s: &[u8],
-    c: Counts,
-    first_in: &[u16; NODE_CEILING],
-    next_in: &[u16; EDGE_CEILING],
-    first_out: &[u16; NODE_CEILING],
-    next_out: &[u16; EDGE_CEILING],
-    edge_to_col: &[u16; EDGE_CEILING],
+    tables: &EdgeTables<'_>,
     node: NodeIndex,
-    words: &mut [u16],
-    numbers: &mut [f64],
-    columns: &mut [ColumnNumber; COLUMN_CEILING],
-    f: Filled,
-) -> RowsAdded
-    requires { EdgeTables s.now c first_in.now next_in.now first_out.now next_out.now edge_to_col.now × (node.0 < c.nodes)
-        × WorkRoom words.old numbers.old × Holding words.old numbers.old f }
-    ensures { (rows : List Row) → RowsHeld rows words.old numbers.old f
+    lp: &mut LpBuilder<'_>,
+) -> Result<(), ProgrammeFull>
+    requires { TablesHold tables.now × (node.0 < tables.now.counts.nodes)
+        × WorkRoom lp.old.words.now lp.old.numbers.now × Holding lp.old.words.now lp.old.numbers.now lp.old.filled }
+    ensures rows { (rows : List Row) → RowsHeld rows lp.old.words.now lp.old.numbers.now lp.old.filled
         → AfterRows (rows ++ (record {
-          lower = (node_at s.now (node_place node.0)).min;
-          upper = (node_at s.now (node_place node.0)).max;
-          elements = node_row (column_map (network_of s.now c)) node.0;
+          lower = (node_at tables.now.file.now (node_place node.0)).min;
+          upper = (node_at tables.now.file.now (node_place node.0)).max;
+          elements = node_row (column_map (network_of tables.now.file.now tables.now.counts)) node.0;
         } ∷ []))
-        words.old result words.new numbers.new }
+        lp.old.words.now (filled_then result lp.new.filled) lp.new.words.now lp.new.numbers.now }
+    ensures same { SameRuns lp.old lp.new }
 {
-    let at = ELEMENTS_MADE_AT + f.elements;
-    let n = build_node_row::add_node(
-        s,
-        c,
-        first_in,
-        next_in,
-        first_out,
-        next_out,
-        edge_to_col,
-        node,
-        1.0,
-        columns,
-        &mut numbers[at..],
-        0,
-    );
-    build_append::add_fixed_row(
-        words,
-        numbers,
-        columns,
-        n,
-        f,
-        Interval {
-            lower: network_node::min(s, node),
-            upper: network_node::max(s, node),
-        },
-    )
+    let at = ELEMENTS_MADE_AT + lp.filled.elements;
+    let n = build_node_row::add_node(tables, node, 1.0, &mut lp.columns, &mut lp.numbers[at..], 0);
+    let bounds = Interval {
+        lower: network_node::min(tables.file, node),
+        upper: network_node::max(tables.file, node),
+    };
+    lp.add_fixed_row(n, bounds)
 }
 
 // The rows of a constant node in the exclusive sets that list it, once for each membership: membership j is of the set numbered j / SET_SIZE_CEILING.
 fn add_exclusive_rows(
-    s: &[u8],
-    c: Counts,
-    first_in: &[u16; NODE_CEILING],
-    next_in: &[u16; EDGE_CEILING],
-    first_out: &[u16; NODE_CEILING],
-    next_out: &[u16; EDGE_CEILING],
-    edge_to_col: &[u16; EDGE_CEILING],
-    edge_columns: usize,
-    first_membership: &[u16; NODE_CEILING],
-    next_membership: &[u16; MEMBERSHIP_CEILING],
+    tables: &EdgeTables<'_>,
+    memberships: &Memberships,
     node: NodeIndex,
-    sentinel: Sentinel,
-    words: &mut [u16],
-    numbers: &mut [f64],
-    columns: &mut [ColumnNumber; COLUMN_CEILING],
-    f: Filled,
-) -> RowsAdded
-    requires { EdgeTables s.now c first_in.now next_in.now first_out.now next_out.now edge_to_col.now × (node.0 < c.nodes)
-        × (edge_columns ≡ edge_columns_of s.now c) × MembershipTables s.now c first_membership.now next_membership.now
-        × WorkRoom words.old numbers.old × Holding words.old numbers.old f }
-    ensures { (rows : List Row) → RowsHeld rows words.old numbers.old f
-        → AfterRows (rows ++ exclusive_rows sentinel (column_map (network_of s.now c)) node.0 (node_at s.now (node_place node.0))
-        (sets_with_node node.0 0 (column_map (network_of s.now c)).sets))
-        words.old result words.new numbers.new }
+    lp: &mut LpBuilder<'_>,
+) -> Result<(), ProgrammeFull>
+    requires { TablesHold tables.now × (node.0 < tables.now.counts.nodes)
+        × (tables.now.edge_columns ≡ edge_columns_of tables.now.file.now tables.now.counts) × MembershipTables tables.now.file.now tables.now.counts memberships.now
+        × WorkRoom lp.old.words.now lp.old.numbers.now × Holding lp.old.words.now lp.old.numbers.now lp.old.filled }
+    ensures rows { (rows : List Row) → RowsHeld rows lp.old.words.now lp.old.numbers.now lp.old.filled
+        → AfterRows (rows ++ exclusive_rows lp.old.sentinel (column_map (network_of tables.now.file.now tables.now.counts)) node.0 (node_at tables.now.file.now (node_place node.0))
+        (sets_with_node node.0 0 (column_map (network_of tables.now.file.now tables.now.counts)).sets))
+        lp.old.words.now (filled_then result lp.new.filled) lp.new.words.now lp.new.numbers.now }
+    ensures same { SameRuns lp.old lp.new }
 {
-    let k = widths::wide16(node.0);
-    let mut filled = f;
-    let mut link = widths::wide16(first_membership[k]);
+    let mut link = usize::from(memberships.first[usize::from(node.0)]);
     while link != 0 {
         let membership = link - 1;
-        let r = build_set_rows::add_bounded_rows(
-            s,
-            c,
-            first_in,
-            next_in,
-            first_out,
-            next_out,
-            edge_to_col,
-            edge_columns,
-            node,
-            membership / SET_SIZE_CEILING,
-            sentinel,
-            words,
-            numbers,
-            columns,
-            filled,
-        );
-        match r {
-            RowsAdded::Full => {
-                return RowsAdded::Full;
-            }
-            RowsAdded::Done(g) => {
-                filled = g;
-                link = widths::wide16(next_membership[membership]);
-            }
-        }
+        let set = membership / SET_SIZE_CEILING;
+        build_set_rows::add_bounded_rows(tables, node, set, lp)?;
+        link = usize::from(memberships.next[membership]);
     }
-    RowsAdded::Done(filled)
+    Ok(())
 }
 
 // The rows of a constant node; a varying one has none here.
 fn add_constant_rows(
-    s: &[u8],
-    c: Counts,
-    first_in: &[u16; NODE_CEILING],
-    next_in: &[u16; EDGE_CEILING],
-    first_out: &[u16; NODE_CEILING],
-    next_out: &[u16; EDGE_CEILING],
-    edge_to_col: &[u16; EDGE_CEILING],
-    edge_columns: usize,
-    first_membership: &[u16; NODE_CEILING],
-    next_membership: &[u16; MEMBERSHIP_CEILING],
+    tables: &EdgeTables<'_>,
+    memberships: &Memberships,
     node: NodeIndex,
-    sentinel: Sentinel,
-    words: &mut [u16],
-    numbers: &mut [f64],
-    columns: &mut [ColumnNumber; COLUMN_CEILING],
-    f: Filled,
-) -> RowsAdded
-    requires { EdgeTables s.now c first_in.now next_in.now first_out.now next_out.now edge_to_col.now × (node.0 < c.nodes)
-        × (edge_columns ≡ edge_columns_of s.now c) × MembershipTables s.now c first_membership.now next_membership.now
-        × WorkRoom words.old numbers.old × Holding words.old numbers.old f }
-    ensures { (rows : List Row) → RowsHeld rows words.old numbers.old f
-        → AfterRows (rows ++ constant_rows_from sentinel (column_map (network_of s.now c)) node.0 (node_at s.now (node_place node.0) ∷ []))
-        words.old result words.new numbers.new }
+    lp: &mut LpBuilder<'_>,
+) -> Result<(), ProgrammeFull>
+    requires { TablesHold tables.now × (node.0 < tables.now.counts.nodes)
+        × (tables.now.edge_columns ≡ edge_columns_of tables.now.file.now tables.now.counts) × MembershipTables tables.now.file.now tables.now.counts memberships.now
+        × WorkRoom lp.old.words.now lp.old.numbers.now × Holding lp.old.words.now lp.old.numbers.now lp.old.filled }
+    ensures rows { (rows : List Row) → RowsHeld rows lp.old.words.now lp.old.numbers.now lp.old.filled
+        → AfterRows (rows ++ constant_rows_from lp.old.sentinel (column_map (network_of tables.now.file.now tables.now.counts)) node.0 (node_at tables.now.file.now (node_place node.0) ∷ []))
+        lp.old.words.now (filled_then result lp.new.filled) lp.new.words.now lp.new.numbers.now }
+    ensures same { SameRuns lp.old lp.new }
 {
-    if !network_node::is_constant(s, node) {
-        return RowsAdded::Done(f);
+    if !network_node::is_constant(tables.file, node) {
+        return Ok(());
     }
-    let k = widths::wide16(node.0);
-    if first_membership[k] == 0 {
-        return add_node_row(
-            s,
-            c,
-            first_in,
-            next_in,
-            first_out,
-            next_out,
-            edge_to_col,
-            node,
-            words,
-            numbers,
-            columns,
-            f,
-        );
+    if memberships.first[usize::from(node.0)] == 0 {
+        return add_node_row(tables, node, lp);
     }
-    add_exclusive_rows(
-        s,
-        c,
-        first_in,
-        next_in,
-        first_out,
-        next_out,
-        edge_to_col,
-        edge_columns,
-        first_membership,
-        next_membership,
-        node,
-        sentinel,
-        words,
-        numbers,
-        columns,
-        f,
-    )
+    add_exclusive_rows(tables, memberships, node, lp)
 }
 
 // The rows of all constant nodes, in node order.
 pub fn create_constant_constraints(
-    s: &[u8],
-    c: Counts,
-    first_in: &[u16; NODE_CEILING],
-    next_in: &[u16; EDGE_CEILING],
-    first_out: &[u16; NODE_CEILING],
-    next_out: &[u16; EDGE_CEILING],
-    edge_to_col: &[u16; EDGE_CEILING],
-    edge_columns: usize,
-    first_membership: &[u16; NODE_CEILING],
-    next_membership: &[u16; MEMBERSHIP_CEILING],
-    sentinel: Sentinel,
-    words: &mut [u16],
-    numbers: &mut [f64],
-    columns: &mut [ColumnNumber; COLUMN_CEILING],
-    f: Filled,
-) -> RowsAdded
-    requires { EdgeTables s.now c first_in.now next_in.now first_out.now next_out.now edge_to_col.now
-        × (edge_columns ≡ edge_columns_of s.now c) × MembershipTables s.now c first_membership.now next_membership.now
-        × WorkRoom words.old numbers.old × MadeHolding words.old numbers.old f }
-    ensures { (rows : List Row) (makers : List Maker) → MadeHeld rows makers words.old numbers.old f
-        → AfterMade (rows ++ constant_rows_from sentinel (column_map (network_of s.now c)) 0 (network_of s.now c).nodes)
-        (makers ++ constant_makers sentinel (column_map (network_of s.now c)) 0 (network_of s.now c).nodes)
-        words.old result words.new numbers.new }
+    tables: &EdgeTables<'_>,
+    memberships: &Memberships,
+    lp: &mut LpBuilder<'_>,
+) -> Result<(), ProgrammeFull>
+    requires { TablesHold tables.now
+        × (tables.now.edge_columns ≡ edge_columns_of tables.now.file.now tables.now.counts) × MembershipTables tables.now.file.now tables.now.counts memberships.now
+        × WorkRoom lp.old.words.now lp.old.numbers.now × MadeHolding lp.old.words.now lp.old.numbers.now lp.old.filled }
+    ensures rows { (rows : List Row) (makers : List Maker) → MadeHeld rows makers lp.old.words.now lp.old.numbers.now lp.old.filled
+        → AfterMade (rows ++ constant_rows_from lp.old.sentinel (column_map (network_of tables.now.file.now tables.now.counts)) 0 (network_of tables.now.file.now tables.now.counts).nodes)
+        (makers ++ constant_makers lp.old.sentinel (column_map (network_of tables.now.file.now tables.now.counts)) 0 (network_of tables.now.file.now tables.now.counts).nodes)
+        lp.old.words.now (filled_then result lp.new.filled) lp.new.words.now lp.new.numbers.now }
+    ensures same { SameRuns lp.old lp.new }
 {
-    let nodes = c.nodes;
-    let mut filled = f;
-    let mut i: usize = 0;
-    while i < nodes {
-        let index = widths::narrow16(i);
-        let r = add_constant_rows(
-            s,
-            c,
-            first_in,
-            next_in,
-            first_out,
-            next_out,
-            edge_to_col,
-            edge_columns,
-            first_membership,
-            next_membership,
-            NodeIndex(index),
-            sentinel,
-            words,
-            numbers,
-            columns,
-            filled,
-        );
-        match r {
-            RowsAdded::Full => {
-                return RowsAdded::Full;
-            }
-            RowsAdded::Done(g) => {
-                build_makers::put_makers(
-                    &mut words[SHAPE_MADE_AT..],
-                    filled.rows,
-                    g.rows,
-                    BY_NODE,
-                    index,
-                    1,
-                );
-                filled = g;
-                i += 1;
-            }
-        }
+    for i in 0..tables.counts.nodes {
+        let index = i as u16;
+        let before = lp.filled.rows;
+        add_constant_rows(tables, memberships, NodeIndex(index), lp)?;
+        let shape = &mut lp.words[SHAPE_MADE_AT..];
+        build_makers::put_makers(shape, before, lp.filled.rows, MakerKind::Node, index, 1);
     }
-    RowsAdded::Done(filled)
+    Ok(())
 }

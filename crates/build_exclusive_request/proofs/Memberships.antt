@@ -4,6 +4,7 @@ use Prim.Native.Nat.{ℕ, ◌+◌, ◌-◌, ◌<◌, ◌≤◌}
 use native.Mathlib.Omega.{arith}
 use mathlib.Core.Bool.{cond}
 use mathlib.Core.Logic.{inl, inr, ◌≢◌}
+use Rattle.std.specs.Prelude.{Result, Ok, Err}
 use mathlib.Core.List.{List, [], ◌∷◌, ◌++◌, map, append-nil, append_assoc}
 use lib.ListN.{length, get_or, length-append}
 use lib.Dec.{eqb}
@@ -20,9 +21,9 @@ use Rattle.build_exclusive_sets.specs.Sets.{sets_at, memberships_of}
 use Rattle.build_exclusive_sets.proofs.MembershipLaws.{set_of, node_sets}
 use Rattle.build_node_row.specs.Tables.{network_of, MembershipTables}
 use Rattle.build_node_table.specs.NodeTable.{NodeRowsHeld, AfterRequests, requests_before, listed_requests}
-use Rattle.build_node_table.specs.declared.NodeRows.{NodeRows}
-use Rattle.build_node_table.specs.declared.NodeRowsAdded.{NodeRowsAdded}
-use Rattle.build_node_table.specs.declared.NodeRowsAdded.TheVariants.{Done, Full}
+use Rattle.build_node_table.specs.NodeTable.{NodeRows}
+use Rattle.build_exclusive_sets.specs.declared.Memberships.{Memberships}
+use Rattle.build_exclusive_sets.specs.declared.ProgrammeFull.{ProgrammeFull}
 use Rattle.build_node_table.proofs.Table.{requests_done, full_later}
 
 -- the loop's measure: what is left above the membership's number
@@ -58,7 +59,7 @@ module _ (f : ColumnMap) (n : ℕ) (next : List ℕ) (s : Sentinel) where
     pub rows : NodeRowsHeld s asks words numbers r
 
   module _ (words : List ℕ) (numbers : List Float) (r : NodeRows) (link : ℕ) (w : Walking words numbers r link) where
-    pub walked : link ≡ 0 → AfterRequests s whole (Done r) words numbers
+    pub walked : link ≡ 0 → AfterRequests s whole (Ok r) words numbers
     unfolding exclusive_requests
     walked z =
         let none : w.memberships ≡ [] = walk_end 2048 next link w.memberships w.linked z in
@@ -97,19 +98,19 @@ module _ (f : ColumnMap) (n : ℕ) (next : List ℕ) (s : Sentinel) where
             w.rows.counted,
           )
 
-      module _ (v : NodeRowsAdded) (words' : List ℕ) (numbers' : List Float) (a : AfterRequests s (w.asks ++ two) v words' numbers') where
-        pub walk_full : v ≡ Full → AfterRequests s whole Full words' numbers'
-        walk_full e = rw rest_is (full_later s (w.asks ++ two) (exclusive_requests f n (map set_of step.rest)) v words' numbers' a e)
+      module _ (v : Result NodeRows ProgrammeFull) (words' : List ℕ) (numbers' : List Float) (a : AfterRequests s (w.asks ++ two) v words' numbers') where
+        pub walk_full : (full : ProgrammeFull) → v ≡ Err full → AfterRequests s whole (Err full) words' numbers'
+        walk_full full e = rw rest_is (full_later s (w.asks ++ two) (exclusive_requests f n (map set_of step.rest)) v words' numbers' a full e)
 
-        pub walk_next : (r' : NodeRows) (j : ℕ) → v ≡ Done r' → j ≡ link - 1 → Walking words' numbers' r' (get_or next j 0)
+        pub walk_next : (r' : NodeRows) (j : ℕ) → v ≡ Ok r' → j ≡ link - 1 → Walking words' numbers' r' (get_or next j 0)
         walk_next r' j e ej = record { asks = w.asks ++ two; memberships = step.rest; linked = rw ej step.linked; rest = rest_is; rows = a.done r' e }
 
 -- the walk starts at the node's first membership
-pub walk_first : (file : List ℕ) (c : Counts) (first_membership next_membership : List ℕ) (n k : ℕ) (s : Sentinel) (words : List ℕ) (numbers : List Float) (r : NodeRows)
-    → MembershipTables file c first_membership next_membership → k ≡ n → n < 256 → NodeRowsHeld s (requests_before (column_map (network_of file c)) n) words numbers r
-    → Walking (column_map (network_of file c)) n next_membership s words numbers r (get_or first_membership k 0)
+pub walk_first : (file : List ℕ) (c : Counts) (memberships : Memberships) (n k : ℕ) (s : Sentinel) (words : List ℕ) (numbers : List Float) (r : NodeRows)
+    → MembershipTables file c memberships → k ≡ n → n < 256 → NodeRowsHeld s (requests_before (column_map (network_of file c)) n) words numbers r
+    → Walking (column_map (network_of file c)) n memberships.next s words numbers r (get_or memberships.first k 0)
 unfolding column_map
-walk_first file c first_membership next_membership n k s words numbers r t e under h =
+walk_first file c memberships n k s words numbers r t e under h =
     let f : ColumnMap = column_map (network_of file c) in
     let sets = node_sets file t.aggregate_set_at t.sets t.tables.fit (network_of file c) t.tables.held n in
     record {

@@ -5,152 +5,85 @@ ghost use Rattle.std.specs.Prelude.{◌≡◌, List, [], ◌∷◌, ◌++◌, �
 ghost use Rattle.layout.specs.Layout.{set_ceiling, node_row_ceiling, words_length, numbers_length};
 ghost use Rattle.pywr.specs.Rows.{column_map};
 ghost use Rattle.pywr.specs.VaryingRows.{RowRequest, exclusive_requests};
-ghost use Rattle.build_node_row.specs.Tables.{network_of, EdgeTables, MembershipTables};
+ghost use Rattle.build_node_row.specs.Tables.{network_of, TablesHold, MembershipTables};
 ghost use Rattle.build_node_row.specs.EdgeColumns.{edge_columns_of};
-ghost use Rattle.build_node_table.specs.NodeTable.{NodeRowsHeld, NodeRowsHolding, AfterRequests, requests_before, listed_requests};
+ghost use Rattle.build_node_table.specs.NodeTable.{node_rows, node_rows_then, NodeRowsHeld, NodeRowsHolding, AfterRequests, requests_before, listed_requests};
+ghost use Rattle.build_append.specs.LpBuilder.{SameRuns};
 ghost use Rattle.layout.specs.WorkRoom.{WorkRoom};
 
-use build_node_table::{NodeRows, NodeRowsAdded};
-use layout::{COLUMN_CEILING, EDGE_CEILING, MEMBERSHIP_CEILING, NODE_CEILING, SET_SIZE_CEILING};
-use network_record::Counts;
-use pywr::{ColumnIndex, ColumnNumber, NodeIndex, Sentinel};
-
-// The types of node rows with a set (NodeRowType of builder.rs).
-const BINARY_UPPER: u16 = 1;
-
-const BINARY_LOWER: u16 = 2;
+use build_append::LpBuilder;
+use build_exclusive_sets::{Memberships, ProgrammeFull};
+use build_node_row::EdgeTables;
+use build_node_table::NodeRowType;
+use layout::SET_SIZE_CEILING;
+use pywr::{ColumnIndex, NodeIndex};
 
 // The memberships of a set, in the width of the table.
 const SET_SIZE: u16 = SET_SIZE_CEILING as u16;
 
 // A node that a set lists asks for its upper row, then for its lower row.
 fn request_bounded_rows(
-    s: &[u8],
-    c: Counts,
-    first_in: &[u16; NODE_CEILING],
-    next_in: &[u16; EDGE_CEILING],
-    first_out: &[u16; NODE_CEILING],
-    next_out: &[u16; EDGE_CEILING],
-    edge_to_col: &[u16; EDGE_CEILING],
-    edge_columns: usize,
+    tables: &EdgeTables<'_>,
     node: NodeIndex,
     set: u16,
-    sentinel: Sentinel,
-    words: &mut [u16],
-    numbers: &mut [f64],
-    columns: &mut [ColumnNumber; COLUMN_CEILING],
-    rows: NodeRows,
-) -> NodeRowsAdded
-    requires { EdgeTables s.now c first_in.now next_in.now first_out.now next_out.now edge_to_col.now × (node.0 < c.nodes)
-        × (edge_columns ≡ edge_columns_of s.now c) × (set < set_ceiling)
-        × WorkRoom words.old numbers.old × NodeRowsHolding sentinel words.old numbers.old rows × (rows.count + 2 ≤ node_row_ceiling) }
-    ensures { (asks : List RowRequest) → NodeRowsHeld sentinel asks words.old numbers.old rows
-        → AfterRequests sentinel (asks ++ exclusive_requests (column_map (network_of s.now c)) node.0 (set ∷ [])) result words.new numbers.new }
+    lp: &mut LpBuilder<'_>,
+    count: usize,
+) -> Result<usize, ProgrammeFull>
+    requires { TablesHold tables.now × (node.0 < tables.now.counts.nodes)
+        × (tables.now.edge_columns ≡ edge_columns_of tables.now.file.now tables.now.counts) × (set < set_ceiling)
+        × WorkRoom lp.old.words.now lp.old.numbers.now × NodeRowsHolding lp.old.sentinel lp.old.words.now lp.old.numbers.now (node_rows lp.old count) × (count + 2 ≤ node_row_ceiling) }
+    ensures rows { (asks : List RowRequest) → NodeRowsHeld lp.old.sentinel asks lp.old.words.now lp.old.numbers.now (node_rows lp.old count)
+        → AfterRequests lp.old.sentinel (asks ++ exclusive_requests (column_map (network_of tables.now.file.now tables.now.counts)) node.0 (set ∷ [])) (node_rows_then result lp.new) lp.new.words.now lp.new.numbers.now }
+    ensures same { SameRuns lp.old lp.new }
 {
-    let column = ColumnIndex(widths::narrow16(edge_columns + widths::wide16(set)));
-    let r = build_node_request::request_bounded_row(
-        s,
-        c,
-        first_in,
-        next_in,
-        first_out,
-        next_out,
-        edge_to_col,
+    let column = ColumnIndex((tables.edge_columns + usize::from(set)) as u16);
+    let upper = build_node_request::request_bounded_row(
+        tables,
         node,
         -1.0,
         column,
         1.0,
-        BINARY_UPPER,
+        NodeRowType::BinaryUpper,
         set,
-        sentinel,
-        words,
-        numbers,
-        columns,
-        rows,
-    );
-    match r {
-        NodeRowsAdded::Full => NodeRowsAdded::Full,
-        NodeRowsAdded::Done(upper) => build_node_request::request_bounded_row(
-            s,
-            c,
-            first_in,
-            next_in,
-            first_out,
-            next_out,
-            edge_to_col,
-            node,
-            1.0,
-            column,
-            -1.0,
-            BINARY_LOWER,
-            set,
-            sentinel,
-            words,
-            numbers,
-            columns,
-            upper,
-        ),
-    }
+        lp,
+        count,
+    )?;
+    build_node_request::request_bounded_row(
+        tables,
+        node,
+        1.0,
+        column,
+        -1.0,
+        NodeRowType::BinaryLower,
+        set,
+        lp,
+        upper,
+    )
 }
 
 // A node asks for two rows for each of its memberships: membership j is of the set numbered j / SET_SIZE_CEILING.
 pub fn request_exclusive_rows(
-    s: &[u8],
-    c: Counts,
-    first_in: &[u16; NODE_CEILING],
-    next_in: &[u16; EDGE_CEILING],
-    first_out: &[u16; NODE_CEILING],
-    next_out: &[u16; EDGE_CEILING],
-    edge_to_col: &[u16; EDGE_CEILING],
-    edge_columns: usize,
-    first_membership: &[u16; NODE_CEILING],
-    next_membership: &[u16; MEMBERSHIP_CEILING],
+    tables: &EdgeTables<'_>,
+    memberships: &Memberships,
     node: NodeIndex,
-    sentinel: Sentinel,
-    words: &mut [u16],
-    numbers: &mut [f64],
-    columns: &mut [ColumnNumber; COLUMN_CEILING],
-    rows: NodeRows,
-) -> NodeRowsAdded
-    requires { EdgeTables s.now c first_in.now next_in.now first_out.now next_out.now edge_to_col.now × (node.0 < c.nodes)
-        × (edge_columns ≡ edge_columns_of s.now c) × MembershipTables s.now c first_membership.now next_membership.now
-        × WorkRoom words.old numbers.old
-        × NodeRowsHeld sentinel (requests_before (column_map (network_of s.now c)) node.0) words.old numbers.old rows
-        × (length (requests_before (column_map (network_of s.now c)) node.0 ++ listed_requests (column_map (network_of s.now c)) node.0) ≤ node_row_ceiling) }
-    ensures { AfterRequests sentinel (requests_before (column_map (network_of s.now c)) node.0 ++ listed_requests (column_map (network_of s.now c)) node.0)
-        result words.new numbers.new }
+    lp: &mut LpBuilder<'_>,
+    count: usize,
+) -> Result<usize, ProgrammeFull>
+    requires { TablesHold tables.now × (node.0 < tables.now.counts.nodes)
+        × (tables.now.edge_columns ≡ edge_columns_of tables.now.file.now tables.now.counts) × MembershipTables tables.now.file.now tables.now.counts memberships.now
+        × WorkRoom lp.old.words.now lp.old.numbers.now
+        × NodeRowsHeld lp.old.sentinel (requests_before (column_map (network_of tables.now.file.now tables.now.counts)) node.0) lp.old.words.now lp.old.numbers.now (node_rows lp.old count)
+        × (length (requests_before (column_map (network_of tables.now.file.now tables.now.counts)) node.0 ++ listed_requests (column_map (network_of tables.now.file.now tables.now.counts)) node.0) ≤ node_row_ceiling) }
+    ensures rows { AfterRequests lp.old.sentinel (requests_before (column_map (network_of tables.now.file.now tables.now.counts)) node.0 ++ listed_requests (column_map (network_of tables.now.file.now tables.now.counts)) node.0)
+        (node_rows_then result lp.new) lp.new.words.now lp.new.numbers.now }
+    ensures same { SameRuns lp.old lp.new }
 {
-    let k = widths::wide16(node.0);
-    let mut held = rows;
-    let mut link = first_membership[k];
+    let mut held = count;
+    let mut link = memberships.first[usize::from(node.0)];
     while link != 0 {
         let membership = link - 1;
-        let r = request_bounded_rows(
-            s,
-            c,
-            first_in,
-            next_in,
-            first_out,
-            next_out,
-            edge_to_col,
-            edge_columns,
-            node,
-            membership / SET_SIZE,
-            sentinel,
-            words,
-            numbers,
-            columns,
-            held,
-        );
-        match r {
-            NodeRowsAdded::Full => {
-                return NodeRowsAdded::Full;
-            }
-            NodeRowsAdded::Done(more) => {
-                held = more;
-                link = next_membership[widths::wide16(membership)];
-            }
-        }
+        held = request_bounded_rows(tables, node, membership / SET_SIZE, lp, held)?;
+        link = memberships.next[usize::from(membership)];
     }
-    NodeRowsAdded::Done(held)
+    Ok(held)
 }

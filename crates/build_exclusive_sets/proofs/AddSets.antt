@@ -1,7 +1,8 @@
 -- The loop over the sets of an aggregate: a set that is known, one that is new, and one too many. Assumes nothing.
 use Prim.Native.Nat.{ℕ, suc, ◌+◌, ◌-◌, ◌<◌, ◌≤◌}
+use Rattle.std.specs.Prelude.{Ok, Err}
 use mathlib.Core.Path.{◌≡◌, refl, sym, ap, ◌∙◌, subst}
-use mathlib.Core.Logic.{⊎_elim}
+use mathlib.Core.Logic.{⊎_elim, ◌≢◌}
 use mathlib.Core.List.{List, [], ◌∷◌, ◌++◌}
 use mathlib.Core.Bool.{Bool, true, false, cond, ◌||◌}
 use native.Mathlib.Omega.{arith}
@@ -14,10 +15,10 @@ use Rattle.pywr.specs.Bytes.{byte}
 use Rattle.pywr.specs.ExclusiveSets.{same_set, has_set, add_sets, set_number}
 use Rattle.fields.specs.Records.{records_at, records_end}
 use Rattle.network_aggregate.specs.AggregatedNode.{aggregate_set_at, set_end}
-use Rattle.network_laws.specs.Passed.{SetPassed}
+use Rattle.network_laws.specs.Passed.{SetPassed, AggregatePassed}
 use Rattle.fields.proofs.RecordLaws.{end_more, records_left, records_over}
 use Rattle.build_exclusive_sets.specs.Sets.{SetsFit, sets_at, Collected}
-use Rattle.build_exclusive_sets.specs.declared.Sets.{Sets}
+use Rattle.build_exclusive_sets.specs.declared.ProgrammeFull.{ProgrammeFull}
 use Rattle.build_exclusive_sets.proofs.SetNumber.{sets_length}
 
 -- ---- one set more
@@ -30,6 +31,15 @@ number_known s (t ∷ ts) h = go (same_set t s) (λ l. number_known s ts l) h
     go : (b : Bool) → (set_number s ts < length ts → has_set s ts ≡ true) → cond b 0 (suc (set_number s ts)) < suc (length ts) → (b || has_set s ts) ≡ true
     go true ih l = refl
     go false ih l = ih (omega arith)
+
+number_most : (s : List ℕ) (known : List (List ℕ)) → set_number s known ≤ length known
+unfolding set_number
+number_most s [] = omega arith
+number_most s (t ∷ ts) = go (same_set t s) (number_most s ts)
+  where
+    go : (b : Bool) → set_number s ts ≤ length ts → cond b 0 (suc (set_number s ts)) ≤ suc (length ts)
+    go true h = omega arith
+    go false h = omega arith
 
 number_new : (s : List ℕ) (known : List (List ℕ)) → length known ≤ set_number s known → has_set s known ≡ false
 unfolding set_number has_set
@@ -110,19 +120,23 @@ module _ (file : List ℕ) (at : ℕ) (places₀ : List ℕ) (known sets : ℕ) 
     next_stands = ap (set_end file) h.stands ∙ sym (end_more (set_end file) i (at + 12))
 
     module _ (lt : i < sets) where
-      pub adding_known : set_number (aggregate_set_at file here) (sets_at file places count) < count → Adding file at places₀ known sets places count (set_end file here) (i + 1)
+      -- the set that stands next
+      pub next_fits : AggregatePassed file 256 at → SetPassed file 256 here
+      next_fits p = subst (SetPassed file 256) (sym h.stands) (p.sets i (omega (arith, h.size)))
+
+      pub adding_known : set_number (aggregate_set_at file here) (sets_at file places count) ≢ count → Adding file at places₀ known sets places count (set_end file here) (i + 1)
       adding_known l = record {
         within = omega arith;
         size = h.size;
         stands = next_stands;
         fit = h.fit;
-        from = h.from ∙ rw (records_left (set_end file) sets i here lt (aggregate_set_at file)) (add_known (aggregate_set_at file here) rest (sets_at file places count) (omega (arith, counted)));
+        from = h.from ∙ rw (records_left (set_end file) sets i here lt (aggregate_set_at file)) (add_known (aggregate_set_at file here) rest (sets_at file places count) (omega (arith, counted, number_most (aggregate_set_at file here) (sets_at file places count))));
       }
 
-      added : count ≤ set_number (aggregate_set_at file here) (sets_at file places count) → all ≡ add_sets (sets_at file places count ++ (aggregate_set_at file here ∷ [])) rest
+      added : set_number (aggregate_set_at file here) (sets_at file places count) ≡ count → all ≡ add_sets (sets_at file places count ++ (aggregate_set_at file here ∷ [])) rest
       added l = h.from ∙ rw (records_left (set_end file) sets i here lt (aggregate_set_at file)) (add_new (aggregate_set_at file here) rest (sets_at file places count) (omega (arith, counted)))
 
-      pub adding_new : count ≤ set_number (aggregate_set_at file here) (sets_at file places count) → (count ≡ 128 → ⊥) → SetPassed file 256 here
+      pub adding_new : set_number (aggregate_set_at file here) (sets_at file places count) ≡ count → (count ≡ 128 → ⊥) → SetPassed file 256 here
           → Adding file at places₀ known sets (set places count here) (count + 1) (set_end file here) (i + 1)
       adding_new l ne f =
           let few : count < 128 = omega (arith, h.fit.few) in
@@ -134,18 +148,18 @@ module _ (file : List ℕ) (at : ℕ) (places₀ : List ℕ) (known sets : ℕ) 
             from = added l ∙ rw (← (sets_snoc file places count here (omega (arith, h.fit.long))));
           }
 
-      pub adding_over : count ≤ set_number (aggregate_set_at file here) (sets_at file places count) → count ≡ 128 → (places' : List ℕ) → Collected file all Sets.TooMany places'
-      adding_over l e places' = record {
+      pub adding_over : set_number (aggregate_set_at file here) (sets_at file places count) ≡ count → count ≡ 128 → (full : ProgrammeFull) → Collected file all (Err full)
+      adding_over l e full = record {
         held = λ k q. absurd (let z : ◌≡◌ {A = ℕ} 0 1 = cc in omega arith);
-        over = λ q. rw (added l) (let a = adds_longer rest (sets_at file places count ++ (aggregate_set_at file here ∷ [])) in let b = length-append
+        over = λ f q. rw (added l) (let a = adds_longer rest (sets_at file places count ++ (aggregate_set_at file here ∷ [])) in let b = length-append
             (sets_at file places count) (aggregate_set_at file here ∷ []) in omega (arith, counted));
       }
 
-    pub adding_done : sets ≤ i → Collected file all (Sets.Count count) places
+    pub adding_done : sets ≤ i → Collected file all (Ok (record { at = places; count = count }))
     unfolding add_sets
     adding_done l =
         let e : all ≡ sets_at file places count = h.from ∙ rw (records_over (set_end file) sets i here l (aggregate_set_at file)) in
         record {
-          held = λ k q. let w : count ≡ k = cc in rw (← w) (sym e, h.fit);
-          over = λ q. absurd (let z : ◌≡◌ {A = ℕ} 0 1 = cc in omega arith);
+          held = λ x q. let w : record { at = places; count = count } ≡ x = cc in rw (← w) (sym e, h.fit);
+          over = λ f q. absurd (let z : ◌≡◌ {A = ℕ} 0 1 = cc in omega arith);
         }

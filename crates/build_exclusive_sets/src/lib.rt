@@ -9,16 +9,39 @@ ghost use Rattle.network_aggregate.specs.AggregatedNode.{aggregate_set_at, set_e
 ghost use Rattle.network_laws.specs.Passed.{SetPassed, AggregatePassed};
 ghost use Rattle.network_record.specs.Counts.{network_of, SectionsOf};
 ghost use Rattle.laws.specs.Linked.{Linked};
-ghost use Rattle.build_exclusive_sets.specs.Sets.{sets_at, SetsFit, Collected, places_in, memberships_of, Memberships};
+ghost use Rattle.build_exclusive_sets.specs.Sets.{sets_at, SetsFit, Collected, sets_then, places_in, memberships_of, MembershipsFrom};
+ghost use Rattle.pywr.specs.Answers.{refusal_at};
+ghost use Rattle.pywr.specs.declared.Reason.{Reason};
 
 use layout::{MEMBERSHIP_CEILING, NODE_CEILING, SET_CEILING, SET_SIZE_CEILING};
 use network_record::Counts;
+use pywr::{Reason, Refusal};
 
-// How many sets there are, or more than the ceiling.
-#[derive(Clone, Copy)]
-pub enum Sets {
-    Count(usize),
-    TooMany,
+// The programme is over its ceilings.
+#[derive(Clone, Copy, PartialEq, Eq)]
+pub struct ProgrammeFull;
+
+impl From<ProgrammeFull> for Refusal {
+    ghost from_gives = { λ _ r. r ≡ refusal_at Reason.OverCeilings 0 };
+
+    fn from(_full: ProgrammeFull) -> Refusal {
+        Reason::OverCeilings.at(0)
+    }
+}
+
+// The distinct exclusive sets: the offset of each, where it first appears, and how many there are.
+#[derive(Drop)]
+pub struct ExclusiveSets {
+    pub at: [u16; SET_CEILING],
+    pub count: usize,
+}
+
+// The sets that list each node, as linked lists: a node's first membership and a membership's next one, each plus 1, or 0 at the end of a list.
+// Membership SET_SIZE_CEILING * k + i is member i of the set numbered k.
+#[derive(Drop)]
+pub struct Memberships {
+    pub first: [u16; NODE_CEILING],
+    pub next: [u16; MEMBERSHIP_CEILING],
 }
 
 // Sets are equal as ordered lists.
@@ -30,127 +53,97 @@ pub fn same_set(s: &[u8], a: usize, b: usize) -> bool
     if size != network_aggregate::set_size(s, b) {
         return false;
     }
-    let mut i: usize = 0;
-    while i < size {
+    for i in 0..size {
         let x = network_aggregate::member(s, a, i);
         let y = network_aggregate::member(s, b, i);
         if x.0 != y.0 {
             return false;
         }
-        i += 1;
     }
     true
 }
 
-// The number of the set at `at` among the first `count`, or `count`.
-pub fn set_number(s: &[u8], set_at: &[u16; SET_CEILING], count: usize, at: usize) -> usize
-    requires { SetsFit s.now set_at.now count × (set_end s.now at ≤ length s.now) }
-    ensures { result ≡ set_number (aggregate_set_at s.now at) (sets_at s.now set_at.now count) }
-{
-    let mut k: usize = 0;
-    while k < count {
-        if same_set(s, widths::wide16(set_at[k]), at) {
-            return k;
-        }
-        k += 1;
-    }
-    k
-}
-
-// The sets of the aggregate at `at`, each added to the first `known` if it is not there yet.
-fn add_sets(s: &[u8], at: usize, known: usize, set_at: &mut [u16; SET_CEILING]) -> Sets
-    requires { AggregatePassed s.now node_ceiling at × SetsFit s.now set_at.old known × (length s.now ≤ 65536) }
-    ensures { Collected s.now (add_sets (sets_at s.now set_at.old known) (aggregate_at s.now at).sets) result set_at.new }
-{
-    let sets = network_aggregate::set_count(s, at);
-    let mut count = known;
-    let mut here = network_aggregate::sets_at(at);
-    let mut i: usize = 0;
-    while i < sets {
-        if set_number(s, set_at, count, here) < count {
-            here = network_aggregate::set_end(s, here);
-            i += 1;
-        } else {
-            if count == SET_CEILING {
-                return Sets::TooMany;
-            }
-            set_at[count] = widths::narrow16(here);
-            count += 1;
-            here = network_aggregate::set_end(s, here);
-            i += 1;
-        }
-    }
-    Sets::Count(count)
-}
-
-// The distinct sets of the exclusive aggregates: the offset of each, where it first appears.
-pub fn collect_sets(s: &[u8], c: Counts, set_at: &mut [u16; SET_CEILING]) -> Sets
-    requires { SectionsOf s.now c × (length set_at.old ≡ set_ceiling) }
-    ensures { Collected s.now (exclusive_sets (network_of s.now c)) result set_at.new }
-{
-    let aggregates = c.aggregates;
-    let mut count: usize = 0;
-    let mut at = network_edge::edges_end(c.nodes, c.edges);
-    let mut i: usize = 0;
-    while i < aggregates {
-        if network_aggregate::is_exclusive(s, at) {
-            let r = add_sets(s, at, count, set_at);
-            match r {
-                Sets::TooMany => {
-                    return Sets::TooMany;
-                }
-                Sets::Count(k) => {
-                    count = k;
-                    at = network_aggregate::aggregate_end(s, at);
-                    i += 1;
-                }
-            }
-        } else {
-            at = network_aggregate::aggregate_end(s, at);
-            i += 1;
-        }
-    }
-    Sets::Count(count)
-}
-
 // The members of the set numbered k, whose record stands at `at`, each in front of the memberships so far.
-fn list_set(
-    s: &[u8],
-    k: usize,
-    at: usize,
-    first: &mut [u16; NODE_CEILING],
-    next: &mut [u16; MEMBERSHIP_CEILING],
-)
+fn list_set(s: &[u8], k: usize, at: usize, memberships: &mut Memberships)
     requires { (k < set_ceiling) × SetPassed s.now node_ceiling at }
-    ensures { (of : ℕ → List ℕ) → Memberships (set_size_ceiling * k + set_size_ceiling) first.old next.old of
-        → Memberships (set_size_ceiling * k) first.new next.new (λ n. places_in n (set_size_ceiling * k) (aggregate_set_at s.now at) ++ of n) }
+    ensures { (of : ℕ → List ℕ) → MembershipsFrom (set_size_ceiling * k + set_size_ceiling) memberships.old.first memberships.old.next of
+        → MembershipsFrom (set_size_ceiling * k) memberships.new.first memberships.new.next (λ n. places_in n (set_size_ceiling * k) (aggregate_set_at s.now at) ++ of n) }
 {
-    let mut i = network_aggregate::set_size(s, at);
-    while 0 < i {
-        i -= 1;
+    for i in (0..network_aggregate::set_size(s, at)).rev() {
         let m = network_aggregate::member(s, at, i);
-        let n = widths::wide16(m.0);
-        next[SET_SIZE_CEILING * k + i] = first[n];
-        first[n] = widths::narrow16(SET_SIZE_CEILING * k + i + 1);
+        let n = usize::from(m.0);
+        let place = SET_SIZE_CEILING * k + i;
+        memberships.next[place] = memberships.first[n];
+        memberships.first[n] = place as u16 + 1;
     }
 }
 
-// The memberships of every node as linked lists: membership SET_SIZE_CEILING * k + i is member i of the set numbered k.
-pub fn list_members(
-    s: &[u8],
-    set_at: &[u16; SET_CEILING],
-    sets: usize,
-    first: &mut [u16; NODE_CEILING],
-    next: &mut [u16; MEMBERSHIP_CEILING],
-)
-    requires { SetsFit s.now set_at.now sets × (length next.old ≡ membership_ceiling) }
-    ensures { (n : ℕ) → n < node_ceiling → Linked membership_ceiling next.new (get_or first.new n 0)
-        (memberships_of n 0 (sets_at s.now set_at.now sets)) }
-{
-    *first = [0u16; NODE_CEILING];
-    let mut k = sets;
-    while 0 < k {
-        k -= 1;
-        list_set(s, k, widths::wide16(set_at[k]), first, next);
+impl ExclusiveSets {
+    // The number of the set at `at` among them, or their count.
+    pub fn set_number(&self, s: &[u8], at: usize) -> usize
+        requires { SetsFit s.now self.now.at self.now.count × (set_end s.now at ≤ length s.now) }
+        ensures { result ≡ set_number (aggregate_set_at s.now at) (sets_at s.now self.now.at self.now.count) }
+    {
+        for k in 0..self.count {
+            if same_set(s, usize::from(self.at[k]), at) {
+                return k;
+            }
+        }
+        self.count
     }
+
+    // The sets of the aggregate at `at`, each added if it is not there yet.
+    fn add_sets(&mut self, s: &[u8], at: usize) -> Result<(), ProgrammeFull>
+        requires { AggregatePassed s.now node_ceiling at × SetsFit s.now self.old.at self.old.count × (length s.now ≤ 65536) }
+        ensures { Collected s.now (add_sets (sets_at s.now self.old.at self.old.count) (aggregate_at s.now at).sets) (sets_then result self.new) }
+    {
+        let sets = network_aggregate::set_count(s, at);
+        let mut here = network_aggregate::sets_at(at);
+        for _ in 0..sets {
+            if self.set_number(s, here) == self.count {
+                if self.count == SET_CEILING {
+                    return Err(ProgrammeFull);
+                }
+                self.at[self.count] = here as u16;
+                self.count += 1;
+            }
+            here = network_aggregate::set_end(s, here);
+        }
+        Ok(())
+    }
+
+    // The memberships of every node in these sets.
+    pub fn list_members(&self, s: &[u8]) -> Memberships
+        requires { SetsFit s.now self.now.at self.now.count }
+        ensures { (n : ℕ) → n < node_ceiling → Linked membership_ceiling result.next (get_or result.first n 0)
+            (memberships_of n 0 (sets_at s.now self.now.at self.now.count)) }
+    {
+        let mut memberships = Memberships {
+            first: [0; NODE_CEILING],
+            next: [0; MEMBERSHIP_CEILING],
+        };
+        for k in (0..self.count).rev() {
+            list_set(s, k, usize::from(self.at[k]), &mut memberships);
+        }
+        memberships
+    }
+}
+
+// The distinct sets of the exclusive aggregates.
+pub fn collect_sets(s: &[u8], c: Counts) -> Result<ExclusiveSets, ProgrammeFull>
+    requires { SectionsOf s.now c }
+    ensures { Collected s.now (exclusive_sets (network_of s.now c)) result }
+{
+    let mut sets = ExclusiveSets {
+        at: [0; SET_CEILING],
+        count: 0,
+    };
+    let mut at = network_edge::edges_end(c.nodes, c.edges);
+    for _ in 0..c.aggregates {
+        if network_aggregate::is_exclusive(s, at) {
+            sets.add_sets(s, at)?;
+        }
+        at = network_aggregate::aggregate_end(s, at);
+    }
+    Ok(sets)
 }

@@ -5,6 +5,7 @@ use native.Mathlib.Nat.{sub-zero}
 use native.Mathlib.Numerals.{add-one}
 use native.Mathlib.Omega.{arith}
 use mathlib.Core.Bool.{true, false}
+use Rattle.std.specs.Prelude.{Result, Ok, Err}
 use mathlib.Core.List.{List, [], ◌∷◌, ◌++◌, flat_map}
 use lib.ListN.{length, drop, replicate}
 use lib.Seq.{sets}
@@ -25,8 +26,7 @@ use Rattle.fields.proofs.RecordLaws.{end_more, records_left, records_over}
 use Rattle.network_aggregate.specs.AggregatedNode.{aggregate_at, aggregate_end}
 use Rattle.build_row.specs.RowBuilder.{gathered}
 use Rattle.build_append.specs.declared.Filled.{Filled}
-use Rattle.build_append.specs.declared.RowsAdded.{RowsAdded}
-use Rattle.build_append.specs.declared.RowsAdded.TheVariants.{Done, Full}
+use Rattle.build_exclusive_sets.specs.declared.ProgrammeFull.{ProgrammeFull}
 use Rattle.build_append.proofs.AddingRows.{Adds, adds_none}
 use Rattle.build_append.proofs.LentRow.{lent_row}
 use Rattle.build_makers.specs.MadeRows.{MadeHeld, AfterMade}
@@ -42,7 +42,7 @@ module _ (map : ColumnMap) (a : Aggregate) where
   unfolding exclusivity_rows
   one x = rw x
 
-  pub no_exclusivity_row : a.exclusive ≡ false → (words : List ℕ) (numbers : List Float) (f : Filled) → Adds (exclusivity_rows map (a ∷ [])) words numbers f (Done f) words numbers
+  pub no_exclusivity_row : a.exclusive ≡ false → (words : List ℕ) (numbers : List Float) (f : Filled) → Adds (exclusivity_rows map (a ∷ [])) words numbers f (Ok f) words numbers
   no_exclusivity_row x words numbers f = rw (none x) (adds_none words numbers f)
 
 -- the row of the aggregate at `at`, gathered in the lent part of the numbers
@@ -52,7 +52,7 @@ module _ (file places : List ℕ) (count edge_columns at : ℕ) (columns : List 
   abbrev lent : List Float
   lent = put_mid a (length numbers - a) numbers elements
 
-  pub exclusivity_row_added : (lower upper : Float) (o : RowsAdded) (words' : List ℕ) (numbers' : List Float)
+  pub exclusivity_row_added : (lower upper : Float) (o : Result Filled ProgrammeFull) (words' : List ℕ) (numbers' : List Float)
       → lower ≡ double (aggregate_at file at).min_active → upper ≡ double (aggregate_at file at).max_active
       → Adds (record { lower = lower; upper = upper; elements = gathered columns (drop (2048 + f.elements) lent) n } ∷ []) words lent f o words' numbers'
       → Adds (exclusivity_rows map (aggregate_at file at ∷ [])) words numbers f o words' numbers'
@@ -97,7 +97,7 @@ module _ (file : List ℕ) (MapIs : ColumnMap → Type 0) (start count : ℕ) (w
 
   module _ (words : List ℕ) (numbers : List Float) (f : Filled) (at i : ℕ) (h : AddingAggregates file MapIs start count words₀ numbers₀ f₀ words numbers f at i) where
     -- k is the aggregate's number as the code narrows it
-    module _ (lt : i < count) (k : ℕ) (q : k ≡ i) (r : RowsAdded) (words₁ : List ℕ) (numbers' : List Float)
+    module _ (lt : i < count) (k : ℕ) (q : k ≡ i) (r : Result Filled ProgrammeFull) (words₁ : List ℕ) (numbers' : List Float)
         (added : (map : ColumnMap) → MapIs map → Adds (exclusivity_rows map (aggregate_at file at ∷ [])) words numbers f r words₁ numbers') where
       abbrev others : List Aggregate
       others = records_at (aggregate_at file) (aggregate_end file) (count - (i + 1)) (aggregate_end file at)
@@ -114,13 +114,13 @@ module _ (file : List ℕ) (MapIs : ColumnMap → Type 0) (start count : ℕ) (w
             next_makers map i (aggregate_at file at) others,
           ) at (h.making map m rows makers held))
 
-      pub aggregate_over : r ≡ Full → (map : ColumnMap) → MapIs map → (rows : List Row) (makers : List Maker) → MadeHeld rows makers words₀ numbers₀ f₀
-          → AfterMade (whole map rows) (whole_makers map makers) words₀ Full words₁ numbers'
-      aggregate_over e map m rows makers held =
+      pub aggregate_over : (full : ProgrammeFull) → r ≡ Err full → (map : ColumnMap) → MapIs map → (rows : List Row) (makers : List Maker) → MadeHeld rows makers words₀ numbers₀ f₀
+          → AfterMade (whole map rows) (whole_makers map makers) words₀ (Err full) words₁ numbers'
+      aggregate_over full e map m rows makers held =
           making_over (whole map rows) (new map) (exclusivity_rows map others) (whole_makers map makers) (exclusivity_makers map (i + 1) others) by_exclusivity k words₀ words numbers f
-          (here map m rows makers held) r words₁ numbers' (added map m) e
+          (here map m rows makers held) r words₁ numbers' (added map m) full e
 
-      module _ (g : Filled) (e : r ≡ Done g) where
+      module _ (g : Filled) (e : r ≡ Ok g) where
         pub aggregate_rise : (map : ColumnMap) → MapIs map → (rows : List Row) (makers : List Maker) → MadeHeld rows makers words₀ numbers₀ f₀ → (f.rows ≤ g.rows) × (g.rows ≤ 1024)
         aggregate_rise map m rows makers held =
             rows_rise (whole map rows) (new map) (exclusivity_rows map others) (whole_makers map makers) (exclusivity_makers map (i + 1) others) by_exclusivity k words₀ words numbers f
@@ -140,7 +140,7 @@ module _ (file : List ℕ) (MapIs : ColumnMap → Type 0) (start count : ℕ) (w
             }
 
     pub aggregates_done_lem : count ≤ i → (map : ColumnMap) → MapIs map → (rows : List Row) (makers : List Maker) → MadeHeld rows makers words₀ numbers₀ f₀
-        → AfterMade (whole map rows) (whole_makers map makers) words₀ (Done f) words numbers
+        → AfterMade (whole map rows) (whole_makers map makers) words₀ (Ok f) words numbers
     unfolding exclusivity_rows exclusivity_makers made_in_turn
     aggregates_done_lem l map m rows makers held =
         let none = records_over (aggregate_end file) count i at l (aggregate_at file) in

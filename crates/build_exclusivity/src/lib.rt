@@ -12,144 +12,91 @@ ghost use Rattle.pywr.specs.Makers.{exclusivity_makers};
 ghost use Rattle.network_aggregate.specs.AggregatedNode.{aggregate_at, sets_offset};
 ghost use Rattle.network_laws.specs.Sections.{Sections};
 ghost use Rattle.build_exclusive_sets.specs.Sets.{sets_at, SetsFit};
-ghost use Rattle.build_append.specs.LpBuilder.{RowsHeld, Holding, AfterRows};
+ghost use Rattle.build_append.specs.LpBuilder.{RowsHeld, Holding, AfterRows, filled_then, SameRuns};
 ghost use Rattle.build_makers.specs.MadeRows.{MadeHeld, MadeHolding, AfterMade};
 ghost use Rattle.build_node_row.specs.Tables.{network_of};
 ghost use Rattle.build_exclusivity.specs.ExclusivityRow.{KnownSets, MapOf, ExclusivityRow};
 ghost use Rattle.layout.specs.WorkRoom.{WorkRoom};
 
-use build_append::{Filled, RowsAdded};
-use layout::{BY_EXCLUSIVITY, COLUMN_CEILING, ELEMENTS_MADE_AT, SET_CEILING, SHAPE_MADE_AT};
-use network_record::Counts;
+use build_append::LpBuilder;
+use build_exclusive_sets::{ExclusiveSets, ProgrammeFull};
+use build_makers::MakerKind;
+use build_node_row::EdgeTables;
+use layout::{COLUMN_CEILING, ELEMENTS_MADE_AT, SHAPE_MADE_AT};
 use pywr::{ColumnIndex, ColumnNumber, Interval};
 
 // The row of the aggregate at `at` gathered: 1 on the column of each of its sets.
 fn exclusivity_row(
-    s: &[u8],
-    set_at: &[u16; SET_CEILING],
-    sets: usize,
-    edge_columns: usize,
+    tables: &EdgeTables<'_>,
+    sets: &ExclusiveSets,
     at: usize,
     columns: &mut [ColumnNumber; COLUMN_CEILING],
     elements: &mut [f64],
 ) -> usize
-    requires { SetsFit s.now set_at.now sets × (edge_columns ≤ edge_ceiling) × (at + sets_offset ≤ length s.now) × KnownSets s.now set_at.now sets at
+    requires { SetsFit tables.now.file.now sets.now.at sets.now.count × (tables.now.edge_columns ≤ edge_ceiling) × (at + sets_offset ≤ length tables.now.file.now) × KnownSets tables.now.file.now sets.now.at sets.now.count at
         × (column_ceiling ≤ length elements.old) }
-    ensures { ExclusivityRow s.now set_at.now sets edge_columns at columns.new elements.new result }
+    ensures { ExclusivityRow tables.now.file.now sets.now.at sets.now.count tables.now.edge_columns at columns.new elements.new result }
 {
-    let count = network_aggregate::set_count(s, at);
-    let mut n: usize = 0;
+    let mut n = 0;
     let mut here = network_aggregate::sets_at(at);
-    let mut i: usize = 0;
-    while i < count {
-        let k = build_exclusive_sets::set_number(s, set_at, sets, here);
-        let column = ColumnIndex(widths::narrow16(edge_columns + k));
+    for _ in 0..network_aggregate::set_count(tables.file, at) {
+        let k = sets.set_number(tables.file, here);
+        let column = ColumnIndex((tables.edge_columns + k) as u16);
         n = build_row::add_element(columns, elements, n, column, 1.0);
-        here = network_aggregate::set_end(s, here);
-        i += 1;
+        here = network_aggregate::set_end(tables.file, here);
     }
     n
 }
 
 // The row of the aggregate at `at` becomes the last row. A plain aggregate has none.
 fn add_exclusivity_row(
-    s: &[u8],
-    set_at: &[u16; SET_CEILING],
-    sets: usize,
-    edge_columns: usize,
+    tables: &EdgeTables<'_>,
+    sets: &ExclusiveSets,
     at: usize,
-    words: &mut [u16],
-    numbers: &mut [f64],
-    columns: &mut [ColumnNumber; COLUMN_CEILING],
-    f: Filled,
-) -> RowsAdded
-    requires { SetsFit s.now set_at.now sets × (edge_columns ≤ edge_ceiling) × (at + sets_offset ≤ length s.now)
-        × ((aggregate_at s.now at).exclusive ≡ true → KnownSets s.now set_at.now sets at)
-        × WorkRoom words.old numbers.old × Holding words.old numbers.old f }
-    ensures { (map : ColumnMap) → MapOf s.now set_at.now sets edge_columns map
-        → (rows : List Row) → RowsHeld rows words.old numbers.old f
-        → AfterRows (rows ++ exclusivity_rows map (aggregate_at s.now at ∷ [])) words.old result words.new numbers.new }
+    lp: &mut LpBuilder<'_>,
+) -> Result<(), ProgrammeFull>
+    requires { SetsFit tables.now.file.now sets.now.at sets.now.count × (tables.now.edge_columns ≤ edge_ceiling) × (at + sets_offset ≤ length tables.now.file.now)
+        × ((aggregate_at tables.now.file.now at).exclusive ≡ true → KnownSets tables.now.file.now sets.now.at sets.now.count at)
+        × WorkRoom lp.old.words.now lp.old.numbers.now × Holding lp.old.words.now lp.old.numbers.now lp.old.filled }
+    ensures rows { (map : ColumnMap) → MapOf tables.now.file.now sets.now.at sets.now.count tables.now.edge_columns map
+        → (rows : List Row) → RowsHeld rows lp.old.words.now lp.old.numbers.now lp.old.filled
+        → AfterRows (rows ++ exclusivity_rows map (aggregate_at tables.now.file.now at ∷ [])) lp.old.words.now (filled_then result lp.new.filled) lp.new.words.now lp.new.numbers.now }
+    ensures same { SameRuns lp.old lp.new }
 {
-    if network_aggregate::is_exclusive(s, at) {
-        let lower = widths::u32_to_f64(network_aggregate::min_active(s, at));
-        let upper = widths::u32_to_f64(network_aggregate::max_active(s, at));
-        let from = ELEMENTS_MADE_AT + f.elements;
-        let n = exclusivity_row(
-            s,
-            set_at,
-            sets,
-            edge_columns,
-            at,
-            columns,
-            &mut numbers[from..],
-        );
-        return build_append::add_fixed_row(
-            words,
-            numbers,
-            columns,
-            n,
-            f,
-            Interval { lower, upper },
-        );
+    if !network_aggregate::is_exclusive(tables.file, at) {
+        return Ok(());
     }
-    RowsAdded::Done(f)
+    let lower = network_aggregate::min_active(tables.file, at) as f64;
+    let upper = network_aggregate::max_active(tables.file, at) as f64;
+    let from = ELEMENTS_MADE_AT + lp.filled.elements;
+    let n = exclusivity_row(tables, sets, at, &mut lp.columns, &mut lp.numbers[from..]);
+    lp.add_fixed_row(n, Interval { lower, upper })
 }
 
 // The exclusivity rows of all exclusive aggregates, in file order.
 pub fn create_mutual_exclusivity_constraints(
-    s: &[u8],
-    c: Counts,
-    set_at: &[u16; SET_CEILING],
-    sets: usize,
-    edge_columns: usize,
-    words: &mut [u16],
-    numbers: &mut [f64],
-    columns: &mut [ColumnNumber; COLUMN_CEILING],
-    f: Filled,
-) -> RowsAdded
-    requires { Sections s.now c.nodes c.edges c.aggregates c.virtual_storages c.virtual_storages_at
-        × SetsFit s.now set_at.now sets × (sets_at s.now set_at.now sets ≡ exclusive_sets (network_of s.now c))
-        × (edge_columns ≡ (ColEdgeMap.columns (network_of s.now c)).count) × (edge_columns ≤ edge_ceiling)
-        × WorkRoom words.old numbers.old × MadeHolding words.old numbers.old f }
-    ensures { (rows : List Row) (makers : List Maker) → MadeHeld rows makers words.old numbers.old f
-        → AfterMade (rows ++ exclusivity_rows (column_map (network_of s.now c)) (network_of s.now c).aggregates)
-        (makers ++ exclusivity_makers (column_map (network_of s.now c)) 0 (network_of s.now c).aggregates)
-        words.old result words.new numbers.new }
+    tables: &EdgeTables<'_>,
+    sets: &ExclusiveSets,
+    lp: &mut LpBuilder<'_>,
+) -> Result<(), ProgrammeFull>
+    requires { Sections tables.now.file.now tables.now.counts.nodes tables.now.counts.edges tables.now.counts.aggregates tables.now.counts.virtual_storages tables.now.counts.virtual_storages_at
+        × SetsFit tables.now.file.now sets.now.at sets.now.count × (sets_at tables.now.file.now sets.now.at sets.now.count ≡ exclusive_sets (network_of tables.now.file.now tables.now.counts))
+        × (tables.now.edge_columns ≡ (ColEdgeMap.columns (network_of tables.now.file.now tables.now.counts)).count) × (tables.now.edge_columns ≤ edge_ceiling)
+        × WorkRoom lp.old.words.now lp.old.numbers.now × MadeHolding lp.old.words.now lp.old.numbers.now lp.old.filled }
+    ensures rows { (rows : List Row) (makers : List Maker) → MadeHeld rows makers lp.old.words.now lp.old.numbers.now lp.old.filled
+        → AfterMade (rows ++ exclusivity_rows (column_map (network_of tables.now.file.now tables.now.counts)) (network_of tables.now.file.now tables.now.counts).aggregates)
+        (makers ++ exclusivity_makers (column_map (network_of tables.now.file.now tables.now.counts)) 0 (network_of tables.now.file.now tables.now.counts).aggregates)
+        lp.old.words.now (filled_then result lp.new.filled) lp.new.words.now lp.new.numbers.now }
+    ensures same { SameRuns lp.old lp.new }
 {
-    let aggregates = c.aggregates;
-    let mut filled = f;
-    let mut at = network_edge::edges_end(c.nodes, c.edges);
-    let mut i: usize = 0;
-    while i < aggregates {
-        let r = add_exclusivity_row(
-            s,
-            set_at,
-            sets,
-            edge_columns,
-            at,
-            words,
-            numbers,
-            columns,
-            filled,
-        );
-        match r {
-            RowsAdded::Full => {
-                return RowsAdded::Full;
-            }
-            RowsAdded::Done(g) => {
-                build_makers::put_makers(
-                    &mut words[SHAPE_MADE_AT..],
-                    filled.rows,
-                    g.rows,
-                    BY_EXCLUSIVITY,
-                    widths::narrow16(i),
-                    1,
-                );
-                filled = g;
-                at = network_aggregate::aggregate_end(s, at);
-                i += 1;
-            }
-        }
+    let mut at = network_edge::edges_end(tables.counts.nodes, tables.counts.edges);
+    for i in 0..tables.counts.aggregates {
+        let before = lp.filled.rows;
+        add_exclusivity_row(tables, sets, at, lp)?;
+        let shape = &mut lp.words[SHAPE_MADE_AT..];
+        let kind = MakerKind::Exclusivity;
+        build_makers::put_makers(shape, before, lp.filled.rows, kind, i as u16, 1);
+        at = network_aggregate::aggregate_end(tables.file, at);
     }
-    RowsAdded::Done(filled)
+    Ok(())
 }

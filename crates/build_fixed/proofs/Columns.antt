@@ -7,16 +7,17 @@ use Rattle.pywr.specs.ColEdgeMap.{columns}
 use Rattle.network_laws.proofs.Index.{edge_count}
 use Rattle.network_record.specs.declared.Counts.{Counts}
 use Rattle.build_col_edge_map.proofs.EdgeColumns.{columns_few}
-use Rattle.build_node_row.specs.Tables.{network_of, EdgeTables}
+use Rattle.build_node_row.specs.declared.EdgeTables.{EdgeTables}
+use Rattle.build_node_row.specs.Tables.{network_of, TablesOf}
 
 -- at most 512 columns
-pub columns_most : (file : List ℕ) (c : Counts) (first_in next_in first_out next_out table : List ℕ) → EdgeTables file c first_in next_in first_out next_out table
+pub columns_most : (file : List ℕ) (c : Counts) (tables : EdgeTables) → TablesOf file c tables
     → (count : ℕ) → count ≡ (columns (network_of file c)).count → count ≤ 512
-columns_most file c first_in next_in first_out next_out table t count e =
+columns_most file c tables t count e =
     omega (
       arith,
       e,
-      columns_few (network_of file c) table (columns (network_of file c)).count t.mapped,
+      columns_few (network_of file c) tables.edge_to_col (columns (network_of file c)).count t.mapped,
       edge_count file c.nodes c.edges c.aggregates
           c.virtual_storages,
       t.sections.few_edges,

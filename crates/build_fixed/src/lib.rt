@@ -7,90 +7,32 @@ ghost use Rattle.pywr.specs.Programme.{Row, Maker};
 ghost use Rattle.pywr.specs.Makers.{fixed_makers};
 ghost use Rattle.pywr.specs.Build.{programme_of};
 ghost use Rattle.build_node_row.specs.EdgeColumns.{edge_columns_of};
-ghost use Rattle.build_node_row.specs.Tables.{network_of, EdgeTables, SetTables};
+ghost use Rattle.build_node_row.specs.Tables.{network_of, TablesHold, SetTables};
+ghost use Rattle.build_append.specs.LpBuilder.{filled_then, SameRuns};
 ghost use Rattle.build_makers.specs.MadeRows.{MadeHeld, MadeHolding, AfterMade};
 ghost use Rattle.layout.specs.WorkRoom.{WorkRoom};
 
-use build_append::{Filled, RowsAdded};
-use layout::{COLUMN_CEILING, EDGE_CEILING, MEMBERSHIP_CEILING, NODE_CEILING, SET_CEILING};
-use network_record::Counts;
-use pywr::{ColumnNumber, Sentinel};
+use build_append::LpBuilder;
+use build_exclusive_sets::{ExclusiveSets, Memberships, ProgrammeFull};
+use build_node_row::EdgeTables;
 
 // The fixed rows, each with its maker: mass balances, constant bounds, mutual exclusivity.
 pub fn add_fixed_rows(
-    s: &[u8],
-    c: Counts,
-    first_in: &[u16; NODE_CEILING],
-    next_in: &[u16; EDGE_CEILING],
-    first_out: &[u16; NODE_CEILING],
-    next_out: &[u16; EDGE_CEILING],
-    edge_to_col: &[u16; EDGE_CEILING],
-    edge_columns: usize,
-    set_at: &[u16; SET_CEILING],
-    sets: usize,
-    first_membership: &[u16; NODE_CEILING],
-    next_membership: &[u16; MEMBERSHIP_CEILING],
-    sentinel: Sentinel,
-    words: &mut [u16],
-    numbers: &mut [f64],
-    columns: &mut [ColumnNumber; COLUMN_CEILING],
-    f: Filled,
-) -> RowsAdded
-    requires { EdgeTables s.now c first_in.now next_in.now first_out.now next_out.now edge_to_col.now
-        × SetTables s.now c set_at.now sets first_membership.now next_membership.now × (edge_columns ≡ edge_columns_of s.now c)
-        × WorkRoom words.old numbers.old × MadeHolding words.old numbers.old f }
-    ensures { (rows : List Row) (makers : List Maker) → MadeHeld rows makers words.old numbers.old f
-        → AfterMade (rows ++ (programme_of sentinel (network_of s.now c)).programme.fixed)
-        (makers ++ fixed_makers sentinel (column_map (network_of s.now c)) (network_of s.now c))
-        words.old result words.new numbers.new }
+    tables: &EdgeTables<'_>,
+    sets: &ExclusiveSets,
+    memberships: &Memberships,
+    lp: &mut LpBuilder<'_>,
+) -> Result<(), ProgrammeFull>
+    requires { TablesHold tables.now
+        × SetTables tables.now.file.now tables.now.counts sets.now.at sets.now.count memberships.now × (tables.now.edge_columns ≡ edge_columns_of tables.now.file.now tables.now.counts)
+        × WorkRoom lp.old.words.now lp.old.numbers.now × MadeHolding lp.old.words.now lp.old.numbers.now lp.old.filled }
+    ensures rows { (rows : List Row) (makers : List Maker) → MadeHeld rows makers lp.old.words.now lp.old.numbers.now lp.old.filled
+        → AfterMade (rows ++ (programme_of lp.old.sentinel (network_of tables.now.file.now tables.now.counts)).programme.fixed)
+        (makers ++ fixed_makers lp.old.sentinel (column_map (network_of tables.now.file.now tables.now.counts)) (network_of tables.now.file.now tables.now.counts))
+        lp.old.words.now (filled_then result lp.new.filled) lp.new.words.now lp.new.numbers.now }
+    ensures same { SameRuns lp.old lp.new }
 {
-    let m = build_mass::create_mass_balance_constraints(
-        s,
-        c,
-        first_in,
-        next_in,
-        first_out,
-        next_out,
-        edge_to_col,
-        words,
-        numbers,
-        columns,
-        f,
-    );
-    match m {
-        RowsAdded::Full => RowsAdded::Full,
-        RowsAdded::Done(g) => {
-            let b = build_constants::create_constant_constraints(
-                s,
-                c,
-                first_in,
-                next_in,
-                first_out,
-                next_out,
-                edge_to_col,
-                edge_columns,
-                first_membership,
-                next_membership,
-                sentinel,
-                words,
-                numbers,
-                columns,
-                g,
-            );
-            match b {
-                RowsAdded::Full => RowsAdded::Full,
-                RowsAdded::Done(h) => build_exclusivity::create_mutual_exclusivity_constraints(
-                    s,
-                    c,
-                    set_at,
-                    sets,
-                    edge_columns,
-                    words,
-                    numbers,
-                    columns,
-                    h,
-                ),
-            }
-        }
-    }
+    build_mass::create_mass_balance_constraints(tables, lp)?;
+    build_constants::create_constant_constraints(tables, memberships, lp)?;
+    build_exclusivity::create_mutual_exclusivity_constraints(tables, sets, lp)
 }

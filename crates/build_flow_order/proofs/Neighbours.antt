@@ -14,9 +14,10 @@ use Rattle.pywr.proofs.FlowLaws.{next_below}
 use Rattle.network_laws.specs.NetworkAt.{network_at}
 use Rattle.network_laws.proofs.Index.{edge_count, edge_index}
 use Rattle.network_laws.proofs.RecordReaders.{kind_law}
+use Rattle.build_incident_edges.specs.declared.EdgeLists.{EdgeLists}
 use Rattle.build_incident_edges.proofs.Listed.{outgoing_listed, incoming_listed}
 use Rattle.build_col_edge_map.specs.Mapped.{code, shares_across}
-use Rattle.build_flow_order.specs.Ordered.{EdgeLists}
+use Rattle.build_flow_order.specs.Ordered.{EdgesHeld}
 
 code_most : (size : ℕ) (o : Option ℕ) → ((x : ℕ) → o ≡ some x → x < size) → code o ≤ size
 code_most size none h = omega arith
@@ -30,33 +31,33 @@ module _ (file : List ℕ) (nodes edges : ℕ) where
   unfolding network_at
   kind_is_lem a v n h = sym (kind_law file nodes n h)
 
-  module _ {first_in next_in first_out next_out : List ℕ}
-      (lists : EdgeLists file nodes edges first_in next_in first_out next_out) (e : ℕ) (under : e < edges) where
+  module _ {ins outs : EdgeLists}
+      (lists : EdgesHeld file nodes edges ins outs) (e : ℕ) (under : e < edges) where
     -- what `shares_with` answers of the node that the edge goes to, with the edges in and out exchanged
     pub next_read : (to next : ℕ) → to ≡ le16 file (20 * nodes + 6 * e + 4)
-        → ((size : ℕ) (into out : List ℕ) → Linked size next_out (get_or first_out to 0) into → Linked size next_in (get_or first_in to 0) out
+        → ((size : ℕ) (into out : List ℕ) → Linked size outs.next (get_or outs.first to 0) into → Linked size ins.next (get_or ins.first to 0) out
         → next ≡ code (shares_across (byte file (20 * to + 2)) into out))
         → (a v : ℕ) → next ≡ code (next_edge (net a v) (edge_numbered (net a v) e))
     unfolding next_edge
     next_read to next q h a v =
         let t : ℕ = le16 file (20 * nodes + 6 * e + 4) in
         (rw q at h) edges (outgoing (net a v) t) (incoming (net a v) t)
-        (outgoing_listed file nodes edges first_out next_out lists.out_of a v t)
-        (incoming_listed file nodes edges first_in next_in lists.into a v t)
+        (outgoing_listed file nodes edges outs lists.out_of a v t)
+        (incoming_listed file nodes edges ins lists.into a v t)
         ∙ ap (λ (kind : ℕ). code (shares_across kind (outgoing (net a v) t) (incoming (net a v) t))) (kind_is_lem a v t (lists.to_under e under))
         ∙ ap (λ (x : Edge). code (next_edge (net a v) x)) (sym (edge_index file nodes edges a v e no_edge under))
 
     -- and of the node that it comes from
     pub before_read : (from before : ℕ) → from ≡ le16 file (20 * nodes + 6 * e + 2)
-        → ((size : ℕ) (into out : List ℕ) → Linked size next_in (get_or first_in from 0) into → Linked size next_out (get_or first_out from 0) out
+        → ((size : ℕ) (into out : List ℕ) → Linked size ins.next (get_or ins.first from 0) into → Linked size outs.next (get_or outs.first from 0) out
         → before ≡ code (shares_across (byte file (20 * from + 2)) into out))
         → (a v : ℕ) → before ≡ code (shares_with (net a v) (edge_numbered (net a v) e))
     unfolding shares_with
     before_read from before q h a v =
         let f : ℕ = le16 file (20 * nodes + 6 * e + 2) in
         (rw q at h) edges (incoming (net a v) f) (outgoing (net a v) f)
-        (incoming_listed file nodes edges first_in next_in lists.into a v f)
-        (outgoing_listed file nodes edges first_out next_out lists.out_of a v f)
+        (incoming_listed file nodes edges ins lists.into a v f)
+        (outgoing_listed file nodes edges outs lists.out_of a v f)
         ∙ ap (λ (kind : ℕ). code (shares_across kind (incoming (net a v) f) (outgoing (net a v) f))) (kind_is_lem a v f (lists.from_under e under))
         ∙ ap (λ (x : Edge). code (shares_with (net a v) x)) (sym (edge_index file nodes edges a v e no_edge under))
 

@@ -14,7 +14,9 @@ use Rattle.pywr.specs.ColEdgeMap.{shares_with}
 use Rattle.pywr.specs.FlowOrder.{no_edge, edge_numbered, follow, is_none, starts_path, follow_all, paths, flow_order}
 use Rattle.network_laws.specs.NetworkAt.{network_at}
 use Rattle.network_laws.proofs.Index.{edge_count}
-use Rattle.build_col_edge_map.specs.Mapped.{code}
+use Rattle.build_col_edge_map.specs.Mapped.{code, number_of}
+use Rattle.pywr.specs.declared.EdgeIndex.{EdgeIndex}
+use Rattle.std.specs.Prelude as declared
 use Rattle.build_flow_order.specs.Ordered.{Ordered, Marked}
 
 -- ---- how `follow_all` goes on
@@ -110,15 +112,23 @@ module _ (file : List ℕ) (nodes edges : ℕ) where
   -- ---- the two passes
 
   module _ (seen : List Bool) (shape : List ℕ) where
-    pub no_paths : Marked edges seen 0 → PassedTo starts_path (λ n. []) paths seen shape 0 seen shape 0 0
+    pub no_paths : (count : ℕ) → Marked edges seen count → PassedTo starts_path (λ n. []) paths seen shape count seen shape count 0
     unfolding paths
-    no_paths m = none_passed starts_path (λ n. []) paths (λ n. refl) seen shape 0 m
+    no_paths count m = none_passed starts_path (λ n. []) paths (λ n. refl) seen shape count m
 
     pub no_rings : (count : ℕ) → Marked edges seen count → PassedTo (λ n edge. true) paths flow_order seen shape count seen shape count 0
     unfolding flow_order
     no_rings count m = none_passed (λ n edge. true) paths flow_order (λ n. refl) seen shape count m
 
 -- ---- whether a path starts
+
+pub none_number : (edge : declared.Option EdgeIndex) → declared.is_some edge ≡ false → number_of edge ≡ 0
+none_number declared.None q = refl
+none_number (declared.Some edge) q = absurd (cc)
+
+pub some_number : (edge : declared.Option EdgeIndex) → declared.is_some edge ≡ true → number_of edge ≢ 0
+some_number declared.None q z = cc
+some_number (declared.Some edge) q z = omega arith
 
 none_before : (o : Option ℕ) → code o ≡ 0 → is_none o ≡ true
 unfolding is_none

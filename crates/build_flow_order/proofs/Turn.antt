@@ -1,7 +1,6 @@
 -- The loop that follows the edges of a column. Assumes nothing.
-use Prim.Native.Nat.{ℕ, zero, suc, ◌+◌, ◌*◌, ◌-◌, ◌<◌, ◌≤◌}
+use Prim.Native.Nat.{ℕ, zero, suc, ◌+◌, ◌*◌, ◌<◌, ◌≤◌}
 use mathlib.Core.Path.{◌≡◌, refl, sym, ap, ◌∙◌}
-use mathlib.Core.Logic.{◌≢◌}
 use mathlib.Core.List.{List, [], ◌∷◌, ◌++◌}
 use mathlib.Core.Bool.{Bool, true, false}
 use mathlib.Core.Option.{Option, none, some}
@@ -13,9 +12,10 @@ use Rattle.pywr.specs.Bytes.{byte, le16}
 use Rattle.pywr.specs.Network.{Network, listed}
 use Rattle.pywr.specs.FlowOrder.{next_edge, edge_numbered, follow}
 use Rattle.network_laws.specs.NetworkAt.{network_at}
+use Rattle.build_incident_edges.specs.declared.EdgeLists.{EdgeLists}
 use Rattle.build_col_edge_map.specs.Mapped.{code, shares_across}
 use Rattle.build_col_edge_map.proofs.Turn.{code_none, code_some}
-use Rattle.build_flow_order.specs.Ordered.{EdgeLists, Ordered, Marked}
+use Rattle.build_flow_order.specs.Ordered.{EdgesHeld, Ordered, Marked}
 use Rattle.build_flow_order.proofs.Neighbours.{next_read, next_most}
 use Rattle.build_flow_order.proofs.Marks.{room, one_marked, one_ordered}
 
@@ -57,8 +57,7 @@ module _ (net : Network) where
     module _ (e : ℕ) (q : next ≡ suc e) (under : e < edges) where
       at_edge : whole ≡ follow net h.most (some e) h.order
       at_edge =
-          let less : suc e - 1 ≡ e = omega arith in
-          let is-e : h.edge ≡ some e = code_some h.edge (suc e) (sym q ∙ h.edge_is) (λ z. omega arith) ∙ ap {B = Option ℕ} some less in
+          let is-e : h.edge ≡ some e = code_some h.edge e (sym q ∙ h.edge_is) in
           h.rest ∙ ap (λ (o : Option ℕ). follow net h.most o h.order) is-e
 
       pub followed_seen : get_or seen e false ≡ true → Ordered edges shape₀ whole shape seen count
@@ -111,12 +110,12 @@ module _ (file : List ℕ) (nodes edges : ℕ) where
 
   module _ {seen₀ : List Bool} {shape₀ : List ℕ} {count₀ next₀ : ℕ} {seen : List Bool} {shape : List ℕ} {count next : ℕ}
       (h : FollowedTo seen₀ shape₀ count₀ next₀ seen shape count next) where
-    pub one_followed : {first_in next_in first_out next_out : List ℕ} → EdgeLists file nodes edges first_in next_in first_out next_out
-        → (e to next' : ℕ) → next ≢ 0 → e ≡ next - 1 → get_or seen e false ≡ false → to ≡ le16 file (20 * nodes + 6 * (next - 1) + 4)
-        → ((size : ℕ) (into out : List ℕ) → Linked size next_out (get_or first_out to 0) into → Linked size next_in (get_or first_in to 0) out
+    pub one_followed : {ins outs : EdgeLists} → EdgesHeld file nodes edges ins outs
+        → (e d to next' : ℕ) → next ≡ suc d → e ≡ d → get_or seen e false ≡ false → to ≡ le16 file (20 * nodes + 6 * d + 4)
+        → ((size : ℕ) (into out : List ℕ) → Linked size outs.next (get_or outs.first to 0) into → Linked size ins.next (get_or ins.first to 0) out
         → next' ≡ code (shares_across (byte file (20 * to + 2)) into out))
-        → FollowedTo seen₀ shape₀ count₀ next₀ (set seen e true) (set shape (flow_order_at + count) (next - 1)) (count + 1) next'
-    one_followed lists e to next' f i z t r =
+        → FollowedTo seen₀ shape₀ count₀ next₀ (set seen e true) (set shape (flow_order_at + count) d) (count + 1) next'
+    one_followed lists e d to next' f i z t r =
         let lt : e < edges = omega (arith, h.under) in
         let last : next ≡ suc e = omega arith in
         let there : to ≡ le16 file (20 * nodes + 6 * e + 4) = rw i t in
@@ -135,6 +134,6 @@ module _ (file : List ℕ) (nodes edges : ℕ) where
       pub all_followed : next ≡ 0 → Ordered edges base (follow (net a v) edges (some start) order) shape seen count
       all_followed z = followed_none (net a v) (h.following start a v base order q o) z
 
-      pub followed_before : (e : ℕ) → next ≢ 0 → e ≡ next - 1 → get_or seen e false ≡ true
+      pub followed_before : (e d : ℕ) → next ≡ suc d → e ≡ d → get_or seen e false ≡ true
           → Ordered edges base (follow (net a v) edges (some start) order) shape seen count
-      followed_before e f i s = followed_seen (net a v) (h.following start a v base order q o) e (omega arith) (omega (arith, h.under)) s
+      followed_before e d f i s = followed_seen (net a v) (h.following start a v base order q o) e (omega arith) (omega (arith, h.under)) s

@@ -5,17 +5,18 @@ use Rattle.layout.specs.Layout.{node_ceiling, edge_ceiling, flow_order_at}
 use Rattle.pywr.specs.Bytes.{le16}
 use Rattle.pywr.specs.Network.{source, target, listed}
 use Rattle.network_edge.specs.Edge.{from_offset, to_offset, edge_place}
+use Rattle.build_incident_edges.specs.declared.EdgeLists.{EdgeLists}
 use Rattle.build_incident_edges.specs.IncidentEdges.{EdgesListed}
 
 -- a file's edges, whose ends are nodes, and of each node the lists of its edges
-pub record EdgeLists (file : List ℕ) (nodes edges : ℕ) (first_in next_in first_out next_out : List ℕ) : Type 0 where
+pub record EdgesHeld (file : List ℕ) (nodes edges : ℕ) (incoming outgoing : EdgeLists) : Type 0 where
   pub few_nodes : nodes ≤ node_ceiling
   pub few_edges : edges ≤ edge_ceiling
   pub inside : edge_place nodes edges ≤ length file
   pub from_under : (e : ℕ) → e < edges → le16 file (edge_place nodes e + from_offset) < nodes
   pub to_under : (e : ℕ) → e < edges → le16 file (edge_place nodes e + to_offset) < nodes
-  pub into : EdgesListed target file nodes edges first_in next_in
-  pub out_of : EdgesListed source file nodes edges first_out next_out
+  pub into : EdgesListed target file nodes edges incoming
+  pub out_of : EdgesListed source file nodes edges outgoing
 
 -- the order so far, of `count` edges: the shape run, which was `shape₀`, has it at its place, and `seen` marks its edges
 pub record Ordered (edges : ℕ) (shape₀ order shape : List ℕ) (seen : List Bool) (count : ℕ) : Type 0 where

@@ -10,27 +10,26 @@ use layout::{EDGE_CEILING, NODE_CEILING};
 use network_edge::End;
 use pywr::EdgeIndex;
 
+// The edges of each node, in linked lists: a node's first edge and an edge's next one, each plus 1, or 0 at the end of a list.
+#[derive(Drop)]
+pub struct EdgeLists {
+    pub first: [u16; NODE_CEILING],
+    pub next: [u16; EDGE_CEILING],
+}
+
 // Edge 0 up to edge `edges - 1` stand behind `nodes` nodes; the edges are listed by their `end`.
-pub fn list_edges(
-    s: &[u8],
-    nodes: usize,
-    edges: usize,
-    end: End,
-    first: &mut [u16; NODE_CEILING],
-    next: &mut [u16; EDGE_CEILING],
-)
+pub fn list_edges(s: &[u8], nodes: usize, edges: usize, end: End) -> EdgeLists
     requires { (nodes ≤ node_ceiling) × (edges ≤ edge_ceiling) × (edge_place nodes edges ≤ length s.now)
         × ((e : ℕ) → e < edges → end_of end (edge_at s.now (edge_place nodes e)) < nodes) }
-    ensures { EdgesListed (end_of end) s.now nodes edges first.new next.new }
+    ensures { EdgesListed (end_of end) s.now nodes edges result }
 {
-    *first = [0; NODE_CEILING];
-    *next = [0; EDGE_CEILING];
-    let mut e = edges;
-    while 0 < e {
-        e -= 1;
-        let i = network_edge::end_node(s, nodes, EdgeIndex(widths::narrow16(e)), end);
-        let node = widths::wide16(i.0);
-        next[e] = first[node];
-        first[node] = widths::narrow16(e + 1);
+    let mut first = [0; NODE_CEILING];
+    let mut next = [0; EDGE_CEILING];
+    for e in (0..edges).rev() {
+        let node = network_edge::end_node(s, nodes, EdgeIndex(e as u16), end);
+        let n = usize::from(node.0);
+        next[e] = first[n];
+        first[n] = e as u16 + 1;
     }
+    EdgeLists { first, next }
 }

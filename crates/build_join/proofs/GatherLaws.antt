@@ -3,10 +3,12 @@ use mathlib.Core.Path.{◌≡◌, sym, ap, ◌∙◌, subst}
 use Prim.Native.Nat.{ℕ, ◌+◌, ◌-◌, ◌<◌, ◌≤◌}
 use native.Mathlib.Nat.{sub-zero}
 use native.Mathlib.Omega.{arith}
+use Rattle.std.specs.Prelude.{Result}
 use mathlib.Core.List.{List, [], ◌∷◌, map}
 use lib.ListN.{length, drop}
 use lib.Ieee.{Float}
 use borrow.Rule.Slice.PartMut.{put_mid}
+use Rattle.build_exclusive_sets.specs.declared.ProgrammeFull.{ProgrammeFull}
 use Rattle.layout.specs.Layout.{numbers_length}
 use Rattle.pywr.specs.declared.Sentinel.{Sentinel}
 use Rattle.pywr.specs.Rows.{Element}
@@ -15,7 +17,6 @@ use Rattle.fields.specs.Records.{records_at}
 use Rattle.fields.proofs.RecordLaws.{records_left, records_over}
 use Rattle.build_row.specs.RowBuilder.{gathered, Rising}
 use Rattle.build_append.specs.declared.Filled.{Filled}
-use Rattle.build_join.specs.declared.VariableRow.{VariableRow}
 use Rattle.build_append.specs.LpBuilder.{RowsHeld, Holding}
 use Rattle.build_join.specs.VariableRow.{AfterVariableRow}
 use Rattle.build_append.proofs.RowsHeldLaws.{held_few, held_lent, lent_written}
@@ -75,7 +76,7 @@ module _ (words : List ℕ) (numbers : List Float) (f : Filled) (long : numbers_
   pub holding_lent : Holding words after f
   holding_lent = record { rows = holding.rows; held = held_lent numbers ys from within holding.rows words f (omega arith) holding.held }
 
-  pub asked_lent : (s : Sentinel) (r : VariableRow) (words' : List ℕ) (numbers' : List Float)
+  pub asked_lent : (s : Sentinel) (r : Result (ℕ × Filled) ProgrammeFull) (words' : List ℕ) (numbers' : List Float)
       → ((rows : List (List Element)) → RowsHeld (map (fresh_row s) rows) words after f → AfterVariableRow s rows (gathered columns (drop from after) n) words r words' numbers')
       → (rows : List (List Element)) → RowsHeld (map (fresh_row s) rows) words numbers f → AfterVariableRow s rows row words r words' numbers'
   asked_lent s r words' numbers' asked rows held =

@@ -5,6 +5,7 @@ use native.Mathlib.Nat.{add-zero, mul-zero, mul-suc}
 use native.Mathlib.Numerals.{add-one}
 use native.Mathlib.Omega.{arith}
 use mathlib.Core.Bool.{Bool, true, false, cond}
+use Rattle.std.specs.Prelude.{Result, Ok, Err}
 use mathlib.Core.List.{List, [], ◌∷◌, ◌++◌, map, map-append, append-nil, append_assoc}
 use lib.ListN.{length, get_or, take, drop, length-append, length-map, take-append-drop}
 use lib.Seq.{sets, take_all, length-take-le}
@@ -22,9 +23,7 @@ use Rattle.pywr.specs.VaryingRows.{fresh_row}
 use Rattle.pywr.specs.Programme.{Row}
 use Rattle.pywr.proofs.JoinLaws.{position_most}
 use Rattle.build_append.specs.declared.Filled.{Filled}
-use Rattle.build_append.specs.declared.RowsAdded.TheVariants.{Done, Full}
-use Rattle.build_join.specs.declared.VariableRow.{VariableRow}
-use Rattle.build_join.specs.declared.VariableRow.TheVariants.{At}
+use Rattle.build_exclusive_sets.specs.declared.ProgrammeFull.{ProgrammeFull}
 use Rattle.build_append.specs.LpBuilder.{RowsHeld, within_ceilings}
 use Rattle.build_join.specs.VariableRow.{AfterVariableRow}
 use Rattle.build_append.proofs.RowLaws.{part_behind, part_more}
@@ -95,7 +94,7 @@ held_sets rows words numbers f b vs hb h = held_agrees rows words (sets words b 
 
 -- ---- the loop that asks for the rows
 
-done_is : (f g : Filled) → Done f ≡ Done g → f ≡ g
+done_is : (f g : Filled) → ◌≡◌ {A = Result Filled ProgrammeFull} (Ok f) (Ok g) → f ≡ g
 done_is f g e = cc
 
 module _ (s : Sentinel) (asked : List (List Element)) (at width : ℕ) (table : List ℕ → List ℕ) (rows : List (List Element)) (words₀ : List ℕ) where
@@ -110,34 +109,34 @@ module _ (s : Sentinel) (asked : List (List Element)) (at width : ℕ) (table : 
   asked_none numbers f e h = record { held = h; placed = rw mul-zero (sym e); kept = refl }
 
   pub asked_all : (i : ℕ) (words : List ℕ) (numbers : List Float) (f : Filled) (size : ℕ) → length asked ≤ i → size ≡ width * i → Asked i words numbers f
-      → AfterVariableRows s rows asked at size table words₀ (Done f) words numbers
+      → AfterVariableRows s rows asked at size table words₀ (Ok f) words numbers
   asked_all i words numbers f size h e a =
       let all = so_far_all s asked rows i h in
       record {
         held = λ g q. subst (RowsHeld (map (fresh_row s) (joined asked rows).rows) words numbers) (done_is f g q) (rw all at a.held);
         placed = λ g q. rw (e, ← all) a.placed;
-        full = λ q. absurd (let z : ◌≡◌ {A = ℕ} 0 1 = cc in omega arith);
+        full = λ full q. absurd (cc);
         kept = a.kept;
       }
 
   -- row i is asked for
-  module _ (behind : shape_made_at ≤ at) (i : ℕ) (row : List Element) (words : List ℕ) (numbers : List Float) (f : Filled) (r : VariableRow) (words' : List ℕ) (numbers' : List Float)
+  module _ (behind : shape_made_at ≤ at) (i : ℕ) (row : List Element) (words : List ℕ) (numbers : List Float) (f : Filled) (r : Result (ℕ × Filled) ProgrammeFull) (words' : List ℕ) (numbers' : List Float)
       (lt : i < length asked) (is : get_or asked i [] ≡ row) (a : Asked i words numbers f)
       (after : AfterVariableRow s (joined (take i asked) rows).rows row words r words' numbers') where
     rows_are : (add_variable_row row (record { rows = (joined (take i asked) rows).rows; places = [] })).rows ≡ (joined (take (i + 1) asked) rows).rows
     unfolding add_variable_row
     rows_are = sym (ap (λ (j : Joined). j.rows) (so_far_more s asked rows i row lt is))
 
-    pub asked_full : (size : ℕ) → r ≡ VariableRow.Full → AfterVariableRows s rows asked at size table words₀ Full words' numbers'
-    asked_full size e =
+    pub asked_full : (size : ℕ) (full : ProgrammeFull) → r ≡ Err full → AfterVariableRows s rows asked at size table words₀ (Err full) words' numbers'
+    asked_full size full e =
         record {
-          held = λ g q. absurd (let z : ◌≡◌ {A = ℕ} 0 1 = cc in omega arith);
-          placed = λ g q. absurd (let z : ◌≡◌ {A = ℕ} 0 1 = cc in omega arith);
-          full = λ q. over_later s asked rows (i + 1) (rw rows_are at (after.full e));
+          held = λ g q. absurd (cc);
+          placed = λ g q. absurd (cc);
+          full = λ full' q. over_later s asked rows (i + 1) (rw rows_are at (after.full full e));
           kept = part_behind shape_made_at (at - shape_made_at) shape_made_at words words' (omega arith) after.kept ∙ a.kept;
         }
 
-    module _ (k : ℕ) (g : Filled) (e : r ≡ At k g) where
+    module _ (k : ℕ) (g : Filled) (e : r ≡ Ok (k, g)) where
       places_are : (joined (take (i + 1) asked) rows).places ≡ (joined (take i asked) rows).places ++ (k ∷ [])
       unfolding add_variable_row
       places_are =

@@ -2,6 +2,7 @@
 use mathlib.Core.Path.{◌≡◌, refl, sym, ap, ◌∙◌, subst}
 use Prim.Native.Nat.{ℕ, ◌+◌, ◌*◌, ◌-◌, ◌≤◌}
 use native.Mathlib.Omega.{arith}
+use Rattle.std.specs.Prelude.{Result, Ok, Err}
 use mathlib.Core.List.{List, [], ◌++◌, flat_map, append_assoc, append-nil}
 use lib.ListN.{length, take, replicate, length-append}
 use lib.Seq.{sets}
@@ -17,8 +18,7 @@ use Rattle.pywr.specs.Written.{maker_words}
 use Rattle.pywr.proofs.MakerLaws.{made_length}
 use Rattle.build_append.specs.LpBuilder.{RowsHeld, Holding, within_ceilings, AfterRows}
 use Rattle.build_append.specs.declared.Filled.{Filled}
-use Rattle.build_append.specs.declared.RowsAdded.{RowsAdded}
-use Rattle.build_append.specs.declared.RowsAdded.TheVariants.{Done, Full}
+use Rattle.build_exclusive_sets.specs.declared.ProgrammeFull.{ProgrammeFull}
 use Rattle.build_append.proofs.AddingRows.{Adds}
 use Rattle.build_append.proofs.RowLaws.{part_behind, part_more}
 use Rattle.build_append.proofs.RowsHeldLaws.{held_agrees, held_few, over_more}
@@ -35,7 +35,7 @@ pub record Making (whole rest : List Row) (makers others : List Maker) (words₀
   pub kept : part shape_made_at makers_at words ≡ part shape_made_at makers_at words₀
 
 -- what adding these rows with these makers promises, whatever rows are held
-abbrev pub Makes : List Row → List Maker → List ℕ → List Float → Filled → RowsAdded → List ℕ → List Float → Type 0
+abbrev pub Makes : List Row → List Maker → List ℕ → List Float → Filled → Result Filled ProgrammeFull → List ℕ → List Float → Type 0
 Makes new theirs words numbers f r words' numbers' = (rows : List Row) (makers : List Maker) → MadeHeld rows makers words numbers f → AfterMade (rows ++ new) (makers ++ theirs) words r words' numbers'
 
 pub making_first : (rows all : List Row) (makers theirs : List Maker) (words : List ℕ) (numbers : List Float) (f : Filled) → MadeHeld rows makers words numbers f
@@ -46,7 +46,7 @@ making_first rows all makers theirs words numbers f h =
 -- rows are added, and their entries put
 module _ (whole new rest : List Row) (makers others : List Maker) (kind index : ℕ) (words₀ words : List ℕ) (numbers : List Float) (f : Filled)
     (h : Making whole (new ++ rest) makers (made_by kind index new ++ others) words₀ words numbers f)
-    (r : RowsAdded) (words₁ : List ℕ) (numbers' : List Float) (added : Adds new words numbers f r words₁ numbers') where
+    (r : Result Filled ProgrammeFull) (words₁ : List ℕ) (numbers' : List Float) (added : Adds new words numbers f r words₁ numbers') where
   after : AfterRows (h.rows ++ new) words r words₁ numbers'
   after = added h.rows h.held.held
 
@@ -56,15 +56,15 @@ module _ (whole new rest : List Row) (makers others : List Maker) (kind index : 
   kept : part shape_made_at makers_at words₁ ≡ part shape_made_at makers_at words₀
   kept = part_behind shape_made_at makers_at shape_made_at words words₁ (omega arith) after.kept ∙ h.kept
 
-  pub making_over : r ≡ Full → AfterMade whole makers words₀ Full words₁ numbers'
-  making_over e =
+  pub making_over : (full : ProgrammeFull) → r ≡ Err full → AfterMade whole makers words₀ (Err full) words₁ numbers'
+  making_over full e =
       record {
-        held = λ g q. absurd (let z : ◌≡◌ {A = ℕ} 0 1 = cc in omega arith);
-        full = λ q. ap within_ceilings is ∙ over_more (h.rows ++ new) rest (after.full e);
+        held = λ g q. absurd (cc);
+        full = λ full' q. ap within_ceilings is ∙ over_more (h.rows ++ new) rest (after.full full e);
         kept = kept;
       }
 
-  module _ (g : Filled) (e : r ≡ Done g) where
+  module _ (g : Filled) (e : r ≡ Ok g) where
     held₁ : RowsHeld (h.rows ++ new) words₁ numbers' g
     held₁ = after.held g e
 
@@ -145,13 +145,13 @@ module _ (whole new rest : List Row) (makers others : List Maker) (kind index : 
 -- the last rows
 module _ (whole rest : List Row) (makers others : List Maker) (words₀ words : List ℕ) (numbers : List Float) (f : Filled)
     (h : Making whole rest makers others words₀ words numbers f) where
-  pub making_done : rest ≡ [] → others ≡ [] → AfterMade whole makers words₀ (Done f) words numbers
+  pub making_done : rest ≡ [] → others ≡ [] → AfterMade whole makers words₀ (Ok f) words numbers
   making_done er eo =
       let w : whole ≡ h.rows = h.whole_is ∙ ap (λ (l : List Row). h.rows ++ l) er ∙ append-nil h.rows in
       let m : makers ≡ h.theirs = h.makers_is ∙ ap (λ (l : List Maker). h.theirs ++ l) eo ∙ append-nil h.theirs in
       record {
         held = λ g e. let q : f ≡ g = cc in rw (w, m) (subst (MadeHeld h.rows h.theirs words numbers) q h.held);
-        full = λ e. absurd (let z : ◌≡◌ {A = ℕ} 0 1 = cc in omega arith);
+        full = λ full e. absurd (cc);
         kept = h.kept;
       }
 

@@ -3,6 +3,7 @@ use mathlib.Core.Path.{◌≡◌, ap, ◌∙◌}
 use Prim.Native.Nat.{ℕ, ◌+◌, ◌*◌, ◌-◌, ◌<◌, ◌≤◌}
 use native.Mathlib.Numerals.{add-one}
 use native.Mathlib.Omega.{arith}
+use Rattle.std.specs.Prelude.{Result, Ok, Err}
 use mathlib.Core.List.{List, [], ◌∷◌, ◌++◌, flat_map}
 use lib.ListN.{length, drop, replicate, drop_of_length-le}
 use lib.Seq.{sets}
@@ -19,8 +20,7 @@ use Rattle.network_node.specs.Node.{node_at}
 use Rattle.network_laws.specs.NetworkAt.{network_at}
 use Rattle.network_laws.proofs.Index.{node_count_lem, node_index}
 use Rattle.build_append.specs.declared.Filled.{Filled}
-use Rattle.build_append.specs.declared.RowsAdded.{RowsAdded}
-use Rattle.build_append.specs.declared.RowsAdded.TheVariants.{Done, Full}
+use Rattle.build_exclusive_sets.specs.declared.ProgrammeFull.{ProgrammeFull}
 use Rattle.build_append.proofs.AddingRows.{Adds}
 use Rattle.build_makers.specs.MadeRows.{AfterMade}
 use Rattle.build_makers.proofs.Making.{Making, making_more, making_over, making_done, rows_rise}
@@ -47,7 +47,7 @@ module _ (kind : ℕ) (rows_from : ℕ → List Node → List Row) (turn : InTur
   module _ (whole : List Row) (makers : List Maker) (words₀ words : List ℕ) (numbers : List Float) (f : Filled)
       (h : Making whole (rows_from i (drop i nodes)) makers (makers_from i (drop i nodes)) words₀ words numbers f) where
     -- k is the node's number as the code narrows it
-    module _ (lt : i < n) (k : ℕ) (q : k ≡ i) (r : RowsAdded) (words₁ : List ℕ) (numbers' : List Float)
+    module _ (lt : i < n) (k : ℕ) (q : k ≡ i) (r : Result Filled ProgrammeFull) (words₁ : List ℕ) (numbers' : List Float)
         (added : Adds (rows_from k (node_at file (20 * k) ∷ [])) words numbers f r words₁ numbers') where
       abbrev new : List Row
       new = rows_from k (node_at file (20 * k) ∷ [])
@@ -55,18 +55,18 @@ module _ (kind : ℕ) (rows_from : ℕ → List Node → List Row) (turn : InTur
       here : Making whole (new ++ rows_from (i + 1) (drop (i + 1) nodes)) makers (made_by kind k new ++ makers_from (i + 1) (drop (i + 1) nodes)) words₀ words numbers f
       here = rw q (rw (next_rows lt, next_makers lt) at h)
 
-      pub node_over : r ≡ Full → AfterMade whole makers words₀ Full words₁ numbers'
+      pub node_over : (full : ProgrammeFull) → r ≡ Err full → AfterMade whole makers words₀ (Err full) words₁ numbers'
       node_over = making_over whole new _ makers _ kind k words₀ words numbers f here r words₁ numbers' added
 
-      pub node_rise : (g : Filled) → r ≡ Done g → (f.rows ≤ g.rows) × (g.rows ≤ 1024)
+      pub node_rise : (g : Filled) → r ≡ Ok g → (f.rows ≤ g.rows) × (g.rows ≤ 1024)
       node_rise = rows_rise whole new _ makers _ kind k words₀ words numbers f here r words₁ numbers' added
 
-      pub node_more : (g : Filled) → r ≡ Done g → (shape : List ℕ) → words_length ≤ length words₁
+      pub node_more : (g : Filled) → r ≡ Ok g → (shape : List ℕ) → words_length ≤ length words₁
           → shape ≡ sets (tail shape_made_at words₁) (makers_at + 3 * f.rows) (flat_map maker_words (replicate (g.rows - f.rows) (record { kind = kind; index = k; shared_by = 1 })))
           → Making whole (rows_from (i + 1) (drop (i + 1) nodes)) makers (makers_from (i + 1) (drop (i + 1) nodes)) words₀ (put_tail shape_made_at words₁ shape) numbers' g
       node_more = making_more whole new _ makers _ kind k words₀ words numbers f here r words₁ numbers' added
 
-    pub nodes_done_lem : n ≤ i → AfterMade whole makers words₀ (Done f) words numbers
+    pub nodes_done_lem : n ≤ i → AfterMade whole makers words₀ (Ok f) words numbers
     unfolding made_in_turn
     nodes_done_lem l =
         let none : drop i nodes ≡ [] = drop_of_length-le nodes {i = i} (omega (arith, node_count_lem file n e a v)) in

@@ -1,1 +1,2 @@
+pub mod MakerKind
 pub mod MadeRows

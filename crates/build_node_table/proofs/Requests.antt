@@ -4,7 +4,7 @@ use Prim.Native.Nat.{ℕ, ◌+◌}
 use native.Mathlib.Nat.{add-zero}
 use native.Mathlib.Omega.{arith}
 use mathlib.Core.Bool.{Bool, true, false, cond}
-use mathlib.Core.List.{List, [], ◌∷◌, ◌++◌, map, append-nil, append_assoc}
+use mathlib.Core.List.{List, [], ◌∷◌, ◌++◌, map, map-append, append-nil, append_assoc}
 use lib.ListN.{length, length-append, length-map}
 use lib.Dec.{ltb}
 use Rattle.pywr.specs.declared.Sentinel.{Sentinel}
@@ -16,10 +16,6 @@ use Rattle.pywr.specs.Build.{requested_row, placed_node_rows}
 use Rattle.build_append.specs.LpBuilder.{within_ceilings}
 use Rattle.build_append.proofs.RowsHeldLaws.{over_more}
 use Rattle.build_node_table.specs.NodeTable.{joined}
-
-map-append : {A B : Type 0} (f : A → B) (xs ys : List A) → map f (xs ++ ys) ≡ map f xs ++ map f ys
-map-append f [] ys = refl
-map-append {B} f (x ∷ xs) ys = ap (λ (l : List B). f x ∷ l) (map-append f xs ys)
 
 -- ---- requests behind others
 

@@ -5,6 +5,7 @@ use native.Mathlib.Nat.{add-zero}
 use native.Mathlib.Omega.{arith}
 use mathlib.Core.Bool.{Bool, true, false}
 use mathlib.Core.Logic.{◌≢◌}
+use Rattle.std.specs.Prelude.{Result, Ok, Err}
 use mathlib.Core.List.{List, [], ◌∷◌, ◌++◌, flat_map, append-nil, append_assoc}
 use lib.ListN.{length, get_or, take, drop, length-append, length-map, take-append-drop}
 use lib.Seq.{take_all, length-take-le}
@@ -29,11 +30,12 @@ use Rattle.build_exclusive_sets.specs.Sets.{sets_at}
 use Rattle.build_exclusive_sets.proofs.MembershipLaws.{no_sets}
 use Rattle.build_append.specs.declared.Filled.{Filled}
 use Rattle.build_append.specs.LpBuilder.{RowsHeld}
-use Rattle.build_node_row.specs.Tables.{network_of, EdgeTables, MembershipTables}
+use Rattle.build_node_row.specs.Tables.{network_of, TablesOf, MembershipTables}
 use Rattle.build_node_table.specs.NodeTable.{NodeRowsHeld, AfterRequests, requests_before, listed_requests}
-use Rattle.build_node_table.specs.declared.NodeRows.{NodeRows}
-use Rattle.build_node_table.specs.declared.NodeRowsAdded.{NodeRowsAdded}
-use Rattle.build_node_table.specs.declared.NodeRowsAdded.TheVariants.{Done, Full}
+use Rattle.build_node_table.specs.NodeTable.{NodeRows}
+use Rattle.build_node_row.specs.declared.EdgeTables.{EdgeTables}
+use Rattle.build_exclusive_sets.specs.declared.Memberships.{Memberships}
+use Rattle.build_exclusive_sets.specs.declared.ProgrammeFull.{ProgrammeFull}
 use Rattle.build_node_table.proofs.Table.{requests_done, full_later}
 
 -- ---- any nodes
@@ -71,7 +73,7 @@ by_sets f n (k ∷ ks) h = refl
 
 -- ---- the nodes of an accepted file
 
-module _ (file : List ℕ) (c : Counts) (first_in next_in first_out next_out edge_to_col : List ℕ) (t : EdgeTables file c first_in next_in first_out next_out edge_to_col) where
+module _ (file : List ℕ) (c : Counts) (tables : EdgeTables) (t : TablesOf file c tables) where
   abbrev f : ColumnMap
   f = column_map (network_of file c)
 
@@ -97,23 +99,24 @@ module _ (file : List ℕ) (c : Counts) (first_in next_in first_out next_out edg
     unfolding requests_from add_variable_rows placed_node_rows flat_map
     order_first g h = record { held = h; counted = refl; table = refl }
 
-    pub order_full : (n : ℕ) (v : NodeRowsAdded) → AfterRequests s (requests_before f n) v words numbers → v ≡ Full → AfterRequests s (requests_from f 0 (network_of file c).nodes) Full words numbers
+    pub order_full : (n : ℕ) (v : Result NodeRows ProgrammeFull) → AfterRequests s (requests_before f n) v words numbers → (full : ProgrammeFull) → v ≡ Err full
+        → AfterRequests s (requests_from f 0 (network_of file c).nodes) (Err full) words numbers
     unfolding column_map
-    order_full n v a e = rw (before_after f n) (full_later s (requests_before f n) (after f n) v words numbers a e)
+    order_full n v a full e = rw (before_after f n) (full_later s (requests_before f n) (after f n) v words numbers a full e)
 
-    pub order_done : (n : ℕ) (r : NodeRows) → c.nodes ≤ n → NodeRowsHeld s (requests_before f n) words numbers r → AfterRequests s (requests_from f 0 (network_of file c).nodes) (Done r) words numbers
+    pub order_done : (n : ℕ) (r : NodeRows) → c.nodes ≤ n → NodeRowsHeld s (requests_before f n) words numbers r → AfterRequests s (requests_from f 0 (network_of file c).nodes) (Ok r) words numbers
     unfolding column_map
     order_done n r h a =
         let all : take n f.nodes ≡ f.nodes = take_all n f.nodes (omega (arith, nodes_are)) in
         requests_done s (requests_from f 0 (network_of file c).nodes) words numbers r (rw all at a)
 
   pub constant_after : (n : ℕ) → n < c.nodes → (b : Bool) → b ≡ (node_at file (20 * n)).constant → b ≡ true → (s : Sentinel) (words : List ℕ) (numbers : List Float) (r : NodeRows)
-      → NodeRowsHeld s (requests_before f n) words numbers r → AfterRequests s (requests_before f (n + 1)) (Done r) words numbers
+      → NodeRowsHeld s (requests_before f n) words numbers r → AfterRequests s (requests_before f (n + 1)) (Ok r) words numbers
   constant_after n h b eb is s words numbers r held =
       let same : requests_before f (n + 1) ≡ requests_before f n = more n h ∙ rw (sym eb ∙ is) (append-nil (requests_before f n)) in
       requests_done s (requests_before f (n + 1)) words numbers r (rw same held)
 
-  module _ (first_membership next_membership : List ℕ) (l : MembershipTables file c first_membership next_membership) where
+  module _ (memberships : Memberships) (l : MembershipTables file c memberships) where
     sets_few : length (exclusive_sets (network_of file c)) ≤ 128
     sets_few =
         let long : length (sets_at file l.aggregate_set_at l.sets) ≡ length (take l.sets l.aggregate_set_at) = simp length-map in
@@ -137,11 +140,11 @@ module _ (file : List ℕ) (c : Counts) (first_in next_in first_out next_out edg
       varying = more n h ∙ rw (sym eb ∙ no)
 
       -- no set lists the node
-      module _ (z : get_or first_membership k 0 ≡ 0) where
+      module _ (z : get_or memberships.first k 0 ≡ 0) where
         none : sets_with_node n 0 f.sets ≡ []
         unfolding column_map
         none =
-            (no_sets file l.aggregate_set_at l.sets l.tables.fit (network_of file c) l.tables.held n next_membership (get_or first_membership k 0) (rw e (l.tables.listed n (node_under n h)))).1 z
+            (no_sets file l.aggregate_set_at l.sets l.tables.fit (network_of file c) l.tables.held n memberships.next (get_or memberships.first k 0) (rw e (l.tables.listed n (node_under n h)))).1 z
 
         abbrev own : List RowRequest
         own = record { node = n; row_type = continuous; set = 0; row = node_row f n } ∷ []
@@ -154,24 +157,24 @@ module _ (file : List ℕ) (c : Counts) (first_in next_in first_out next_out edg
         own_room s words numbers r held =
             omega (arith, held.counted, ap (λ (x : List RowRequest). length x) own_is, length-append (requests_before f n) own, before_few (n + 1))
 
-        pub own_after : (s : Sentinel) (v : NodeRowsAdded) (words : List ℕ) (numbers : List Float) → AfterRequests s (requests_before f n ++ own) v words numbers
+        pub own_after : (s : Sentinel) (v : Result NodeRows ProgrammeFull) (words : List ℕ) (numbers : List Float) → AfterRequests s (requests_before f n ++ own) v words numbers
             → AfterRequests s (requests_before f (n + 1)) v words numbers
         own_after s v words numbers a = rw own_is a
 
       -- sets list the node
-      module _ (ne : get_or first_membership k 0 ≢ 0) where
+      module _ (ne : get_or memberships.first k 0 ≢ 0) where
         listed_is : requests_before f (n + 1) ≡ requests_before f n ++ listed_requests f n
         unfolding column_map
         listed_is =
             varying
             ∙ ap (λ (x : List RowRequest). requests_before f n ++ x)
             (by_sets f n (sets_with_node n 0 f.sets)
-            (λ q. ne ((no_sets file l.aggregate_set_at l.sets l.tables.fit (network_of file c) l.tables.held n next_membership (get_or first_membership k 0)
+            (λ q. ne ((no_sets file l.aggregate_set_at l.sets l.tables.fit (network_of file c) l.tables.held n memberships.next (get_or memberships.first k 0)
             (rw e (l.tables.listed n (node_under n h)))).0 q)))
 
         pub listed_room : length (requests_before f n ++ listed_requests f n) ≤ node_row_ceiling
         listed_room = rw listed_is at (before_few (n + 1))
 
-        pub listed_after : (s : Sentinel) (v : NodeRowsAdded) (words : List ℕ) (numbers : List Float) → AfterRequests s (requests_before f n ++ listed_requests f n) v words numbers
+        pub listed_after : (s : Sentinel) (v : Result NodeRows ProgrammeFull) (words : List ℕ) (numbers : List Float) → AfterRequests s (requests_before f n ++ listed_requests f n) v words numbers
             → AfterRequests s (requests_before f (n + 1)) v words numbers
         listed_after s v words numbers a = rw listed_is a

@@ -5,141 +5,56 @@ ghost use Rattle.std.specs.Prelude.{◌≡◌, [], ◌+◌, ◌<◌, ◌≤◌, 
 ghost use Rattle.layout.specs.Layout.{words_length, numbers_length};
 ghost use Rattle.pywr.specs.Rows.{column_map};
 ghost use Rattle.pywr.specs.VaryingRows.{requests_from};
-ghost use Rattle.build_append.specs.LpBuilder.{RowsHeld};
-ghost use Rattle.build_node_row.specs.Tables.{network_of, EdgeTables, MembershipTables};
+ghost use Rattle.build_append.specs.LpBuilder.{RowsHeld, SameRuns};
+ghost use Rattle.build_node_row.specs.Tables.{network_of, TablesHold, MembershipTables};
 ghost use Rattle.build_node_row.specs.EdgeColumns.{edge_columns_of};
-ghost use Rattle.build_node_table.specs.NodeTable.{NodeRowsHeld, AfterRequests, requests_before};
+ghost use Rattle.build_node_table.specs.NodeTable.{node_rows, node_rows_then, NodeRowsHeld, AfterRequests, requests_before};
 ghost use Rattle.layout.specs.WorkRoom.{WorkRoom};
 
-use build_append::Filled;
-use build_node_table::{NodeRows, NodeRowsAdded};
-use layout::{COLUMN_CEILING, EDGE_CEILING, MEMBERSHIP_CEILING, NODE_CEILING};
-use network_record::Counts;
-use pywr::{ColumnNumber, NodeIndex, Sentinel};
+use build_append::LpBuilder;
+use build_exclusive_sets::{Memberships, ProgrammeFull};
+use build_node_row::EdgeTables;
+use pywr::NodeIndex;
 
-// A varying node asks for its rows, a constant one for none.
+// A varying node asks for its rows, a constant one for none. Answers how many node rows there are then.
 fn request_rows(
-    s: &[u8],
-    c: Counts,
-    first_in: &[u16; NODE_CEILING],
-    next_in: &[u16; EDGE_CEILING],
-    first_out: &[u16; NODE_CEILING],
-    next_out: &[u16; EDGE_CEILING],
-    edge_to_col: &[u16; EDGE_CEILING],
-    edge_columns: usize,
-    first_membership: &[u16; NODE_CEILING],
-    next_membership: &[u16; MEMBERSHIP_CEILING],
+    tables: &EdgeTables<'_>,
+    memberships: &Memberships,
     node: NodeIndex,
-    sentinel: Sentinel,
-    words: &mut [u16],
-    numbers: &mut [f64],
-    columns: &mut [ColumnNumber; COLUMN_CEILING],
-    rows: NodeRows,
-) -> NodeRowsAdded
-    requires { EdgeTables s.now c first_in.now next_in.now first_out.now next_out.now edge_to_col.now × (node.0 < c.nodes)
-        × (edge_columns ≡ edge_columns_of s.now c) × MembershipTables s.now c first_membership.now next_membership.now
-        × WorkRoom words.old numbers.old
-        × NodeRowsHeld sentinel (requests_before (column_map (network_of s.now c)) node.0) words.old numbers.old rows }
-    ensures { AfterRequests sentinel (requests_before (column_map (network_of s.now c)) (node.0 + 1)) result words.new numbers.new }
+    lp: &mut LpBuilder<'_>,
+    count: usize,
+) -> Result<usize, ProgrammeFull>
+    requires { TablesHold tables.now × (node.0 < tables.now.counts.nodes)
+        × (tables.now.edge_columns ≡ edge_columns_of tables.now.file.now tables.now.counts) × MembershipTables tables.now.file.now tables.now.counts memberships.now
+        × WorkRoom lp.old.words.now lp.old.numbers.now
+        × NodeRowsHeld lp.old.sentinel (requests_before (column_map (network_of tables.now.file.now tables.now.counts)) node.0) lp.old.words.now lp.old.numbers.now (node_rows lp.old count) }
+    ensures rows { AfterRequests lp.old.sentinel (requests_before (column_map (network_of tables.now.file.now tables.now.counts)) (node.0 + 1)) (node_rows_then result lp.new) lp.new.words.now lp.new.numbers.now }
+    ensures same { SameRuns lp.old lp.new }
 {
-    if network_node::is_constant(s, node) {
-        return NodeRowsAdded::Done(rows);
+    if network_node::is_constant(tables.file, node) {
+        return Ok(count);
     }
-    let k = widths::wide16(node.0);
-    if first_membership[k] == 0 {
-        return build_node_request::request_node_row(
-            s,
-            c,
-            first_in,
-            next_in,
-            first_out,
-            next_out,
-            edge_to_col,
-            node,
-            sentinel,
-            words,
-            numbers,
-            columns,
-            rows,
-        );
+    if memberships.first[usize::from(node.0)] == 0 {
+        return build_node_request::request_node_row(tables, node, lp, count);
     }
-    build_exclusive_request::request_exclusive_rows(
-        s,
-        c,
-        first_in,
-        next_in,
-        first_out,
-        next_out,
-        edge_to_col,
-        edge_columns,
-        first_membership,
-        next_membership,
-        node,
-        sentinel,
-        words,
-        numbers,
-        columns,
-        rows,
-    )
+    build_exclusive_request::request_exclusive_rows(tables, memberships, node, lp, count)
 }
 
-// The rows of all varying nodes, in node order; each node row is written to the node-row table.
+// The rows of all varying nodes, in node order; each node row is written to the node-row table. Answers how many node rows there are.
 pub fn create_node_constraints(
-    s: &[u8],
-    c: Counts,
-    first_in: &[u16; NODE_CEILING],
-    next_in: &[u16; EDGE_CEILING],
-    first_out: &[u16; NODE_CEILING],
-    next_out: &[u16; EDGE_CEILING],
-    edge_to_col: &[u16; EDGE_CEILING],
-    edge_columns: usize,
-    first_membership: &[u16; NODE_CEILING],
-    next_membership: &[u16; MEMBERSHIP_CEILING],
-    sentinel: Sentinel,
-    words: &mut [u16],
-    numbers: &mut [f64],
-    columns: &mut [ColumnNumber; COLUMN_CEILING],
-    f: Filled,
-) -> NodeRowsAdded
-    requires { EdgeTables s.now c first_in.now next_in.now first_out.now next_out.now edge_to_col.now
-        × (edge_columns ≡ edge_columns_of s.now c) × MembershipTables s.now c first_membership.now next_membership.now
-        × WorkRoom words.old numbers.old × RowsHeld [] words.old numbers.old f }
-    ensures { AfterRequests sentinel (requests_from (column_map (network_of s.now c)) 0 (network_of s.now c).nodes) result words.new numbers.new }
+    tables: &EdgeTables<'_>,
+    memberships: &Memberships,
+    lp: &mut LpBuilder<'_>,
+) -> Result<usize, ProgrammeFull>
+    requires { TablesHold tables.now
+        × (tables.now.edge_columns ≡ edge_columns_of tables.now.file.now tables.now.counts) × MembershipTables tables.now.file.now tables.now.counts memberships.now
+        × WorkRoom lp.old.words.now lp.old.numbers.now × RowsHeld [] lp.old.words.now lp.old.numbers.now lp.old.filled }
+    ensures rows { AfterRequests lp.old.sentinel (requests_from (column_map (network_of tables.now.file.now tables.now.counts)) 0 (network_of tables.now.file.now tables.now.counts).nodes) (node_rows_then result lp.new) lp.new.words.now lp.new.numbers.now }
+    ensures same { SameRuns lp.old lp.new }
 {
-    let nodes = c.nodes;
-    let mut rows = NodeRows {
-        filled: f,
-        count: 0,
-    };
-    let mut i: usize = 0;
-    while i < nodes {
-        let r = request_rows(
-            s,
-            c,
-            first_in,
-            next_in,
-            first_out,
-            next_out,
-            edge_to_col,
-            edge_columns,
-            first_membership,
-            next_membership,
-            NodeIndex(widths::narrow16(i)),
-            sentinel,
-            words,
-            numbers,
-            columns,
-            rows,
-        );
-        match r {
-            NodeRowsAdded::Full => {
-                return NodeRowsAdded::Full;
-            }
-            NodeRowsAdded::Done(more) => {
-                rows = more;
-                i += 1;
-            }
-        }
+    let mut count = 0;
+    for i in 0..tables.counts.nodes {
+        count = request_rows(tables, memberships, NodeIndex(i as u16), lp, count)?;
     }
-    NodeRowsAdded::Done(rows)
+    Ok(count)
 }

@@ -44,6 +44,6 @@ pub fn build_has_room(
 pub fn clear(words: &mut [u16], numbers: &mut [f64])
     ensures { (words.new ≡ replicate (length words.old) 0) × (numbers.new ≡ replicate (length numbers.old) zero64) }
 {
-    runs::zero_u16(words);
-    runs::zero_f64(numbers);
+    runs::fill_whole(words, 0);
+    runs::fill_whole(numbers, 0.0);
 }

@@ -1,6 +1,6 @@
 -- A row being gathered (RowBuilder of builder.rs): its column numbers in an array, its elements at the front of the part of the element run that starts at the row.
 -- Assumes nothing.
-use Rattle.std.specs.Prelude.{◌≡◌, ℕ, ◌+◌, ◌-◌, ◌≤◌, ◌<◌, List, ◌∷◌, ◌++◌, true, get_or, take, drop, Float}
+use Rattle.std.specs.Prelude.{◌≡◌, ℕ, ◌+◌, ◌-◌, ◌≤◌, ◌<◌, List, ◌∷◌, ◌++◌, true, length, get_or, take, drop, Float}
 use Rattle.layout.specs.Layout.{column_ceiling}
 use Rattle.pywr.specs.Rows.{Element, add_element}
 use Rattle.pywr.specs.Store.{elements_of}
@@ -20,11 +20,17 @@ pub record ElementAdded (columns : List ℕ) (elements : List Float) (n c : ℕ)
   pub rising : Rising columns' r
   pub few : r ≤ column_ceiling
 
--- p is the first place, of n, whose column is not under c
-pub record Place (columns : List ℕ) (n c p : ℕ) : Type 0 where
-  pub within : p ≤ n
+-- column c stands at place p
+pub record Stands (columns : List ℕ) (c p : ℕ) : Type 0 where
+  pub within : p < length columns
+  pub is : get_or columns p 0 ≡ c
   pub under : (k : ℕ) → k < p → get_or columns k 0 < c
-  pub over : p < n → c ≤ get_or columns p 0
+
+-- column c does not stand there, and belongs at place p
+pub record Belongs (columns : List ℕ) (c p : ℕ) : Type 0 where
+  pub within : p ≤ length columns
+  pub under : (k : ℕ) → k < p → get_or columns k 0 < c
+  pub over : p < length columns → c < get_or columns p 0
 
 -- x put at place p of a run's first n, of which those from there on move up by one
 abbrev pub insert_at : {A : Type 0} → ℕ → ℕ → A → List A → List A

@@ -1,63 +1,35 @@
 // One row gathered (RowBuilder of builder.rs): its columns rise in an array, its elements lie in the same order in the lent run of elements.
 #![tactic(auto)]
 
-ghost use Rattle.std.specs.Prelude.{◌≡◌, ◌<◌, ◌≤◌, length};
+ghost use Rattle.std.specs.Prelude.{◌≡◌, ◌<◌, ◌≤◌, true, length};
+ghost use Rattle.std.specs.Result.{MatchResult};
 ghost use Rattle.layout.specs.Layout.{column_ceiling};
-ghost use Rattle.build_row.specs.RowBuilder.{Rising, Place, insert_at, ElementAdded};
+ghost use Rattle.build_row.specs.RowBuilder.{Rising, Stands, Belongs, insert_at, ElementAdded};
+ghost use Rattle.pywr.specs.Misshapen.{columns_rise};
 ghost use Rattle.build_row.specs.EdgeList.{ListedEdges, ColumnsAdded};
 
 use layout::{COLUMN_CEILING, EDGE_CEILING};
 use pywr::{ColumnIndex, ColumnNumber, EdgeIndex};
 
-// The first place, of n, whose column is not under the one given.
-fn place_of(columns: &[ColumnNumber], n: usize, column: ColumnIndex) -> usize
-    requires { (n ≤ length columns.now) × Rising columns.now n }
-    ensures { Place columns.now n column.0 result }
+// Where the column stands in the row, or else where it belongs.
+fn place_of(columns: &[ColumnNumber], column: ColumnNumber) -> Result<usize, usize>
+    requires { columns_rise column_ceiling 0 columns.now ≡ true }
+    ensures { MatchResult result (Stands columns.now column) (Belongs columns.now column) }
 {
-    let c = column.0;
-    if n == 0 {
-        return 0;
+    // a row is mostly gathered in rising order
+    match columns.last() {
+        Some(&last) if column <= last => columns.binary_search(&column),
+        _ => Err(columns.len()),
     }
-    if columns[n - 1] < c {
-        return n;
-    }
-    let mut lo: usize = 0;
-    let mut hi = n - 1;
-    while lo < hi {
-        let mid = lo + (hi - lo) / 2;
-        if columns[mid] < c {
-            lo = mid + 1;
-        } else {
-            hi = mid;
-        }
-    }
-    lo
 }
 
-// The column put at place p: the columns from there up to place n move up by one.
-fn insert_column(columns: &mut [ColumnNumber], n: usize, p: usize, column: ColumnIndex)
-    requires { (p ≤ n) × (n < length columns.old) }
-    ensures { columns.new ≡ insert_at n p column.0 columns.old }
+// x put at place p: what stands from there up to place n moves up by one.
+fn insert_at<T: Copy>(run: &mut [T], n: usize, p: usize, x: T)
+    requires { (p ≤ n) × (n < length run.old) }
+    ensures { run.new ≡ insert_at n p x run.old }
 {
-    let mut i = n;
-    while p < i {
-        columns[i] = columns[i - 1];
-        i -= 1;
-    }
-    columns[p] = column.0;
-}
-
-// The same of an element.
-fn insert_element(elements: &mut [f64], n: usize, p: usize, x: f64)
-    requires { (p ≤ n) × (n < length elements.old) }
-    ensures { elements.new ≡ insert_at n p x elements.old }
-{
-    let mut i = n;
-    while p < i {
-        elements[i] = elements[i - 1];
-        i -= 1;
-    }
-    elements[p] = x;
+    run.copy_within(p..n, p + 1);
+    run[p] = x;
 }
 
 // Adds value on a column of the row of n elements, and answers how many it has then.
@@ -71,17 +43,17 @@ pub fn add_element(
     requires { (n ≤ column_ceiling) × (column_ceiling ≤ length elements.old) × (column.0 < column_ceiling) × Rising columns.old n }
     ensures { ElementAdded columns.old elements.old n column.0 value columns.new elements.new result }
 {
-    let c = column.0;
-    let p = place_of(columns, n, column);
-    if p < n {
-        if columns[p] == c {
-            elements[p] = elements[p] + value;
-            return n;
+    match place_of(&columns[..n], column.0) {
+        Ok(p) => {
+            elements[p] += value;
+            n
+        }
+        Err(p) => {
+            insert_at(columns, n, p, column.0);
+            insert_at(elements, n, p, 0.0 + value);
+            n + 1
         }
     }
-    insert_column(columns, n, p, column);
-    insert_element(elements, n, p, 0.0 + value);
-    n + 1
 }
 
 // Adds the factor on the column of each edge of a list. `first` is 0 or an edge's number plus 1, and so is each entry of `next`;
@@ -102,7 +74,7 @@ pub fn add_columns(
     let mut link = first;
     while link != 0 {
         let edge = EdgeIndex(link - 1);
-        let e = widths::wide16(edge.0);
+        let e = usize::from(edge.0);
         count = add_element(
             columns,
             elements,

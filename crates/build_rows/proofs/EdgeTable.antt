@@ -16,20 +16,24 @@ use Rattle.network_edge.specs.Edge.{edge_at}
 use Rattle.network_laws.proofs.Index.{edge_count, edge_index}
 use Rattle.network_record.specs.declared.Counts.{Counts}
 use Rattle.build_col_edge_map.proofs.EdgeColumns.{column_at_lem}
-use Rattle.build_node_row.specs.Tables.{network_of, EdgeTables}
+use Rattle.build_node_row.specs.declared.EdgeTables.{EdgeTables}
+use Rattle.build_node_row.specs.Tables.{network_of, TablesOf}
 use Rattle.build_node_row.proofs.NodeColumns.{sound}
-use Rattle.build_shape.specs.ShapeTables.{edge_entry, edges_from, edge_entries}
+use Rattle.build_shape.specs.ShapeTables.{edge_entry, edge_entries}
 use Rattle.build_shape.proofs.Table.{edge_get, edges_many}
 
-module _ (file : List ℕ) (c : Counts) (first_in next_in first_out next_out table : List ℕ) (t : EdgeTables file c first_in next_in first_out next_out table) where
+module _ (file : List ℕ) (c : Counts) (tables : EdgeTables) (t : TablesOf file c tables) where
   abbrev net : Network
   net = network_of file c
+
+  abbrev table : List ℕ
+  table = tables.edge_to_col
 
   edges_are : length net.edges ≡ c.edges
   edges_are = edge_count file c.nodes c.edges c.aggregates c.virtual_storages
 
   at : (e : ℕ) → e < c.edges → get_or table e 0 ≡ suc (column_of net e)
-  at e h = column_at_lem net (sound file c first_in next_in first_out next_out table t).noself e (omega (arith, edges_are)) table (columns net).count t.mapped
+  at e h = column_at_lem net (sound file c tables t).noself e (omega (arith, edges_are)) table (columns net).count t.mapped
 
   -- every edge has a column
   pub placed : (e : ℕ) → e < c.edges → 1 ≤ get_or table e 0

@@ -1,15 +1,19 @@
 -- The whole programme laid out, and the answers of the assembling. Assumes nothing.
 use mathlib.Core.Path.{◌≡◌, refl, sym, ◌∙◌, ap, subst}
-use Prim.Native.Nat.{ℕ, ◌+◌, ◌*◌, ◌-◌, ◌<◌, ◌≤◌}
+use Prim.Native.Nat.{ℕ, ◌+◌, ◌*◌, ◌<◌, ◌≤◌}
+use Rattle.std.specs.Prelude.{Result, Ok, Err}
 use mathlib.Core.List.{List, ◌++◌, map, flat_map}
 use mathlib.Core.Bool.{false}
 use native.Mathlib.Omega.{arith}
 use lib.ListN.{length, take, length-append, length-map}
-use lib.Seq.{sets, length-take-le}
+use lib.Seq.{length-take-le}
 use lib.Ieee.{Float}
 use Rattle.layout.specs.Layout.{aggregates_made_at, makers_at, makers_made_at, node_rows_made_at, shape_made_at, virtual_storages_made_at, words_length}
 use Rattle.laws.specs.Part.{part}
 use Rattle.pywr.specs.declared.Sentinel.{Sentinel}
+use Rattle.pywr.specs.declared.Reason.{Reason}
+use Rattle.pywr.specs.declared.Refusal.{Refusal}
+use Rattle.pywr.specs.Answers.{refusal_at}
 use Rattle.pywr.specs.Result.{value, refused}
 use Rattle.pywr.specs.Network.{Network}
 use Rattle.pywr.specs.ColEdgeMap.{columns, mapped_edges}
@@ -29,15 +33,15 @@ use Rattle.build_col_edge_map.proofs.EdgeColumns.{columns_few}
 use Rattle.build_write.specs.declared.Sizes.{Sizes}
 use Rattle.build_write.specs.Lp.{Few}
 use Rattle.build_append.specs.declared.Filled.{Filled}
-use Rattle.build_append.specs.declared.RowsAdded.{RowsAdded}
-use Rattle.build_append.specs.declared.RowsAdded.TheVariants.{Done}
+use Rattle.build_exclusive_sets.specs.declared.ProgrammeFull.{ProgrammeFull}
+use Rattle.build_exclusive_sets.specs.declared.Memberships.{Memberships}
 use Rattle.build_append.specs.LpBuilder.{RowsHeld, within_ceilings}
 use Rattle.build_append.proofs.RowsHeldLaws.{held_within, over_more}
-use Rattle.build_node_row.specs.Tables.{network_of, EdgeTables, SetTables}
-use Rattle.build_node_table.specs.declared.NodeRows.{NodeRows}
+use Rattle.build_node_row.specs.declared.EdgeTables.{EdgeTables}
+use Rattle.build_node_row.specs.Tables.{network_of, TablesOf, SetTables}
+use Rattle.build_node_table.specs.NodeTable.{NodeRows}
 use Rattle.build_shape.specs.ShapeTables.{edge_entries, counts}
 use Rattle.build_shape.proofs.Table.{nodes_length, edges_length, edges_many}
-use Rattle.build_rows.specs.declared.Assembled.{Assembled}
 use Rattle.build_varying.specs.VaryingLaid.{VaryingLaid}
 use Rattle.build_rows.specs.Assembled.{Laid, Made, AfterAssemble, shape_finished}
 use Rattle.build_rows.proofs.Ceilings.{rows_over, sets_over, none_over, eleven, accepted}
@@ -53,16 +57,17 @@ unfolding counts
 counts_long s z varying = refl
 
 -- a refusal and a programme are answered apart
-pub refused_so : (s : Sentinel) (file : List ℕ) (n p : ℕ) (words : List ℕ) (numbers : List Float) → build s file ≡ refused n p → AfterAssemble s file (Assembled.Refused n p) words numbers
-refused_so s file n p words numbers e =
-    record {
-      refusal = λ m q r. let em : n ≡ m = cc in let eq : p ≡ q = cc in e ∙ rw (em, eq);
-      made = λ z r. absurd (let z₀ : ◌≡◌ {A = ℕ} 0 1 = cc in omega arith);
-    }
+pub refused_so : (s : Sentinel) (file : List ℕ) (refusal : Refusal) (words : List ℕ) (numbers : List Float) → build s file ≡ refused refusal.number refusal.place
+    → AfterAssemble s file (Err refusal) words numbers
+refused_so s file refusal words numbers e =
+    record { refusal = λ other q. let same : refusal ≡ other = cc in rw (← same) e; made = λ z r. absurd (cc) }
 
-module _ (s : Sentinel) (file : List ℕ) (c : Counts) (first_in next_in first_out next_out table : List ℕ) (t : EdgeTables file c first_in next_in first_out next_out table) where
+module _ (s : Sentinel) (file : List ℕ) (c : Counts) (tables : EdgeTables) (t : TablesOf file c tables) where
   abbrev net : Network
   net = network_of file c
+
+  abbrev table : List ℕ
+  table = tables.edge_to_col
 
   abbrev b : Built
   b = programme_of s net
@@ -83,21 +88,21 @@ module _ (s : Sentinel) (file : List ℕ) (c : Counts) (first_in next_in first_o
   shape_flow_order = refl
 
   -- 11: too many sets, or rows over the ceilings
-  pub sets_refused : (words : List ℕ) (numbers : List Float) → 128 < length (exclusive_sets net) → AfterAssemble s file (Assembled.Refused 11 0) words numbers
-  sets_refused words numbers h = refused_so s file 11 0 words numbers (eleven s file net t.parsed (sets_over net b.programme h))
+  pub sets_refused : (words : List ℕ) (numbers : List Float) → 128 < length (exclusive_sets net) → AfterAssemble s file (Err (refusal_at Reason.OverCeilings 0)) words numbers
+  sets_refused words numbers h = refused_so s file (refusal_at Reason.OverCeilings 0) words numbers (eleven s file net t.parsed (sets_over net b.programme h))
 
-  rows_refused : (words : List ℕ) (numbers : List Float) → within_ceilings (rows_of b.programme) ≡ false → AfterAssemble s file (Assembled.Refused 11 0) words numbers
-  rows_refused words numbers e = refused_so s file 11 0 words numbers (eleven s file net t.parsed (rows_over net b.programme e))
+  rows_refused : (words : List ℕ) (numbers : List Float) → within_ceilings (rows_of b.programme) ≡ false → AfterAssemble s file (Err (refusal_at Reason.OverCeilings 0)) words numbers
+  rows_refused words numbers e = refused_so s file (refusal_at Reason.OverCeilings 0) words numbers (eleven s file net t.parsed (rows_over net b.programme e))
 
-  pub varying_refused : (words : List ℕ) (numbers : List Float) → within_ceilings b.programme.varying ≡ false → AfterAssemble s file (Assembled.Refused 11 0) words numbers
+  pub varying_refused : (words : List ℕ) (numbers : List Float) → within_ceilings b.programme.varying ≡ false → AfterAssemble s file (Err (refusal_at Reason.OverCeilings 0)) words numbers
   unfolding rows_of
   varying_refused words numbers e = rows_refused words numbers (over_more b.programme.varying b.programme.fixed e)
 
-  pub fixed_refused : (words : List ℕ) (numbers : List Float) → within_ceilings (b.programme.varying ++ b.programme.fixed) ≡ false → AfterAssemble s file (Assembled.Refused 11 0) words numbers
+  pub fixed_refused : (words : List ℕ) (numbers : List Float) → within_ceilings (b.programme.varying ++ b.programme.fixed) ≡ false → AfterAssemble s file (Err (refusal_at Reason.OverCeilings 0)) words numbers
   unfolding rows_of
   fixed_refused words numbers e = rows_refused words numbers e
 
-  module _ (aggregate_set_at first_membership next_membership : List ℕ) (sets₀ : ℕ) (l : SetTables file c aggregate_set_at sets₀ first_membership next_membership)
+  module _ (aggregate_set_at : List ℕ) (memberships : Memberships) (sets₀ : ℕ) (l : SetTables file c aggregate_set_at sets₀ memberships)
       (edge_columns : ℕ) (columns-is : edge_columns ≡ (columns net).count) (n : NodeRows) (g : Filled) where
     abbrev pub sizes : Sizes
     sizes =
@@ -119,7 +124,7 @@ module _ (s : Sentinel) (file : List ℕ) (c : Counts) (first_in next_in first_o
         sym (ap (λ (x : List (List ℕ)). length x) l.held) ∙ long ∙ length-take-le sets₀ aggregate_set_at (omega (arith, l.fit.long, l.fit.few))
 
     module _ (words₁ words₂ : List ℕ) (numbers₁ numbers₂ : List Float) (v : VaryingLaid s net n words₁ numbers₁)
-        (r : RowsAdded) (a : AfterMade (b.programme.varying ++ b.programme.fixed) (makers_of_varying s net ++ fixed_makers s (column_map net) net) words₁ r words₂ numbers₂) (done : r ≡ Done g) where
+        (r : Result Filled ProgrammeFull) (a : AfterMade (b.programme.varying ++ b.programme.fixed) (makers_of_varying s net ++ fixed_makers s (column_map net) net) words₁ r words₂ numbers₂) (done : r ≡ Ok g) where
       held : RowsHeld (rows_of b.programme) words₂ numbers₂ g
       unfolding rows_of
       held = (a.held g done).held
@@ -133,7 +138,7 @@ module _ (s : Sentinel) (file : List ℕ) (c : Counts) (first_in next_in first_o
       are =
           record {
             nodes = sym (node_count_lem file c.nodes c.edges c.aggregates c.virtual_storages);
-            edges = sym (ap (λ (x : List _). length x) (sym (entries_are file c first_in next_in first_out next_out table t)) ∙ edges_many file table c.nodes c.edges 0);
+            edges = sym (ap (λ (x : List _). length x) (sym (entries_are file c tables t)) ∙ edges_many file table c.nodes c.edges 0);
             edge_columns = columns-is;
             sets = sym sets_are;
             rows = held.row_count;
@@ -152,7 +157,7 @@ module _ (s : Sentinel) (file : List ℕ) (c : Counts) (first_in next_in first_o
             sets = l.fit.few;
             rows = omega (arith, held.row_count, held.few_rows);
             elements = omega (arith, held.elements_count, held.few_elements);
-            node_rows = omega (arith, v.counted, asks_few file c first_in next_in first_out next_out table first_membership next_membership t (record { aggregate_set_at = aggregate_set_at; sets = sets₀; tables = l }));
+            node_rows = omega (arith, v.counted, asks_few file c tables memberships t (record { aggregate_set_at = aggregate_set_at; sets = sets₀; tables = l }));
             aggregates = t.sections.few_aggregates_lem;
             virtual_storages = t.sections.few_virtual_storages_lem;
           }
@@ -164,7 +169,7 @@ module _ (s : Sentinel) (file : List ℕ) (c : Counts) (first_in next_in first_o
 
       pub all_made : (words₃ : List ℕ) → words_length ≤ length words₁ → words_length ≤ length words₂
           → words₃ ≡ shape_finished s file table sizes n.filled.rows (flow_order net) words₂
-          → AfterAssemble s file (Assembled.Done sizes) words₃ numbers₂
+          → AfterAssemble s file (Ok sizes) words₃ numbers₂
       all_made words₃ room₁ room e =
           let cs : counts s sizes n.filled.rows ≡ count_words b = counts_are s net sizes are n.filled.rows v.held.row_count in
           let rows-laid : RowsLaid b sizes words₂ numbers₂ =
@@ -183,7 +188,7 @@ module _ (s : Sentinel) (file : List ℕ) (c : Counts) (first_in next_in first_o
           let is : build s file ≡ value b = accepted s file net t.parsed
           (none_over net b.programme (omega (arith, sets_are, l.fit.few)) (held_within (rows_of b.programme) words₂ numbers₂ g held)) in
           record {
-            refusal = λ m q z. absurd (let z₀ : ◌≡◌ {A = ℕ} 0 1 = cc in omega arith);
+            refusal = λ refusal q. absurd (cc);
             made = λ z q. let ez : sizes ≡ z = cc in subst (λ (y : Sizes). Made s file y words₃ numbers₂) ez
                 (record { built = b; is = is; laid = subst (λ (w : List ℕ). Laid s b sizes w numbers₂) (sym e) laid });
           }
@@ -196,4 +201,4 @@ module _ (s : Sentinel) (file : List ℕ) (c : Counts) (first_in next_in first_o
           nodes_are = shape_nodes
 
           edges_are : flat_map edge_words (edge_entries file table c.nodes c.edges) ≡ flat_map edge_words b.shape.mapped_edges
-          edges_are = ap (flat_map edge_words) (entries_are file c first_in next_in first_out next_out table t) ∙ shape_edges
+          edges_are = ap (flat_map edge_words) (entries_are file c tables t) ∙ shape_edges

@@ -1,6 +1,6 @@
 -- The tables written behind the rows lay the programme out. Assumes nothing.
 use mathlib.Core.Path.{◌≡◌, refl, ◌∙◌, ap}
-use Prim.Native.Nat.{ℕ, ◌+◌, ◌*◌, ◌-◌, ◌≤◌}
+use Prim.Native.Nat.{ℕ, ◌+◌, ◌*◌, ◌≤◌}
 use mathlib.Core.List.{List, map, flat_map}
 use native.Mathlib.Omega.{arith}
 use lib.ListN.{length, take}

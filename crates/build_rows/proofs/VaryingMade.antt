@@ -23,7 +23,7 @@ use Rattle.pywr.proofs.MadeLaws.{asked_under}
 use Rattle.build_append.proofs.RowLaws.{part_agrees}
 use Rattle.build_append.proofs.RowsHeldLaws.{held_agrees}
 use Rattle.build_join.specs.JoinedRows.{joined}
-use Rattle.build_node_table.specs.declared.NodeRows.{NodeRows}
+use Rattle.build_node_table.specs.NodeTable.{NodeRows}
 use Rattle.build_makers.specs.MadeRows.{MadeHeld}
 use Rattle.build_sharers.specs.Sharers.{askers_in, RowsUnder}
 use Rattle.build_varying.specs.VaryingLaid.{VaryingLaid}

@@ -1,12 +1,13 @@
 -- A programme assembled in a build's work runs. In `words` stand the columns of the elements, the row starts and the shape run's words;
 -- in `numbers` the lower bounds of the rows, the upper bounds and the elements. Assumes nothing.
-use Rattle.std.specs.Prelude.{◌≡◌, ℕ, ◌*◌, Float}
+use Rattle.std.specs.Prelude.{◌≡◌, ℕ, ◌*◌, Float, Result, Ok, Err}
 use mathlib.Core.List.{List, map, flat_map}
 use Rattle.std.proofs.lemmas.List.Edits.{sets}
 use Rattle.layout.specs.Layout.{counts_length, node_width, edge_width, node_row_width, virtual_storage_width, maker_width}
 use Rattle.layout.specs.Layout.{shape_made_at, nodes_made_at, edges_made_at, node_rows_made_at, aggregates_made_at, virtual_storages_made_at, makers_made_at, flow_order_made_at}
 use Rattle.laws.specs.Part.{part}
 use Rattle.pywr.specs.declared.Sentinel.{Sentinel}
+use Rattle.pywr.specs.declared.Refusal.{Refusal}
 use Rattle.pywr.specs.Result.{value, refused}
 use Rattle.pywr.specs.Programme.{Built}
 use Rattle.pywr.specs.Build.{node_shape, build}
@@ -16,7 +17,6 @@ use Rattle.build_shape.specs.ShapeTables.{edge_entries, counts}
 use Rattle.build_write.specs.declared.Sizes.{Sizes}
 use Rattle.build_write.specs.Lp.{Few, columns_of}
 use Rattle.build_append.specs.LpBuilder.{RowsHeld}
-use Rattle.build_rows.specs.declared.Assembled.{Assembled}
 
 -- the programme b with its shape, as the work runs hold it
 pub record Laid (s : Sentinel) (b : Built) (z : Sizes) (words : List ℕ) (numbers : List Float) : Type 0 where
@@ -39,9 +39,9 @@ pub record Made (s : Sentinel) (file : List ℕ) (z : Sizes) (words : List ℕ) 
   pub laid : Laid s built z words numbers
 
 -- what assembling promises, refusals included
-pub record AfterAssemble (s : Sentinel) (file : List ℕ) (r : Assembled) (words : List ℕ) (numbers : List Float) : Type 0 where
-  pub refusal : (n p : ℕ) → r ≡ Assembled.Refused n p → build s file ≡ refused n p
-  pub made : (z : Sizes) → r ≡ Assembled.Done z → Made s file z words numbers
+pub record AfterAssemble (s : Sentinel) (file : List ℕ) (r : Result Sizes Refusal) (words : List ℕ) (numbers : List Float) : Type 0 where
+  pub refusal : (refusal : Refusal) → r ≡ Err refusal → build s file ≡ refused refusal.number refusal.place
+  pub made : (z : Sizes) → r ≡ Ok z → Made s file z words numbers
 
 -- the tables of nodes and edges and the counts, written into `words` behind the rows
 abbrev pub tables_written : Sentinel → List ℕ → List ℕ → Sizes → ℕ → List ℕ → List ℕ

@@ -1,31 +1,23 @@
 // A programme in the work runs of a build: all rows with their makers, the tables of nodes and edges, the counts, the flow order.
 #![tactic(auto)]
 
-ghost use Rattle.std.specs.Prelude.{◌≡◌, ℕ, ◌<◌, ◌≤◌, length, get_or};
+ghost use Rattle.std.specs.Prelude.{◌≡◌, ℕ, [], ◌<◌, ◌≤◌, length, get_or};
 ghost use Rattle.layout.specs.Layout.{words_length};
 ghost use Rattle.network_edge.specs.Edge.{edge_place};
 ghost use Rattle.build_node_row.specs.EdgeColumns.{edge_columns_of};
-ghost use Rattle.build_node_row.specs.Tables.{network_of, EdgeTables, SetTables};
+ghost use Rattle.build_node_row.specs.Tables.{network_of, TablesHold, SetTables};
+ghost use Rattle.build_append.specs.LpBuilder.{RowsHeld, SameRuns};
 ghost use Rattle.build_write.specs.Lp.{Few};
 ghost use Rattle.pywr.specs.FlowOrder.{flow_order};
 ghost use Rattle.build_rows.specs.Assembled.{AfterAssemble, tables_written, shape_finished};
 ghost use Rattle.layout.specs.WorkRoom.{WorkRoom};
 
-use build_append::{Filled, RowsAdded};
-use build_node_table::NodeRowsAdded;
+use build_append::{Filled, LpBuilder};
+use build_exclusive_sets::{ExclusiveSets, Memberships};
+use build_node_row::EdgeTables;
 use build_write::Sizes;
-use layout::{
-    COLUMN_CEILING, EDGE_CEILING, MEMBERSHIP_CEILING, NODE_CEILING, SET_CEILING, SHAPE_MADE_AT,
-};
-use network_record::Counts;
-use pywr::{ColumnNumber, Sentinel};
-
-// The sizes of the assembled programme, or a refusal's number and place.
-#[derive(Clone, Copy)]
-pub enum Assembled {
-    Done(Sizes),
-    Refused(u8, usize),
-}
+use layout::{COLUMN_CEILING, EDGE_CEILING, SHAPE_MADE_AT};
+use pywr::{ColumnNumber, Refusal, Sentinel};
 
 // The tables of nodes and edges, and the counts.
 fn write_tables(
@@ -49,143 +41,97 @@ fn write_tables(
 
 // These, and the edges' numbers in flow order.
 fn finish_shape(
-    s: &[u8],
-    c: Counts,
-    first_in: &[u16; NODE_CEILING],
-    next_in: &[u16; EDGE_CEILING],
-    first_out: &[u16; NODE_CEILING],
-    next_out: &[u16; EDGE_CEILING],
-    edge_to_col: &[u16; EDGE_CEILING],
+    tables: &EdgeTables<'_>,
     sentinel: Sentinel,
     z: Sizes,
     varying: usize,
     words: &mut [u16],
 )
-    requires { EdgeTables s.now c first_in.now next_in.now first_out.now next_out.now edge_to_col.now
-        × Few z × (z.nodes ≡ c.nodes) × (z.edges ≡ c.edges) × (varying ≤ z.rows) × (words_length ≤ length words.old) }
-    ensures { words.new ≡ shape_finished sentinel s.now edge_to_col.now z varying (flow_order (network_of s.now c)) words.old }
+    requires { TablesHold tables.now
+        × Few z × (z.nodes ≡ tables.now.counts.nodes) × (z.edges ≡ tables.now.counts.edges) × (varying ≤ z.rows) × (words_length ≤ length words.old) }
+    ensures { words.new ≡ shape_finished sentinel tables.now.file.now tables.now.edge_to_col z varying (flow_order (network_of tables.now.file.now tables.now.counts)) words.old }
 {
-    write_tables(s, sentinel, edge_to_col, z, varying, words);
-    let nodes = c.nodes;
-    let edges = c.edges;
+    write_tables(
+        tables.file,
+        sentinel,
+        &tables.edge_to_col,
+        z,
+        varying,
+        words,
+    );
     build_flow_order::write_flow_order(
-        s,
-        nodes,
-        edges,
-        first_in,
-        next_in,
-        first_out,
-        next_out,
+        tables.file,
+        tables.counts.nodes,
+        tables.counts.edges,
+        &tables.incoming,
+        &tables.outgoing,
         &mut words[SHAPE_MADE_AT..],
     );
 }
 
-// All rows with their makers, then the tables of nodes and edges, the counts and the flow order.
+// All rows with their makers, added to a builder that has none, then the tables of nodes and edges, the counts and the flow order.
+fn add_all_rows(
+    tables: &EdgeTables<'_>,
+    sets: &ExclusiveSets,
+    memberships: &Memberships,
+    lp: &mut LpBuilder<'_>,
+) -> Result<Sizes, Refusal>
+    requires { TablesHold tables.now
+        × SetTables tables.now.file.now tables.now.counts sets.now.at sets.now.count memberships.now × (tables.now.edge_columns ≡ edge_columns_of tables.now.file.now tables.now.counts)
+        × WorkRoom lp.old.words.now lp.old.numbers.now × RowsHeld [] lp.old.words.now lp.old.numbers.now lp.old.filled }
+    ensures assembled { AfterAssemble lp.old.sentinel tables.now.file.now result lp.new.words.now lp.new.numbers.now }
+    ensures same { SameRuns lp.old lp.new }
+{
+    let node_rows = build_varying::add_varying_rows(tables, memberships, lp)?;
+    let varying = lp.filled.rows;
+    build_sharers::put_varying_makers(
+        &mut lp.words[SHAPE_MADE_AT..],
+        varying,
+        node_rows,
+        tables.counts.aggregates,
+        tables.counts.virtual_storages,
+    );
+    build_fixed::add_fixed_rows(tables, sets, memberships, lp)?;
+    let z = Sizes {
+        nodes: tables.counts.nodes,
+        edges: tables.counts.edges,
+        edge_columns: tables.edge_columns,
+        sets: sets.count,
+        rows: lp.filled.rows,
+        elements: lp.filled.elements,
+        node_rows,
+        aggregates: tables.counts.aggregates,
+        virtual_storages: tables.counts.virtual_storages,
+    };
+    finish_shape(tables, lp.sentinel, z, varying, lp.words);
+    Ok(z)
+}
+
+// The same in lent work runs.
 pub fn add_rows(
-    s: &[u8],
-    c: Counts,
-    first_in: &[u16; NODE_CEILING],
-    next_in: &[u16; EDGE_CEILING],
-    first_out: &[u16; NODE_CEILING],
-    next_out: &[u16; EDGE_CEILING],
-    edge_to_col: &[u16; EDGE_CEILING],
-    edge_columns: usize,
-    set_at: &[u16; SET_CEILING],
-    sets: usize,
-    first_membership: &[u16; NODE_CEILING],
-    next_membership: &[u16; MEMBERSHIP_CEILING],
+    tables: &EdgeTables<'_>,
+    sets: &ExclusiveSets,
+    memberships: &Memberships,
     sentinel: Sentinel,
     words: &mut [u16],
     numbers: &mut [f64],
-) -> Assembled
-    requires { EdgeTables s.now c first_in.now next_in.now first_out.now next_out.now edge_to_col.now
-        × SetTables s.now c set_at.now sets first_membership.now next_membership.now × (edge_columns ≡ edge_columns_of s.now c)
+) -> Result<Sizes, Refusal>
+    requires { TablesHold tables.now
+        × SetTables tables.now.file.now tables.now.counts sets.now.at sets.now.count memberships.now × (tables.now.edge_columns ≡ edge_columns_of tables.now.file.now tables.now.counts)
         × WorkRoom words.old numbers.old }
-    ensures { AfterAssemble sentinel s.now result words.new numbers.new }
+    ensures { AfterAssemble sentinel tables.now.file.now result words.new numbers.new }
 {
-    let mut columns: [ColumnNumber; COLUMN_CEILING] = [0; COLUMN_CEILING];
     build_append::start_rows(words);
-    let v = build_varying::add_varying_rows(
-        s,
-        c,
-        first_in,
-        next_in,
-        first_out,
-        next_out,
-        edge_to_col,
-        edge_columns,
-        first_membership,
-        next_membership,
-        sentinel,
+    let columns: [ColumnNumber; COLUMN_CEILING] = [0; COLUMN_CEILING];
+    let mut lp = LpBuilder {
         words,
         numbers,
-        &mut columns,
-        Filled {
+        columns,
+        filled: Filled {
             rows: 0,
             elements: 0,
         },
-    );
-    match v {
-        NodeRowsAdded::Full => Assembled::Refused(11, 0),
-        NodeRowsAdded::Done(n) => {
-            let count = n.count;
-            let filled = n.filled;
-            build_sharers::put_varying_makers(
-                &mut words[SHAPE_MADE_AT..],
-                filled.rows,
-                count,
-                c.aggregates,
-                c.virtual_storages,
-            );
-            let f = build_fixed::add_fixed_rows(
-                s,
-                c,
-                first_in,
-                next_in,
-                first_out,
-                next_out,
-                edge_to_col,
-                edge_columns,
-                set_at,
-                sets,
-                first_membership,
-                next_membership,
-                sentinel,
-                words,
-                numbers,
-                &mut columns,
-                filled,
-            );
-            match f {
-                RowsAdded::Full => Assembled::Refused(11, 0),
-                RowsAdded::Done(g) => {
-                    let z = Sizes {
-                        nodes: c.nodes,
-                        edges: c.edges,
-                        edge_columns: edge_columns,
-                        sets: sets,
-                        rows: g.rows,
-                        elements: g.elements,
-                        node_rows: count,
-                        aggregates: c.aggregates,
-                        virtual_storages: c.virtual_storages,
-                    };
-                    finish_shape(
-                        s,
-                        c,
-                        first_in,
-                        next_in,
-                        first_out,
-                        next_out,
-                        edge_to_col,
-                        sentinel,
-                        z,
-                        filled.rows,
-                        words,
-                    );
-                    Assembled::Done(z)
-                }
-            }
-        }
-    }
+        sentinel,
+    };
+    add_all_rows(tables, sets, memberships, &mut lp)
 }

@@ -8,146 +8,79 @@ ghost use Rattle.pywr.specs.Rows.{column_map, add_element, add_node};
 ghost use Rattle.pywr.specs.FixedRows.{exclusive_rows};
 ghost use Rattle.pywr.specs.Programme.{Row};
 ghost use Rattle.network_node.specs.Node.{node_at, node_place};
-ghost use Rattle.build_append.specs.LpBuilder.{RowsHeld, Holding, AfterRows};
-ghost use Rattle.build_node_row.specs.Tables.{network_of, EdgeTables};
+ghost use Rattle.build_append.specs.LpBuilder.{RowsHeld, Holding, AfterRows, filled_then, SameRuns};
+ghost use Rattle.build_node_row.specs.Tables.{network_of, TablesHold};
 ghost use Rattle.build_node_row.specs.EdgeColumns.{edge_columns_of};
 ghost use Rattle.layout.specs.WorkRoom.{WorkRoom};
 
-use build_append::{Filled, RowsAdded};
+use build_append::LpBuilder;
+use build_exclusive_sets::ProgrammeFull;
+use build_node_row::EdgeTables;
 use extremes::{greater, lesser};
-use layout::{COLUMN_CEILING, EDGE_CEILING, ELEMENTS_MADE_AT, NODE_CEILING};
-use network_record::Counts;
-use pywr::{ColumnIndex, ColumnNumber, Interval, NodeIndex, Sentinel};
+use layout::ELEMENTS_MADE_AT;
+use pywr::{ColumnIndex, Interval, NodeIndex};
 
 // A node's row with a coefficient on a set's column becomes the last row: its bounds are 0 and the high sentinel.
 fn add_bounded_row(
-    s: &[u8],
-    c: Counts,
-    first_in: &[u16; NODE_CEILING],
-    next_in: &[u16; EDGE_CEILING],
-    first_out: &[u16; NODE_CEILING],
-    next_out: &[u16; EDGE_CEILING],
-    edge_to_col: &[u16; EDGE_CEILING],
+    tables: &EdgeTables<'_>,
     node: NodeIndex,
     factor: f64,
     column: ColumnIndex,
     coefficient: f64,
-    sentinel: Sentinel,
-    words: &mut [u16],
-    numbers: &mut [f64],
-    columns: &mut [ColumnNumber; COLUMN_CEILING],
-    f: Filled,
-) -> RowsAdded
-    requires { EdgeTables s.now c first_in.now next_in.now first_out.now next_out.now edge_to_col.now × (node.0 < c.nodes) × (column.0 < column_ceiling)
-        × WorkRoom words.old numbers.old × Holding words.old numbers.old f }
-    ensures { (rows : List Row) → RowsHeld rows words.old numbers.old f
+    lp: &mut LpBuilder<'_>,
+) -> Result<(), ProgrammeFull>
+    requires { TablesHold tables.now × (node.0 < tables.now.counts.nodes) × (column.0 < column_ceiling)
+        × WorkRoom lp.old.words.now lp.old.numbers.now × Holding lp.old.words.now lp.old.numbers.now lp.old.filled }
+    ensures rows { (rows : List Row) → RowsHeld rows lp.old.words.now lp.old.numbers.now lp.old.filled
         → AfterRows (rows ++ (record {
           lower = zero64;
-          upper = high sentinel;
+          upper = high lp.old.sentinel;
           elements = add_element column.0 coefficient
-              (add_node (column_map (network_of s.now c)) node.0 factor []);
+              (add_node (column_map (network_of tables.now.file.now tables.now.counts)) node.0 factor []);
         } ∷ []))
-        words.old result words.new numbers.new }
+        lp.old.words.now (filled_then result lp.new.filled) lp.new.words.now lp.new.numbers.now }
+    ensures same { SameRuns lp.old lp.new }
 {
-    let at = ELEMENTS_MADE_AT + f.elements;
+    let at = ELEMENTS_MADE_AT + lp.filled.elements;
     let n = build_node_row::bounded_row(
-        s,
-        c,
-        first_in,
-        next_in,
-        first_out,
-        next_out,
-        edge_to_col,
+        tables,
         node,
         factor,
         column,
         coefficient,
-        columns,
-        &mut numbers[at..],
+        &mut lp.columns,
+        &mut lp.numbers[at..],
     );
-    build_append::add_fixed_row(
-        words,
-        numbers,
-        columns,
-        n,
-        f,
-        Interval {
-            lower: 0.0,
-            upper: sentinel.high(),
-        },
-    )
+    let bounds = Interval {
+        lower: 0.0,
+        upper: lp.sentinel.high(),
+    };
+    lp.add_fixed_row(n, bounds)
 }
 
 // The rows of a constant node in one exclusive set: the upper row, and unless its min is 0 the lower row.
 pub fn add_bounded_rows(
-    s: &[u8],
-    c: Counts,
-    first_in: &[u16; NODE_CEILING],
-    next_in: &[u16; EDGE_CEILING],
-    first_out: &[u16; NODE_CEILING],
-    next_out: &[u16; EDGE_CEILING],
-    edge_to_col: &[u16; EDGE_CEILING],
-    edge_columns: usize,
+    tables: &EdgeTables<'_>,
     node: NodeIndex,
     set: usize,
-    sentinel: Sentinel,
-    words: &mut [u16],
-    numbers: &mut [f64],
-    columns: &mut [ColumnNumber; COLUMN_CEILING],
-    f: Filled,
-) -> RowsAdded
-    requires { EdgeTables s.now c first_in.now next_in.now first_out.now next_out.now edge_to_col.now × (node.0 < c.nodes)
-        × (edge_columns ≡ edge_columns_of s.now c) × (set < set_ceiling)
-        × WorkRoom words.old numbers.old × Holding words.old numbers.old f }
-    ensures { (rows : List Row) → RowsHeld rows words.old numbers.old f
-        → AfterRows (rows ++ exclusive_rows sentinel (column_map (network_of s.now c)) node.0 (node_at s.now (node_place node.0)) (set ∷ []))
-        words.old result words.new numbers.new }
+    lp: &mut LpBuilder<'_>,
+) -> Result<(), ProgrammeFull>
+    requires { TablesHold tables.now × (node.0 < tables.now.counts.nodes)
+        × (tables.now.edge_columns ≡ edge_columns_of tables.now.file.now tables.now.counts) × (set < set_ceiling)
+        × WorkRoom lp.old.words.now lp.old.numbers.now × Holding lp.old.words.now lp.old.numbers.now lp.old.filled }
+    ensures rows { (rows : List Row) → RowsHeld rows lp.old.words.now lp.old.numbers.now lp.old.filled
+        → AfterRows (rows ++ exclusive_rows lp.old.sentinel (column_map (network_of tables.now.file.now tables.now.counts)) node.0 (node_at tables.now.file.now (node_place node.0)) (set ∷ []))
+        lp.old.words.now (filled_then result lp.new.filled) lp.new.words.now lp.new.numbers.now }
+    ensures same { SameRuns lp.old lp.new }
 {
-    let min = network_node::min(s, node);
-    let max = network_node::max(s, node);
-    let column = ColumnIndex(widths::narrow16(edge_columns + set));
-    let r = add_bounded_row(
-        s,
-        c,
-        first_in,
-        next_in,
-        first_out,
-        next_out,
-        edge_to_col,
-        node,
-        -1.0,
-        column,
-        lesser(max, 1e6),
-        sentinel,
-        words,
-        numbers,
-        columns,
-        f,
-    );
-    match r {
-        RowsAdded::Full => RowsAdded::Full,
-        RowsAdded::Done(filled) => {
-            if min == 0.0 {
-                return RowsAdded::Done(filled);
-            }
-            add_bounded_row(
-                s,
-                c,
-                first_in,
-                next_in,
-                first_out,
-                next_out,
-                edge_to_col,
-                node,
-                1.0,
-                column,
-                -greater(min, 1e-6),
-                sentinel,
-                words,
-                numbers,
-                columns,
-                filled,
-            )
-        }
+    let min = network_node::min(tables.file, node);
+    let max = network_node::max(tables.file, node);
+    let column = ColumnIndex((tables.edge_columns + set) as u16);
+    let upper = lesser(max, 1e6);
+    add_bounded_row(tables, node, -1.0, column, upper, lp)?;
+    if min == 0.0 {
+        return Ok(());
     }
+    let lower = -greater(min, 1e-6);
+    add_bounded_row(tables, node, 1.0, column, lower, lp)
 }

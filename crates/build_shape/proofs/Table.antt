@@ -1,11 +1,12 @@
 -- Tables of entries of two and of three words, one entry more. Assumes nothing.
-use Prim.Native.Nat.{ℕ, zero, suc, ◌+◌, ◌*◌, ◌-◌, ◌<◌, ◌≤◌}
+use Prim.Native.Nat.{ℕ, zero, suc, ◌+◌, ◌*◌, ◌<◌, ◌≤◌}
 use mathlib.Core.Path.{◌≡◌, refl, sym, ◌∙◌, ap}
 use mathlib.Core.List.{List, [], ◌∷◌, ◌++◌, map, flat_map, append_assoc}
 use mathlib.Core.Bool.{Bool, true, false}
 use native.Mathlib.Numerals.{add-one}
-use native.Mathlib.Nat.{add-zero, add-suc, suc-add, zero-add}
+use native.Mathlib.Nat.{add-zero, zero-add}
 use native.Mathlib.Omega.{arith}
+use mir.Val.{bool_byte}
 use lib.ListN.{length, get_or, set, length-append, length-set}
 use lib.Seq.{sets}
 use Rattle.layout.specs.Layout.{edges_at, nodes_at}
@@ -13,7 +14,6 @@ use Rattle.laws.proofs.Sets.{sets_snoc}
 use Rattle.laws.proofs.Runs.{map_snoc, flat_snoc}
 use Rattle.pywr.specs.Network.{Node}
 use Rattle.pywr.specs.ColEdgeMap.{MappedEdge}
-use Rattle.pywr.specs.Programme.{NodeShape}
 use Rattle.pywr.specs.Build.{node_shape}
 use Rattle.pywr.specs.Written.{flag_word, node_words, edge_words}
 use Rattle.fields.specs.Records.{records_at, records_end}
@@ -89,13 +89,11 @@ pub nodes_all : (file shape₀ : List ℕ) (nodes : ℕ) (shape : List ℕ) (i :
 unfolding node_table flat_map
 nodes_all file shape₀ nodes shape i h w = let e : i ≡ nodes = omega (arith, w.few) in w.run ∙ ap (λ (k : ℕ). sets shape₀ nodes_at (node_table file k)) e
 
-pub flag_yes : (b : Bool) → b ≡ true → 1 ≡ flag_word b
+-- a flag's word is that of the bool
+pub flag_is : (b : Bool) → bool_byte b ≡ flag_word b
 unfolding flag_word
-flag_yes b e = rw e
-
-pub flag_no : (b : Bool) → b ≡ false → 0 ≡ flag_word b
-unfolding flag_word
-flag_no b e = rw e
+flag_is true = refl
+flag_is false = refl
 
 pub nodes_length : (file : List ℕ) (n : ℕ) → length (flat_map node_words (map node_shape (node_records file n))) ≡ 2 * n
 unfolding node_table

@@ -27,17 +27,11 @@ pub fn write_nodes(s: &[u8], nodes: usize, shape: &mut [u16])
     requires { (nodes ≤ node_ceiling) × (node_place nodes ≤ length s.now) × (shape_length ≤ length shape.old) }
     ensures { shape.new ≡ sets shape.old nodes_at (flat_map node_words (map node_shape (node_records s.now nodes))) }
 {
-    let mut i: usize = 0;
-    while i < nodes {
-        let n = NodeIndex(widths::narrow16(i));
-        shape[NODES_AT + NODE_WIDTH * i] = widths::byte_to_u16(network_node::kind(s, n));
-        if network_node::is_constant(s, n) {
-            shape[NODES_AT + NODE_WIDTH * i + NODE_FLAG] = 1;
-            i += 1;
-        } else {
-            shape[NODES_AT + NODE_WIDTH * i + NODE_FLAG] = 0;
-            i += 1;
-        }
+    for i in 0..nodes {
+        let n = NodeIndex(i as u16);
+        let at = NODES_AT + NODE_WIDTH * i;
+        shape[at] = u16::from(network_node::kind_byte(s, n));
+        shape[at + NODE_FLAG] = u16::from(network_node::is_constant(s, n));
     }
 }
 
@@ -53,15 +47,12 @@ pub fn write_edges(
         × ((e : ℕ) → e < edges → 1 ≤ get_or edge_to_col.now e 0) }
     ensures { shape.new ≡ sets shape.old edges_at (flat_map edge_words (edge_entries s.now edge_to_col.now nodes edges)) }
 {
-    let mut i: usize = 0;
-    while i < edges {
-        let e = EdgeIndex(widths::narrow16(i));
-        let from = network_edge::from_node_index(s, nodes, e);
-        let to = network_edge::to_node_index(s, nodes, e);
-        shape[EDGES_AT + EDGE_WIDTH * i] = from.0;
-        shape[EDGES_AT + EDGE_WIDTH * i + EDGE_TO] = to.0;
-        shape[EDGES_AT + EDGE_WIDTH * i + MAPPED_COLUMN] = edge_to_col[i] - 1;
-        i += 1;
+    for i in 0..edges {
+        let e = EdgeIndex(i as u16);
+        let at = EDGES_AT + EDGE_WIDTH * i;
+        shape[at] = network_edge::from_node_index(s, nodes, e).0;
+        shape[at + EDGE_TO] = network_edge::to_node_index(s, nodes, e).0;
+        shape[at + MAPPED_COLUMN] = edge_to_col[i] - 1;
     }
 }
 
@@ -80,14 +71,14 @@ pub fn write_counts(shape: &mut [u16], sentinel: Sentinel, z: Sizes, varying: us
     ensures { shape.new ≡ sets shape.old sentinel_at (counts sentinel z varying) }
 {
     shape[SENTINEL_AT] = sentinel_word(sentinel);
-    shape[NODE_COUNT_AT] = widths::narrow16(z.nodes);
-    shape[EDGE_COUNT_AT] = widths::narrow16(z.edges);
-    shape[EDGE_COLUMN_COUNT_AT] = widths::narrow16(z.edge_columns);
-    shape[SET_COUNT_AT] = widths::narrow16(z.sets);
-    shape[VARYING_COUNT_AT] = widths::narrow16(varying);
-    shape[FIXED_COUNT_AT] = widths::narrow16(z.rows - varying);
-    shape[ELEMENT_COUNT_AT] = widths::narrow16(z.elements);
-    shape[NODE_ROW_COUNT_AT] = widths::narrow16(z.node_rows);
-    shape[AGGREGATE_COUNT_AT] = widths::narrow16(z.aggregates);
-    shape[VIRTUAL_STORAGE_COUNT_AT] = widths::narrow16(z.virtual_storages);
+    shape[NODE_COUNT_AT] = z.nodes as u16;
+    shape[EDGE_COUNT_AT] = z.edges as u16;
+    shape[EDGE_COLUMN_COUNT_AT] = z.edge_columns as u16;
+    shape[SET_COUNT_AT] = z.sets as u16;
+    shape[VARYING_COUNT_AT] = varying as u16;
+    shape[FIXED_COUNT_AT] = (z.rows - varying) as u16;
+    shape[ELEMENT_COUNT_AT] = z.elements as u16;
+    shape[NODE_ROW_COUNT_AT] = z.node_rows as u16;
+    shape[AGGREGATE_COUNT_AT] = z.aggregates as u16;
+    shape[VIRTUAL_STORAGE_COUNT_AT] = z.virtual_storages as u16;
 }

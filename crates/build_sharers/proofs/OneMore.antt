@@ -1,18 +1,22 @@
 -- A row's maker when one more has asked for a row. Assumes nothing.
-use mathlib.Core.Path.{◌≡◌, refl, ap, ◌∙◌}
+use mathlib.Core.Path.{◌≡◌, refl, sym, ap, ◌∙◌}
 use mathlib.Core.Logic.{◌≢◌}
 use Prim.Native.Nat.{ℕ, suc, ◌+◌, ◌≤◌}
 use native.Mathlib.Omega.{arith}
 use mathlib.Core.Bool.{Bool, true, false}
 use mathlib.Core.List.{List, [], ◌∷◌, ◌++◌, append-nil}
-use lib.ListN.{length, length-append}
+use lib.ListN.{length, set, length-append}
+use Rattle.std.proofs.lemmas.List.{set-get_or}
+use lib.Seq.{sets}
 use lib.Dec.{eqb}
 use borrow.Author.Tests.{eq-eqb, ne_eqb}
+use Rattle.layout.specs.Layout.{maker_kind, maker_index, maker_shared_by}
 use Rattle.pywr.specs.Network.{keep_if}
 use Rattle.pywr.specs.Programme.{Maker}
 use Rattle.pywr.specs.Makers.{Asker, sharers_of, first_of, maker_of}
 use Rattle.pywr.specs.Written.{maker_words}
 use Rattle.pywr.proofs.AskerLaws.{first_count}
+use Rattle.build_makers.proofs.Entries.{three_words}
 use Rattle.build_sharers.specs.Sharers.{one_more}
 
 sharers_more : (r : ℕ) (all : List Asker) (a : Asker) → sharers_of r (all ++ (a ∷ [])) ≡ sharers_of r all ++ keep_if (eqb a.row r) a []
@@ -64,3 +68,13 @@ module _ (kind index : ℕ) (m : Maker) where
   pub later_words : m.shared_by ≢ 0 → maker_words (one_more kind index m) ≡ m.kind ∷ m.index ∷ (m.shared_by + 1) ∷ []
   unfolding maker_words one_more
   later_words h = rw (ne_eqb m.shared_by 0 h)
+
+-- one is counted in the table: the kind and the index stay
+pub counted_words : (kind index : ℕ) (shape : List ℕ) (at : ℕ) → let m : Maker = record { kind = maker_kind shape at; index = maker_index shape at; shared_by = maker_shared_by shape at } in
+    m.shared_by ≢ 0 → set shape (at + 2) (m.shared_by + 1) ≡ sets shape at (maker_words (one_more kind index m))
+counted_words kind index shape at h =
+    let m : Maker = record { kind = maker_kind shape at; index = maker_index shape at; shared_by = maker_shared_by shape at } in
+    let kept : set (set shape at m.kind) (at + 1) m.index ≡ shape = rw (set-get_or shape at 0, set-get_or shape (at + 1) 0) in
+    ap (λ (l : List ℕ). set l (at + 2) (m.shared_by + 1)) (sym kept)
+    ∙ three_words shape at m.kind m.index (m.shared_by + 1)
+    ∙ ap (sets shape at) (sym (later_words kind index m h))

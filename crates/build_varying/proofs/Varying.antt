@@ -1,8 +1,9 @@
 -- The varying rows of a network's programme, from the three passes over nodes, aggregates and virtual storages. Assumes nothing.
 use mathlib.Core.Path.{◌≡◌, refl, sym, ◌∙◌, ap, subst}
-use Prim.Native.Nat.{ℕ, ◌+◌, ◌*◌, ◌-◌, ◌<◌, ◌≤◌}
-use mathlib.Core.List.{List, [], ◌∷◌, ◌++◌, map, flat_map}
-use mathlib.Core.Bool.{Bool, false}
+use Prim.Native.Nat.{ℕ, ◌+◌, ◌*◌, ◌-◌, ◌≤◌}
+use Rattle.std.specs.Prelude.{Result, Ok, Err}
+use mathlib.Core.List.{List, [], map, map-append, flat_map}
+use mathlib.Core.Bool.{false}
 use native.Mathlib.Omega.{arith}
 use lib.ListN.{length, take, drop, length-drop, length-map}
 use lib.Seq.{take-add, drop_at, length-take-le, take-take, drop-drop}
@@ -14,24 +15,24 @@ use Rattle.pywr.specs.Network.{Network}
 use Rattle.pywr.specs.Rows.{Element, column_map, aggregate_row, virtual_storage_row}
 use Rattle.pywr.specs.VariableRows.{add_variable_rows}
 use Rattle.pywr.specs.VaryingRows.{RowRequest, requests_from, fresh_row}
-use Rattle.pywr.specs.Build.{requested_row, placed_node_rows, placed_virtual_storages, assemble, programme_of}
-use Rattle.pywr.specs.Written.{node_row_words, virtual_storage_words}
+use Rattle.pywr.specs.Build.{requested_row, placed_virtual_storages, assemble, programme_of}
+use Rattle.pywr.specs.Written.{virtual_storage_words}
 use Rattle.build_append.specs.declared.Filled.{Filled}
-use Rattle.build_append.specs.declared.RowsAdded.{RowsAdded}
-use Rattle.build_append.specs.declared.RowsAdded.TheVariants.{Done, Full}
-use Rattle.build_append.specs.LpBuilder.{RowsHeld, within_ceilings}
+use Rattle.build_exclusive_sets.specs.declared.ProgrammeFull.{ProgrammeFull}
+use Rattle.build_append.specs.LpBuilder.{within_ceilings}
 use Rattle.build_append.proofs.RowsHeldLaws.{over_more}
 use Rattle.pywr.specs.ExclusiveSets.{exclusive_sets}
 use Rattle.pywr.proofs.CountLaws.{requests_few}
 use Rattle.pywr.proofs.ReadLaws.{read_sound}
 use Rattle.build_exclusive_sets.specs.Sets.{sets_at}
 use Rattle.network_record.specs.declared.Counts.{Counts}
-use Rattle.build_node_row.specs.Tables.{network_of, EdgeTables, MembershipTables}
+use Rattle.build_node_row.specs.declared.EdgeTables.{EdgeTables}
+use Rattle.build_node_row.specs.Tables.{network_of, TablesOf, MembershipTables}
 use Rattle.build_join.specs.JoinedRows.{joined, HoldingVarying, AfterVariableRows}
 use Rattle.build_join.proofs.JoinedLaws.{longer}
-use Rattle.build_node_table.specs.declared.NodeRows.{NodeRows}
-use Rattle.build_node_table.specs.declared.NodeRowsAdded.{NodeRowsAdded}
-use Rattle.build_node_table.specs.NodeTable.{NodeRowsHeld, AfterRequests}
+use Rattle.build_node_table.specs.NodeTable.{NodeRows}
+use Rattle.build_exclusive_sets.specs.declared.Memberships.{Memberships}
+use Rattle.build_node_table.specs.NodeTable.{NodeRowsHeld}
 use Rattle.build_varying.specs.VaryingLaid.{VaryingLaid, AfterVarying}
 
 -- a part that lies inside a part that stayed
@@ -48,10 +49,6 @@ inside {A} l l' b m a n h k long long' e = of l' long' ∙ ap (λ (x : List A). 
         let there : drop (a - b) (take m y) ≡ take r (drop (a - b) y) =
         ap (λ (j : ℕ). drop (a - b) (take j y)) em ∙ ap (drop (a - b)) (take-add (a - b) r y) ∙ drop_at (take (a - b) y) (take r (drop (a - b) y)) (a - b) (length-take-le (a - b) y ly) in
         sym (ap (take n) there ∙ take-take n r (drop (a - b) y) (omega arith) ∙ ap (take n) (drop-drop (a - b) b x) ∙ ap (λ (j : ℕ). take n (drop j x)) ab)
-
-map-append : {A B : Type 0} (f : A → B) (xs ys : List A) → map f (xs ++ ys) ≡ map f xs ++ map f ys
-map-append f [] ys = refl
-map-append {B} f (x ∷ xs) ys = ap (λ (l : List B). f x ∷ l) (map-append f xs ys)
 
 -- rows over the ceilings stay over them as more are asked for
 over_joined : (s : Sentinel) (rows asked : List (List Element)) → within_ceilings (map (fresh_row s) rows) ≡ false → within_ceilings (map (fresh_row s) (joined asked rows).rows) ≡ false
@@ -91,27 +88,27 @@ module _ (s : Sentinel) (net : Network) where
   virtual_storages_full e = ap within_ceilings varying_is ∙ e
 
   -- an answer of one case is not the other
-  pub full_only : (words : List ℕ) (numbers : List Float) → within_ceilings (programme_of s net).programme.varying ≡ false → AfterVarying s net NodeRowsAdded.Full words numbers
-  full_only words numbers e = record { done = λ n q. absurd (let z : ◌≡◌ {A = ℕ} 0 1 = cc in omega arith); full = λ q. e }
+  pub full_only : (words : List ℕ) (numbers : List Float) → within_ceilings (programme_of s net).programme.varying ≡ false → (full : ProgrammeFull) → AfterVarying s net (Err full) words numbers
+  full_only words numbers e full = record { done = λ n q. absurd (cc); full = λ full q. e }
 
   -- what each pass leaves for the next one
   pub nodes_holding : (n : NodeRows) (words : List ℕ) (numbers : List Float) → NodeRowsHeld s asks words numbers n → HoldingVarying s words numbers n.filled
   nodes_holding n words numbers h = record { rows = rows₁; held = h.held }
 
-  module _ (size : ℕ) (words words₁ : List ℕ) (numbers₁ : List Float) (r : RowsAdded) where
-    pub aggregates_holding : AfterVariableRows s rows₁ for_aggregates aggregates_made_at size (λ places. places) words r words₁ numbers₁ → (g : Filled) → r ≡ Done g → HoldingVarying s words₁ numbers₁ g
+  module _ (size : ℕ) (words words₁ : List ℕ) (numbers₁ : List Float) (r : Result Filled ProgrammeFull) where
+    pub aggregates_holding : AfterVariableRows s rows₁ for_aggregates aggregates_made_at size (λ places. places) words r words₁ numbers₁ → (g : Filled) → r ≡ Ok g → HoldingVarying s words₁ numbers₁ g
     aggregates_holding a g e = record { rows = rows₂; held = a.held g e }
 
   module _ (aggregates virtual_storages : ℕ) (ca : aggregates ≡ length net.aggregates) (cs : virtual_storages ≡ length net.virtual_storages) where
-    pub all_laid : (n : NodeRows) (g f : Filled) (ra rv : RowsAdded) (words₁ words₂ words₃ : List ℕ) (numbers₁ numbers₂ numbers₃ : List Float)
+    pub all_laid : (n : NodeRows) (g f : Filled) (ra rv : Result Filled ProgrammeFull) (words₁ words₂ words₃ : List ℕ) (numbers₁ numbers₂ numbers₃ : List Float)
         → 4 * n.count ≤ 17408 → words_length ≤ length words₁ → words_length ≤ length words₂ → words_length ≤ length words₃ → aggregates ≤ 64
         → NodeRowsHeld s asks words₁ numbers₁ n
         → AfterVariableRows s rows₁ for_aggregates aggregates_made_at aggregates (λ places. places) words₁ ra words₂ numbers₂
-        → ra ≡ Done g
+        → ra ≡ Ok g
         → AfterVariableRows s rows₂ for_virtual_storages virtual_storages_made_at (6 * virtual_storages)
         (λ places. flat_map virtual_storage_words (placed_virtual_storages net.virtual_storages places)) words₂ rv words₃ numbers₃
-        → rv ≡ Done f
-        → AfterVarying s net (NodeRowsAdded.Done (record { filled = f; count = n.count })) words₃ numbers₃
+        → rv ≡ Ok f
+        → AfterVarying s net (Ok (record { filled = f; count = n.count })) words₃ numbers₃
     unfolding programme_of assemble
     all_laid n g f ra rv words₁ words₂ words₃ numbers₁ numbers₂ numbers₃ few l₁ l₂ l₃ fa h a ea v ev =
         let node-table : part node_rows_made_at (4 * n.count) words₃ ≡ part node_rows_made_at (4 * n.count) words₁ =
@@ -129,18 +126,18 @@ module _ (s : Sentinel) (net : Network) where
         } in
         record {
           done = λ m q. let e : record { filled = f; count = n.count } ≡ m = cc in subst (λ (x : NodeRows). VaryingLaid s net x words₃ numbers₃) e laid;
-          full = λ q. absurd (let z : ◌≡◌ {A = ℕ} 0 1 = cc in omega arith);
+          full = λ full q. absurd (cc);
         }
 
 -- at most 128 exclusive sets
-pub sets_few : (file : List ℕ) (c : Counts) (first_membership next_membership : List ℕ) → MembershipTables file c first_membership next_membership → length (exclusive_sets (network_of file c)) ≤ 128
-sets_few file c first_membership next_membership l =
+pub sets_few : (file : List ℕ) (c : Counts) (memberships : Memberships) → MembershipTables file c memberships → length (exclusive_sets (network_of file c)) ≤ 128
+sets_few file c memberships l =
     let long : length (sets_at file l.aggregate_set_at l.sets) ≡ length (take l.sets l.aggregate_set_at) = simp length-map in
     omega (arith, long, ap (λ (x : List (List ℕ)). length x) l.tables.held, length-take-le l.sets l.aggregate_set_at (omega (arith, l.tables.fit.long, l.tables.fit.few)), l.tables.fit.few)
 
 -- the nodes of an accepted network ask for at most 4,352 rows
-pub asks_few : (file : List ℕ) (c : Counts) (first_in next_in first_out next_out edge_to_col first_membership next_membership : List ℕ)
-    → EdgeTables file c first_in next_in first_out next_out edge_to_col → MembershipTables file c first_membership next_membership
+pub asks_few : (file : List ℕ) (c : Counts) (tables : EdgeTables) (memberships : Memberships)
+    → TablesOf file c tables → MembershipTables file c memberships
     → length (requests_from (column_map (network_of file c)) 0 (network_of file c).nodes) ≤ node_row_ceiling
-asks_few file c first_in next_in first_out next_out edge_to_col first_membership next_membership t l =
-    requests_few (network_of file c) (read_sound file (network_of file c) t.parsed).good (sets_few file c first_membership next_membership l)
+asks_few file c tables memberships t l =
+    requests_few (network_of file c) (read_sound file (network_of file c) t.parsed).good (sets_few file c memberships l)

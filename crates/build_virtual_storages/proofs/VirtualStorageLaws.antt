@@ -2,7 +2,9 @@
 use mathlib.Core.Path.{◌≡◌, refl, sym, ap, ap₂, ◌∙◌}
 use Prim.Native.Nat.{ℕ, suc, ◌+◌, ◌*◌, ◌<◌, ◌≤◌}
 use native.Mathlib.Omega.{arith}
-use mathlib.Core.Bool.{not}
+use mathlib.Core.Bool.{Bool, true, false, not}
+use mir.Val.{bool_byte}
+use Rattle.std.specs.Prelude.{Result, Ok}
 use mathlib.Core.List.{List, [], ◌∷◌, ◌++◌, flat_map}
 use lib.ListN.{length, get_or, set, length-map}
 use lib.Seq.{sets}
@@ -17,7 +19,7 @@ use Rattle.pywr.specs.Build.{placed_virtual_storages}
 use Rattle.pywr.specs.Written.{flag_word, virtual_storage_words}
 use Rattle.pywr.proofs.ListLaws.{found_get, found_map}
 use Rattle.fields.specs.Records.{records_at, records_end}
-use Rattle.fields.specs.declared.Checked.{Checked}
+use Rattle.pywr.specs.declared.Refusal.{Refusal}
 use Rattle.fields.proofs.RecordLaws.{end_more}
 use Rattle.network_virtual_storage.specs.VirtualStorage.{part_at, period_at, virtual_storage_at, virtual_storage_end, check_virtual_storage}
 use Rattle.network_laws.specs.Sections.{Sections}
@@ -74,7 +76,7 @@ module _ (file : List ℕ) (c : Counts) (at : ℕ) where
 
 -- ---- a virtual storage that passed
 
-module _ (file : List ℕ) (nodes at : ℕ) (passed : check_virtual_storage file nodes at ≡ Checked.Next (virtual_storage_end file at)) where
+module _ (file : List ℕ) (nodes at : ℕ) (passed : check_virtual_storage file nodes at ≡ Ok (virtual_storage_end file at)) where
   told : VirtualStoragePassed file nodes at
   told = virtual_storage_passed file nodes at (virtual_storage_end file at) passed
 
@@ -88,6 +90,12 @@ module _ (file : List ℕ) (nodes at : ℕ) (passed : check_virtual_storage file
   part_told = told.parts
 
 -- ---- an entry of the table
+
+-- a flag's word is that of the bool
+pub flag_is : (b : Bool) → bool_byte b ≡ flag_word b
+unfolding flag_word
+flag_is true = refl
+flag_is false = refl
 
 pub entry_written : (words : List ℕ) (at row flag start_month start_day end_month end_day : ℕ) (p : Period) → flag ≡ flag_word (not p.always)
     → start_month ≡ p.start_month → start_day ≡ p.start_day → end_month ≡ p.end_month → end_day ≡ p.end_day
@@ -135,8 +143,8 @@ module _ (file : List ℕ) (c : Counts) (sections : Sections file c.nodes c.edge
   table_none = ap (flat_map virtual_storage_words) (placed_none virtual_storages)
 
   module _ (i at : ℕ) (lt : i < c.virtual_storages) (e : at ≡ records_end (virtual_storage_end file) i c.virtual_storages_at) where
-    pub virtual_storage_check : check_virtual_storage file c.nodes at ≡ Checked.Next (virtual_storage_end file at)
-    virtual_storage_check = rw e (sections.virtual_storages_pass i lt ∙ ap (λ (x : ℕ). Checked.Next x) (end_more (virtual_storage_end file) i c.virtual_storages_at))
+    pub virtual_storage_check : check_virtual_storage file c.nodes at ≡ Ok (virtual_storage_end file at)
+    virtual_storage_check = rw e (sections.virtual_storages_pass i lt ∙ ap {B = Result ℕ Refusal} (λ (x : ℕ). Ok x) (end_more (virtual_storage_end file) i c.virtual_storages_at))
 
     pub virtual_storage_next : (next : ℕ) → next ≡ virtual_storage_end file at → next ≡ records_end (virtual_storage_end file) (i + 1) c.virtual_storages_at
     virtual_storage_next next q = q ∙ ap (virtual_storage_end file) e ∙ sym (end_more (virtual_storage_end file) i c.virtual_storages_at)

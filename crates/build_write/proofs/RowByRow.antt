@@ -1,11 +1,11 @@
 -- The elements written row by row, each row's into the tail of the run from its start on. Assumes nothing.
-use mathlib.Core.Path.{◌≡◌, refl, sym, ◌∙◌, ap}
+use mathlib.Core.Path.{◌≡◌, sym, ◌∙◌, ap}
 use Prim.Native.Nat.{ℕ, suc, zero, ◌+◌, ◌-◌, ◌<◌, ◌≤◌}
 use native.Mathlib.Nat.{add-zero}
 use native.Mathlib.Omega.{arith}
 use mathlib.Core.List.{List, ◌++◌}
 use lib.ListN.{length, get_or, take, drop}
-use lib.Seq.{sets, take_all, take-add, drop-drop}
+use lib.Seq.{sets, take-add, drop-drop}
 use lib.Ieee.{Float}
 use borrow.Rule.Slice.PartMut.{mid_of, put_mid, mid_len, same_len_mid}
 use Rattle.layout.specs.Layout.{numbers_length}
@@ -17,10 +17,6 @@ use Rattle.build_write.specs.Lp.{Few, RowStarts}
 use Rattle.build_write.proofs.Filled.{sets_append}
 
 module _ {A : Type 0} where
-  -- the whole of a list is a part of it
-  pub whole_part : (l : List A) → part 0 (length l) l ≡ l
-  whole_part l = take_all (length l) l (omega arith)
-
   -- a part written at the front, and the part behind it
   part_then : (old l : List A) (at n m : ℕ) → at + n ≤ length l → sets (sets old 0 (part at n l)) n (part (at + n) m l) ≡ sets old 0 (part at (n + m) l)
   part_then old l at n m h =
@@ -70,9 +66,6 @@ module _ (z : Sizes) (words : List ℕ) (s : RowStarts z words) where
       }
 
   module _ (numbers old : List Float) where
-    pub none : Written z.rows words numbers old old 0
-    none = record { few = omega arith; run = sym (ap (λ (k : ℕ). sets old 0 (part 2048 k numbers)) s.first); long = refl }
-
     pub more : (new ys : List Float) (r start end : ℕ) → Few z → numbers_length ≤ length numbers → 4096 ≤ length old → r < z.rows
         → start ≡ get_or words (4096 + r) 0 → end ≡ get_or words (4096 + r + 1) 0
         → ys ≡ sets (mid_of start (length new - start) new) 0 (mid_of (2048 + start) (2048 + end - (2048 + start)) numbers)
@@ -92,6 +85,3 @@ module _ (z : Sizes) (words : List ℕ) (s : RowStarts z words) where
               ∙ ap (λ (k : ℕ). sets old 0 (part 2048 k numbers)) (sum ∙ ee ∙ sym (next_start r));
           long = same_len_mid start (length new - start) new ys same ∙ w.long;
         }
-
-    pub all : (new : List Float) (r : ℕ) → z.rows ≤ r → Written z.rows words numbers old new r → new ≡ sets old 0 (part 2048 z.elements numbers)
-    all new r le w = w.run ∙ ap (λ (k : ℕ). sets old 0 (part 2048 k numbers)) (last_start r (omega (arith, w.few)))

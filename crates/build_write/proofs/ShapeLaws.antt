@@ -1,28 +1,13 @@
 -- The shape run's parts written one behind the other, each call keeping the run's length. Assumes nothing.
 use mathlib.Core.Path.{◌≡◌}
-use Prim.Native.Nat.{ℕ, ◌+◌, ◌*◌, ◌≤◌}
-use native.Mathlib.Omega.{arith}
+use Prim.Native.Nat.{ℕ, ◌+◌, ◌*◌}
 use mathlib.Core.List.{List}
-use lib.ListN.{length}
 use lib.Seq.{sets}
-use Rattle.layout.specs.Layout.{aggregates_at, makers_at, counts_length, edges_at, flow_order_at, node_row_ceiling, node_rows_at, nodes_at, shape_length, shape_made_at, virtual_storages_at, words_length}
+use Rattle.layout.specs.Layout.{aggregates_at, makers_at, counts_length, edges_at, flow_order_at, node_rows_at, nodes_at, shape_made_at, virtual_storages_at}
 use Rattle.laws.specs.Part.{part}
-use Rattle.laws.proofs.Tails.{tail, tail_length, tail_part}
+use Rattle.laws.proofs.Tails.{tail, tail_part}
 use Rattle.build_write.specs.declared.Sizes.{Sizes}
 use Rattle.build_write.specs.Lp.{shape_tables, shape_written}
-
-pub node_rows_room : (n long l₁ l₂ l₃ : ℕ) → l₃ ≡ l₂ → l₂ ≡ l₁ → l₁ ≡ long → n ≤ node_row_ceiling → shape_length ≤ long → node_rows_at + 4 * n ≤ l₃
-node_rows_room n long l₁ l₂ l₃ c b a few h = omega arith
-
-pub aggregates_room : (n long l₁ l₂ l₃ l₄ : ℕ) → l₄ ≡ l₃ → l₃ ≡ l₂ → l₂ ≡ l₁ → l₁ ≡ long → n ≤ 64 → shape_length ≤ long → aggregates_at + n ≤ l₄
-aggregates_room n long l₁ l₂ l₃ l₄ d c b a few h = omega arith
-
-pub virtual_storages_room : (n long l₁ l₂ l₃ l₄ l₅ : ℕ) → l₅ ≡ l₄ → l₄ ≡ l₃ → l₃ ≡ l₂ → l₂ ≡ l₁ → l₁ ≡ long → n ≤ 32 → shape_length ≤ long → virtual_storages_at + 6 * n ≤ l₅
-virtual_storages_room n long l₁ l₂ l₃ l₄ l₅ e d c b a few h = omega arith
-
--- the words made have room for the whole shape run
-pub made_room : (words : List ℕ) (end : ℕ) → words_length ≤ length words → end ≤ shape_length → end ≤ length (tail shape_made_at words)
-made_room words end h e = omega (arith, tail_length shape_made_at words)
 
 module _ (z : Sizes) (words old s₁ s₂ s₃ s₄ s₅ s₆ : List ℕ) where
   -- where the shape run's words are made

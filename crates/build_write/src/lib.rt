@@ -43,10 +43,10 @@ pub fn write_columns(
 {
     let e = z.edge_columns;
     let k = z.sets;
-    runs::fill_f64(col_lower, 0, e + k, 0.0);
-    runs::fill_f64(col_upper, 0, e, sentinel.high());
-    runs::fill_f64(col_upper, e, k, 1.0);
-    runs::fill_f64(col_obj_coef, 0, e + k, 0.0);
+    runs::fill(col_lower, 0, e + k, 0.0);
+    runs::fill(col_upper, 0, e, sentinel.high());
+    runs::fill(col_upper, e, k, 1.0);
+    runs::fill(col_obj_coef, 0, e + k, 0.0);
 }
 
 // Row bounds.
@@ -55,8 +55,8 @@ pub fn write_rows(z: Sizes, numbers: &[f64], row_lower: &mut [f64], row_upper: &
     ensures { RowsWritten z numbers.now row_lower.old row_upper.old row_lower.new row_upper.new }
 {
     let k = z.rows;
-    runs::copy_f64(row_lower, 0, numbers, 0, k);
-    runs::copy_f64(row_upper, 0, numbers, UPPERS_MADE_AT, k);
+    runs::copy(row_lower, 0, numbers, 0, k);
+    runs::copy(row_upper, 0, numbers, UPPERS_MADE_AT, k);
 }
 
 // One row's elements, written at the front of the run lent.
@@ -64,7 +64,7 @@ fn write_row(elements: &mut [f64], row: &[f64])
     requires { length row.now ≤ length elements.old }
     ensures { elements.new ≡ sets elements.old 0 row.now }
 {
-    runs::copy_f64(elements, 0, row, 0, row.len());
+    runs::copy(elements, 0, row, 0, row.len());
 }
 
 // The elements row by row: each row is written into the element run from its start.
@@ -72,14 +72,11 @@ fn write_elements(z: Sizes, words: &[u16], numbers: &[f64], elements: &mut [f64]
     requires { Few z × RowStarts z words.now × WorkRoom words.now numbers.now × (element_ceiling ≤ length elements.old) }
     ensures { elements.new ≡ sets elements.old 0 (part elements_made_at z.elements numbers.now) }
 {
-    let rows = z.rows;
-    let mut r: usize = 0;
-    while r < rows {
-        let start = widths::wide16(words[STARTS_MADE_AT + r]);
-        let end = widths::wide16(words[STARTS_MADE_AT + r + 1]);
+    for r in 0..z.rows {
+        let start = usize::from(words[STARTS_MADE_AT + r]);
+        let end = usize::from(words[STARTS_MADE_AT + r + 1]);
         let row = &numbers[ELEMENTS_MADE_AT + start..ELEMENTS_MADE_AT + end];
         write_row(&mut elements[start..], row);
-        r += 1;
     }
 }
 
@@ -100,8 +97,8 @@ pub fn write_matrix(
     let k = z.elements;
     let n = z.rows + 1;
     write_elements(z, words, numbers, elements);
-    runs::copy_u16(columns, 0, words, 0, k);
-    runs::widen_u16(row_starts, 0, words, STARTS_MADE_AT, n);
+    runs::copy(columns, 0, words, 0, k);
+    runs::widen(row_starts, 0, words, STARTS_MADE_AT, n);
 }
 
 // The shape run's counts and the tables that steps read.
@@ -110,18 +107,18 @@ fn write_tables(z: Sizes, words: &[u16], shape: &mut [u16])
     ensures { shape.new ≡ shape_tables z words.now shape.old }
 {
     let made = &words[SHAPE_MADE_AT..];
-    runs::copy_u16(shape, 0, made, 0, COUNTS_LENGTH);
-    runs::copy_u16(shape, NODES_AT, made, NODES_AT, NODE_WIDTH * z.nodes);
-    runs::copy_u16(shape, EDGES_AT, made, EDGES_AT, EDGE_WIDTH * z.edges);
-    runs::copy_u16(
+    runs::copy(shape, 0, made, 0, COUNTS_LENGTH);
+    runs::copy(shape, NODES_AT, made, NODES_AT, NODE_WIDTH * z.nodes);
+    runs::copy(shape, EDGES_AT, made, EDGES_AT, EDGE_WIDTH * z.edges);
+    runs::copy(
         shape,
         NODE_ROWS_AT,
         made,
         NODE_ROWS_AT,
         NODE_ROW_WIDTH * z.node_rows,
     );
-    runs::copy_u16(shape, AGGREGATES_AT, made, AGGREGATES_AT, z.aggregates);
-    runs::copy_u16(
+    runs::copy(shape, AGGREGATES_AT, made, AGGREGATES_AT, z.aggregates);
+    runs::copy(
         shape,
         VIRTUAL_STORAGES_AT,
         made,
@@ -137,6 +134,6 @@ pub fn write_shape(z: Sizes, words: &[u16], shape: &mut [u16])
 {
     write_tables(z, words, shape);
     let made = &words[SHAPE_MADE_AT..];
-    runs::copy_u16(shape, MAKERS_AT, made, MAKERS_AT, MAKER_WIDTH * z.rows);
-    runs::copy_u16(shape, FLOW_ORDER_AT, made, FLOW_ORDER_AT, z.edges);
+    runs::copy(shape, MAKERS_AT, made, MAKERS_AT, MAKER_WIDTH * z.rows);
+    runs::copy(shape, FLOW_ORDER_AT, made, FLOW_ORDER_AT, z.edges);
 }

@@ -3,8 +3,7 @@
 
 ghost use Rattle.pywr.specs.Calls.{AfterBuild};
 
-use build_rows::Assembled;
-use pywr::{Answer, Sentinel};
+use pywr::{Answer, Reason, Sentinel};
 
 // Writes the programme of a network file into the store, or refuses with 1 to 11, 16, 19 or 20.
 pub fn build(
@@ -57,21 +56,20 @@ pub fn build(
         words.len(),
         numbers.len(),
     ) {
-        return Answer::Refused(16, 0);
+        return Err(Reason::ShortBuffer.at(0));
     }
-    let a = build_programme::assemble(file, sentinel, words, numbers);
-    match a {
-        Assembled::Done(z) => {
+    match build_programme::assemble(file, sentinel, words, numbers) {
+        Ok(z) => {
             build_write::write_columns(z, sentinel, col_lower, col_upper, col_obj_coef);
             build_write::write_rows(z, numbers, row_lower, row_upper);
             build_write::write_matrix(z, words, numbers, elements, columns, row_starts);
             build_write::write_shape(z, words, shape);
             build_room::clear(words, numbers);
-            Answer::Accepted
+            Ok(())
         }
-        Assembled::Refused(n, p) => {
+        Err(refusal) => {
             build_room::clear(words, numbers);
-            Answer::Refused(n, p)
+            Err(refusal)
         }
     }
 }

@@ -1,20 +1,10 @@
 // The step: a step file's costs, bounds and coefficients written into a lent store (BuiltSolver::update and apply_updated_coefficients of builder.rs).
 #![tactic(auto)]
 
-ghost use Rattle.std.specs.Prelude.{◌≡◌, length, replicate};
-ghost use Rattle.pywr.specs.declared.Answer.TheVariants.{Refused};
-ghost use Rattle.pywr.specs.Numbers.{zero64};
 ghost use Rattle.pywr.specs.Calls.{AfterStep};
 
-use pywr::Answer;
-
-// Zeroes the work run and refuses.
-fn refuse(number: u8, place: usize, lent: &mut [f64]) -> Answer
-    ensures { (result ≡ Refused number place) × (lent.new ≡ replicate (length lent.old) zero64) }
-{
-    runs::zero_f64(lent);
-    Answer::Refused(number, place)
-}
+use pywr::{Answer, Reason};
+use step_row_bounds::StoreRows;
 
 // Writes a step file's costs, bounds and coefficients into the store, or refuses with 12 to 14, 16, 17 or 21.
 pub fn step(
@@ -64,25 +54,20 @@ pub fn step(
         shape.len(),
         work.len(),
     ) {
-        return Answer::Refused(16, 0);
+        return Err(Reason::ShortBuffer.at(0));
     }
-    let answer = step_checks::judge(file, columns, row_starts, shape, work);
-    match answer {
-        Answer::Refused(number, place) => refuse(number, place, work),
-        Answer::Accepted => {
-            step_update::update(
-                file,
-                col_obj_coef,
-                row_lower,
-                row_upper,
-                elements,
-                columns,
-                row_starts,
-                shape,
-                work,
-            );
-            runs::zero_f64(work);
-            Answer::Accepted
-        }
+    let judged = step_checks::judge(file, columns, row_starts, shape, work);
+    if judged.is_ok() {
+        let mut rows = StoreRows {
+            row_lower,
+            row_upper,
+            elements,
+            columns,
+            row_starts,
+            shape,
+        };
+        step_update::update(file, col_obj_coef, &mut rows, work);
     }
+    runs::fill_whole(work, 0.0);
+    judged
 }

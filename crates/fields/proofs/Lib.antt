@@ -1,6 +1,6 @@
 pub mod Left
 pub mod Nan
 pub mod Small
+pub mod NanLaws
 pub mod Within
 pub mod RecordLaws
-pub mod NanLaws

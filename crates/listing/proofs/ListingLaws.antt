@@ -1,11 +1,10 @@
 -- The bytes of the columns listed and of the whole listing, from the runs that the code reads. Assumes nothing.
-use Prim.Native.Nat.{ℕ, ◌+◌, min}
+use Prim.Native.Nat.{ℕ, ◌+◌}
 use mathlib.Core.Path.{◌≡◌, refl, ◌∙◌, ap}
-use mathlib.Core.List.{List, [], ◌++◌}
+use mathlib.Core.List.{[], ◌++◌}
 use native.Mathlib.Numerals.{add-one}
 use native.Mathlib.Omega.{arith}
-use lib.ListN.{length, get_or, length-append}
-use lib.Ieee.{Float}
+use lib.ListN.{length, length-append}
 use Rattle.pywr.specs.Store.{Store, column_count, row_count, varying_count, elements_kept}
 use Rattle.listing_lines.specs.Lines.{programme_line}
 use Rattle.listing_stored.specs.Stored.{column_text}
@@ -22,12 +21,6 @@ columns_more s i = rw (add-one i)
 
 pub columns_longer : (s : Store) (i : ℕ) → length (columns_text s (i + 1)) ≡ length (columns_text s i) + length (column_text s i)
 columns_longer s i = ap length (columns_more s i) ∙ length-append (columns_text s i) (column_text s i)
-
-pub columns_listed : (s : Store) (lower upper cost : List Float) (shape : List ℕ) (n : ℕ)
-    → n ≡ min (min (get_or shape 3 0 + get_or shape 4 0) (length lower)) (min (length upper) (length cost))
-    → s.col_lower ≡ lower → s.col_upper ≡ upper → s.col_obj_coef ≡ cost → s.shape ≡ shape → n ≡ listed_columns s
-unfolding listed_columns
-columns_listed s lower upper cost shape n e el eu ec eh = rw (el, eu, ec, eh) e
 
 pub listing_text : (s : Store)
     → programme_text s ≡ programme_line (column_count s) (row_count s) (varying_count s) (elements_kept s) ++ (columns_text s (listed_columns s) ++ rows_text s (listed_rows s))

@@ -65,21 +65,8 @@ put_sixteen n m {at} {r} {out} {out'} e p =
 
 -- ---- doubles
 
--- a double that equals itself is a number
-pub a_number : (x : Float) → Ieee.eq x x ≡ true → T (not (Ieee.is_nan x))
-unfolding Ieee.eq Ieee.is_nan
-a_number nan h = subst (λ (b : Bool). T b) (sym h) tt
-a_number (inf s) h = tt
-a_number (fin s m e) h = tt
-
-level_self : (s : Bool) (a : ℕ) → Ieee.level s a s a ≡ true
-level_self true a = rw (eq-eqb a a refl)
-level_self false a = rw (eq-eqb a a refl)
-
--- and one that does not is the NaN
-pub no_number : (x : Float) → Ieee.eq x x ≡ false → 0x7ff8000000000000 ≡ to_bits binary64 x
-unfolding Ieee.eq to_bits
-no_number nan h = refl
-no_number (inf true) h = let z : ◌≡◌ {A = ℕ} 0 1 = cc in absurd (omega arith)
-no_number (inf false) h = let z : ◌≡◌ {A = ℕ} 0 1 = cc in absurd (omega arith)
-no_number (fin s m e) h = let t = level_self s (m * Ieee.up e * Ieee.down e) in let z : ◌≡◌ {A = ℕ} 0 1 = cc in absurd (omega arith)
+pub nan_pattern : (x : Float) → true ≡ Ieee.is_nan x → 0x7ff8000000000000 ≡ to_bits binary64 x
+unfolding Ieee.is_nan to_bits
+nan_pattern nan e = refl
+nan_pattern (inf s) e = absurd (cc)
+nan_pattern (fin s m k) e = absurd (cc)

@@ -10,10 +10,11 @@ ghost use Rattle.listing_fields.specs.Fields.{PutWithin, number_field, double_fi
 fn bits(x: f64) -> u64
     ensures { result ≡ to_bits binary64 x }
 {
-    if x == x {
-        return f64::to_bits(x);
+    if x.is_nan() {
+        0x7ff8000000000000
+    } else {
+        x.to_bits()
     }
-    0x7ff8000000000000
 }
 
 // A blank and a number.
@@ -22,7 +23,7 @@ pub fn put_number(out: &mut [u8], at: usize, n: usize) -> usize
     ensures { PutWithin 21 (number_field n) out.old at out.new result }
 {
     let a = text::put(out, at, b' ');
-    text::put_decimal(out, a, widths::usize_to_u64(n))
+    text::put_decimal(out, a, n as u64)
 }
 
 // A blank and a double.

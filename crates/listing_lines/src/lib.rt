@@ -3,7 +3,7 @@
 
 ghost use Rattle.std.specs.Prelude.{◌≡◌, ◌+◌, ◌≤◌, length};
 ghost use Rattle.listing_fields.specs.Fields.{PutWithin};
-ghost use Rattle.listing_lines.specs.Lines.{line_room, to_maker, kind_letter, varying_flag, programme_line, column_line, maker_fields, row_line, element_line, refusal_line, step_line};
+ghost use Rattle.listing_lines.specs.Lines.{line_room, to_maker, kind_letter, programme_line, column_line, maker_fields, row_line, element_line, refusal_line, step_line};
 
 use listing_fields::{put_bounds, put_double, put_head, put_letter, put_number};
 
@@ -22,12 +22,6 @@ fn kind_letter(integer: bool) -> u8
     ensures { result ≡ kind_letter integer }
 {
     if integer { b'i' } else { b'c' }
-}
-
-fn varying_flag(varying: bool) -> usize
-    ensures { result ≡ varying_flag varying }
-{
-    if varying { 1 } else { 0 }
 }
 
 pub fn put_programme(
@@ -90,7 +84,7 @@ pub fn put_row(
     ensures { PutWithin line_room (row_line index varying lower upper elements (to_maker maker)) out.old at out.new result }
 {
     let a = put_head(out, at, b'R', index);
-    let b = put_number(out, a, varying_flag(varying));
+    let b = put_number(out, a, usize::from(varying));
     let c = put_bounds(out, b, lower, upper);
     let d = put_number(out, c, elements);
     let e = put_maker_fields(out, d, maker);

@@ -7,48 +7,19 @@ use native.Mathlib.Omega.{arith}
 use borrow.Author.Tests.{eq-eqb, ne_eqb, lt-ltb, le-ltb}
 use lib.ListN.{length, take, length-append}
 use Rattle.layout.specs.Layout.{varying_in, fixed_in}
-use Rattle.pywr.specs.Programme.{Maker, by_mass, by_node, by_aggregate, by_virtual_storage}
+use Rattle.pywr.specs.Programme.{Maker}
 use Rattle.pywr.specs.Store.{Store, row_count, row_maker}
 use Rattle.text.specs.Text.{Put}
 use Rattle.text.proofs.Placed.{put_as}
 use Rattle.listing_fields.specs.Fields.{PutWithin, number_field}
 use Rattle.listing_lines.specs.Lines.{refusal_line}
-use Rattle.listing_makers.specs.Makers.{mass_balance, node, aggregate, virtual_storage, exclusivity, shared, kind_words, shared_words, maker_line, makers_text, maker_text}
-
-pub put_words : {most : ℕ} {text text' out out' : List ℕ} {at r : ℕ} → text ≡ text' → length text ≤ most → Put text out at out' r → PutWithin most text' out at out' r
-put_words e h p = record { put = put_as e p; end = omega (arith, p.next) }
+use Rattle.listing_makers.specs.Makers.{shared, shared_words, maker_line, makers_text, maker_text}
 
 -- nothing is put
 pub put_nothing : {most : ℕ} {text out : List ℕ} {at : ℕ} → [] ≡ text → PutWithin most text out at out at
 put_nothing {most} {text} {out} {at} e =
     let p : Put [] out at out at = record { next = omega arith; written = sym (append-nil (take at out)) } in
     record { put = put_as e p; end = omega arith }
-
--- ---- the kinds in words
-
-module _ (kind : ℕ) where
-  pub by_mass_lem : kind ≡ by_mass → mass_balance ≡ kind_words kind
-  unfolding kind_words
-  by_mass_lem e = rw (eq-eqb kind by_mass e)
-
-  module _ (no-mass : kind ≡ by_mass → ⊥) where
-    pub by_node_lem : kind ≡ by_node → node ≡ kind_words kind
-    unfolding kind_words
-    by_node_lem e = rw (ne_eqb kind by_mass no-mass, eq-eqb kind by_node e)
-
-    module _ (no_Node : kind ≡ by_node → ⊥) where
-      pub by_aggregate_lem : kind ≡ by_aggregate → aggregate ≡ kind_words kind
-      unfolding kind_words
-      by_aggregate_lem e = rw (ne_eqb kind by_mass no-mass, ne_eqb kind by_node no_Node, eq-eqb kind by_aggregate e)
-
-      module _ (no-aggregate : kind ≡ by_aggregate → ⊥) where
-        pub by_virtual_storage_lem : kind ≡ by_virtual_storage → virtual_storage ≡ kind_words kind
-        unfolding kind_words
-        by_virtual_storage_lem e = rw (ne_eqb kind by_mass no-mass, ne_eqb kind by_node no_Node, ne_eqb kind by_aggregate no-aggregate, eq-eqb kind by_virtual_storage e)
-
-        pub by_exclusivity_lem : (kind ≡ by_virtual_storage → ⊥) → exclusivity ≡ kind_words kind
-        unfolding kind_words
-        by_exclusivity_lem h = rw (ne_eqb kind by_mass no-mass, ne_eqb kind by_node no_Node, ne_eqb kind by_aggregate no-aggregate, ne_eqb kind by_virtual_storage h)
 
 -- ---- how many share a row
 
@@ -76,9 +47,9 @@ makers_longer s i m e = ap length (makers_more s i m e) ∙ length-append (maker
 pub rows_counted : (s : Store) (shape : List ℕ) (n : ℕ) → n ≡ varying_in shape + fixed_in shape → s.shape ≡ shape → n ≡ row_count s
 rows_counted s shape n e es = rw es e
 
-pub there : (s : Store) (row : ℕ) → row < row_count s → maker_line row (row_maker s row) ≡ maker_text s row
+pub there : (s : Store) (row : ℕ) (m : Maker) → m ≡ row_maker s row → row < row_count s → maker_line row m ≡ maker_text s row
 unfolding maker_text
-there s row h = rw (lt-ltb row (row_count s) h)
+there s row m e h = rw (lt-ltb row (row_count s) h, e)
 
 pub not_there : (s : Store) (row : ℕ) → row_count s ≤ row → refusal_line 18 row ≡ maker_text s row
 unfolding maker_text

@@ -3,10 +3,9 @@
 // That the bytes of a file or a pipe go out is not stated: output is outside the logic. Where a write fails the answer says why, and the rest is not written.
 #![tactic(auto)]
 
-ghost use Rattle.std.specs.Prelude.{◌≡◌, ◌+◌, ◌<◌, ◌≤◌, ◌^◌, length, OnOk};
+ghost use Rattle.std.specs.Prelude.{◌≡◌, ◌+◌, ◌≤◌, length, OnOk};
 ghost use Rattle.std.specs.Io.KnownBytes.{Appends};
-ghost use Rattle.pywr.specs.Store.{Store, row_count, row_maker};
-ghost use Rattle.text.specs.Text.{Put};
+ghost use Rattle.pywr.specs.Store.{Store, row_count};
 ghost use Rattle.listing_fields.specs.Fields.{PutWithin};
 ghost use Rattle.listing_lines.specs.Lines.{line_room, to_maker};
 ghost use Rattle.listing_makers.specs.Makers.{kind_words, shared_words, maker_line, makers_text, maker_text};
@@ -14,16 +13,16 @@ ghost use Rattle.listing_makers.specs.Makers.{kind_words, shared_words, maker_li
 use layout::{BY_AGGREGATE, BY_MASS, BY_NODE, BY_VIRTUAL_STORAGE};
 use listing::Output;
 use listing_fields::put_number;
-use listing_lines::RowMaker;
-use listing_rows::{spare, write_out};
+use listing_lines::{LINE_ROOM, RowMaker};
+use listing_rows::{Room, spare, write_out};
 use listing_stored::{row_count, row_maker};
+use program_streams::write_all;
+use pywr::Reason;
 use std::io::Write;
 use text::put_all;
 
-// What a buffer of lines holds, and one of a single line.
+// What a buffer of lines holds.
 const BUFFER_LENGTH: usize = 65536;
-
-const SHORT_BUFFER_LENGTH: usize = 4096;
 
 // The kinds in the width of a maker's numbers.
 const MASS: usize = BY_MASS as usize;
@@ -34,24 +33,19 @@ const AGGREGATE: usize = BY_AGGREGATE as usize;
 
 const VIRTUAL_STORAGE: usize = BY_VIRTUAL_STORAGE as usize;
 
-// The words of a kind, at most 24 bytes.
-fn put_kind(out: &mut [u8], at: usize, kind: usize) -> usize
-    requires { at + 24 ≤ length out.old }
-    ensures { PutWithin 24 (kind_words kind) out.old at out.new result }
+// The words of a kind; a number that is no kind reads as the last one.
+#[tactic(auto, unfolding(crate::specs::Makers::kind_words))]
+fn kind_words(kind: usize) -> &'static [u8]
+    ensures words { result.now ≡ kind_words kind }
+    ensures most { length result.now ≤ 24 }
 {
-    if kind == MASS {
-        return put_all(out, at, b"mass balance of node");
+    match kind {
+        MASS => b"mass balance of node",
+        NODE => b"node",
+        AGGREGATE => b"aggregate",
+        VIRTUAL_STORAGE => b"virtual storage",
+        _ => b"exclusivity of aggregate",
     }
-    if kind == NODE {
-        return put_all(out, at, b"node");
-    }
-    if kind == AGGREGATE {
-        return put_all(out, at, b"aggregate");
-    }
-    if kind == VIRTUAL_STORAGE {
-        return put_all(out, at, b"virtual storage");
-    }
-    put_all(out, at, b"exclusivity of aggregate")
 }
 
 // How many share a row, at most 11 bytes and a number's 21.
@@ -74,35 +68,10 @@ fn put_maker(out: &mut [u8], at: usize, row: usize, maker: RowMaker) -> usize
     let a = put_all(out, at, b"row");
     let b = put_number(out, a, row);
     let c = put_all(out, b, b": ");
-    let d = put_kind(out, c, maker.kind);
+    let d = put_all(out, c, kind_words(maker.kind));
     let e = put_number(out, d, maker.index);
     let f = put_shared(out, e, maker.shared_by);
     text::put(out, f, b'\n')
-}
-
-fn write_makers<W: Write>(writer: &mut W, out: &mut [u8], shape: &[u16]) -> Output
-    requires { line_room ≤ length out.old }
-    ensures bytes { (s : Store) → s.shape ≡ shape.now → result.bytes ≡ length (makers_text s (row_count s)) }
-    ensures text { (s : Store) → s.shape ≡ shape.now
-        → OnOk result.written (Appends (W.contents writer.old) (W.contents writer.new) (makers_text s (row_count s))) }
-{
-    let end = row_count(shape);
-    let mut at: usize = 0;
-    let mut written = Ok(());
-    let mut bytes: usize = 0;
-    let mut i: usize = 0;
-    while i < end {
-        let room = spare(writer, out, at, written);
-        written = room.written;
-        let start = room.at;
-        at = put_maker(out, start, i, row_maker(shape, i));
-        bytes += at - start;
-        i += 1;
-    }
-    Output {
-        bytes,
-        written: write_out(writer, out, at, written),
-    }
 }
 
 // Writes the line of each row.
@@ -112,20 +81,20 @@ pub fn list_makers<W: Write>(writer: &mut W, shape: &[u16]) -> Output
         → OnOk result.written (Appends (W.contents writer.old) (W.contents writer.new) (makers_text s (row_count s))) }
 {
     let mut out = [0u8; BUFFER_LENGTH];
-    write_makers(writer, &mut out, shape)
-}
-
-// Writes the line that stands at the front of the buffer when it returns, and answers its length.
-fn write_maker<W: Write>(writer: &mut W, out: &mut [u8], shape: &[u16], row: usize) -> Output
-    requires { (line_room ≤ length out.old) × (row < 2 ^ 32) }
-    ensures line { (s : Store) → s.shape ≡ shape.now → Put (maker_line row (row_maker s row)) out.old 0 out.new result.bytes }
-    ensures text { (s : Store) → s.shape ≡ shape.now
-        → OnOk result.written (Appends (W.contents writer.old) (W.contents writer.new) (maker_line row (row_maker s row))) }
-{
-    let end = put_maker(out, 0, row, row_maker(shape, row));
+    let mut room = Room {
+        at: 0,
+        written: Ok(()),
+    };
+    let mut bytes: usize = 0;
+    for row in 0..row_count(shape) {
+        let line = spare(writer, &out, room);
+        let at = put_maker(&mut out, line.at, row, row_maker(shape, row));
+        bytes += at - line.at;
+        room = Room { at, ..line };
+    }
     Output {
-        bytes: end,
-        written: write_out(writer, out, end, Ok(())),
+        bytes,
+        written: write_out(writer, &out, room),
     }
 }
 
@@ -135,9 +104,13 @@ pub fn list_maker<W: Write>(writer: &mut W, shape: &[u16], row: usize) -> Output
     ensures text { (s : Store) → s.shape ≡ shape.now
         → OnOk result.written (Appends (W.contents writer.old) (W.contents writer.new) (maker_text s row)) }
 {
-    if row < row_count(shape) {
-        let mut out = [0u8; SHORT_BUFFER_LENGTH];
-        return write_maker(writer, &mut out, shape, row);
+    if row_count(shape) <= row {
+        return listing::list_refusal(writer, Reason::NoSuchRow.at(row));
     }
-    listing::list_refusal(writer, 18, row)
+    let mut out = [0u8; LINE_ROOM];
+    let end = put_maker(&mut out, 0, row, row_maker(shape, row));
+    Output {
+        bytes: end,
+        written: write_all(writer, &out[..end]),
+    }
 }

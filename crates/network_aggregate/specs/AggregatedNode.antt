@@ -1,12 +1,11 @@
 -- An `AG` record by its bytes: what it holds, where it ends, and its check, which answers where the next record starts or the refusal.
 -- Assumes nothing.
-use Rattle.std.specs.Prelude.{ℕ, ◌+◌, ◌*◌, List, eqb}
+use Rattle.std.specs.Prelude.{ℕ, ◌+◌, ◌*◌, List, eqb, Ok}
 use Rattle.layout.specs.Layout.{aggregate_set_ceiling, set_size_ceiling}
 use Rattle.pywr.specs.Bytes.{byte, le16, le32}
 use Rattle.pywr.specs.Network.{Aggregate}
-use Rattle.fields.specs.Field.{byte_field, node_field, active_field, field_then}
+use Rattle.fields.specs.Field.{Checked, byte_field, node_field, active_field, check_then}
 use Rattle.fields.specs.Records.{records_at, records_end, check_each}
-use Rattle.fields.specs.declared.Checked.{Checked}
 
 -- where its fields and its sets stand in it
 abbrev pub exclusive_offset : ℕ
@@ -56,17 +55,17 @@ module _ (file : List ℕ) where
 module _ (file : List ℕ) (place nodes : ℕ) where
   -- a node of a set
   unfoldable pub check_member : ℕ → Checked
-  check_member at = field_then (node_field file place at nodes) (λ n. Checked.Next (at + member_length))
+  check_member at = check_then (node_field file place at nodes) (λ n. Ok (at + member_length))
 
   -- a set: its size 1..16 and its nodes
   unfoldable pub check_set : ℕ → Checked
-  check_set at = field_then (byte_field file place at 1 set_size_ceiling) (λ size. check_each check_member size (at + members_offset))
+  check_set at = check_then (byte_field file place at 1 set_size_ceiling) (λ size. check_each check_member size (at + members_offset))
 
 -- the record at `at`, its mark apart
 unfoldable pub check_aggregate : List ℕ → ℕ → ℕ → Checked
 check_aggregate file nodes at =
-    field_then (byte_field file at (at + exclusive_offset) 0 1) (λ kind.
-    field_then (byte_field file at (at + set_count_offset) 1 aggregate_set_ceiling) (λ sets.
-    field_then (active_field file at (at + min_active_offset) kind 0) (λ least.
-    field_then (active_field file at (at + max_active_offset) kind least) (λ most.
+    check_then (byte_field file at (at + exclusive_offset) 0 1) (λ kind.
+    check_then (byte_field file at (at + set_count_offset) 1 aggregate_set_ceiling) (λ sets.
+    check_then (active_field file at (at + min_active_offset) kind 0) (λ least.
+    check_then (active_field file at (at + max_active_offset) kind least) (λ most.
     check_each (check_set file at nodes) sets (at + sets_offset)))))

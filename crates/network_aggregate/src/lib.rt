@@ -7,9 +7,8 @@ ghost use Rattle.fields.specs.Field.{NextWithin};
 ghost use Rattle.fields.specs.Records.{check_each};
 ghost use Rattle.network_aggregate.specs.AggregatedNode.{set_end, aggregate_at, aggregate_end, check_member, check_set, check_aggregate, set_count_offset, sets_offset, member_place};
 
-use fields::{Checked, Field};
 use layout::{AGGREGATE_SET_CEILING, SET_SIZE_CEILING};
-use pywr::NodeIndex;
+use pywr::{NodeIndex, Refusal};
 
 // An `AG` record: where its fields and its sets stand in it.
 const EXCLUSIVE_OFFSET: usize = 2;
@@ -28,91 +27,56 @@ const MEMBERS_OFFSET: usize = 1;
 const MEMBER_LENGTH: usize = 2;
 
 // `count` nodes of a set, from `at`.
-fn check_members(s: &[u8], place: usize, nodes: usize, count: usize, at: usize) -> Checked
+#[tactic(auto, using(fields::proofs::RecordLaws::checked_in_turn), unfolding(crate::specs::AggregatedNode::check_member))]
+fn check_members(
+    s: &[u8],
+    place: usize,
+    nodes: usize,
+    count: usize,
+    at: usize,
+) -> Result<usize, Refusal>
     requires { at ≤ length s.now }
     ensures { (result ≡ check_each (check_member s.now place nodes) count at) × NextWithin result (length s.now) }
 {
     let mut here = at;
-    let mut i: usize = 0;
-    while i < count {
-        let f = fields::node_field(s, place, here, nodes);
-        match f {
-            Field::Refused(n, p) => {
-                return Checked::Refused(n, p);
-            }
-            Field::Value(_) => {
-                here += MEMBER_LENGTH;
-                i += 1;
-            }
-        }
+    for _ in 0..count {
+        fields::node_field(s, place, here, nodes)?;
+        here += MEMBER_LENGTH;
     }
-    Checked::Next(here)
+    Ok(here)
 }
 
 // `count` sets, from `at`.
-fn check_sets(s: &[u8], place: usize, nodes: usize, count: usize, at: usize) -> Checked
+#[tactic(auto, using(fields::proofs::RecordLaws::checked_in_turn), unfolding(crate::specs::AggregatedNode::check_set))]
+fn check_sets(
+    s: &[u8],
+    place: usize,
+    nodes: usize,
+    count: usize,
+    at: usize,
+) -> Result<usize, Refusal>
     requires { at ≤ length s.now }
     ensures { (result ≡ check_each (check_set s.now place nodes) count at) × NextWithin result (length s.now) }
 {
     let mut here = at;
-    let mut i: usize = 0;
-    while i < count {
-        let f = fields::byte_field(s, place, here, 1, SET_SIZE_CEILING);
-        match f {
-            Field::Refused(n, p) => {
-                return Checked::Refused(n, p);
-            }
-            Field::Value(size) => {
-                let r = check_members(s, place, nodes, size, here + MEMBERS_OFFSET);
-                match r {
-                    Checked::Refused(n, p) => {
-                        return Checked::Refused(n, p);
-                    }
-                    Checked::Next(next) => {
-                        here = next;
-                        i += 1;
-                    }
-                }
-            }
-        }
+    for _ in 0..count {
+        let size = fields::byte_field(s, place, here, 1, SET_SIZE_CEILING)?;
+        here = check_members(s, place, nodes, size, here + MEMBERS_OFFSET)?;
     }
-    Checked::Next(here)
+    Ok(here)
 }
 
-// The aggregate whose record stands at `at`, of a network with `nodes` nodes.
-pub fn check_aggregate(s: &[u8], nodes: usize, at: usize) -> Checked
+// The aggregate whose record stands at `at`, of a network with `nodes` nodes: where the next record starts.
+#[tactic(auto, using(fields::proofs::RecordLaws::checked_in_turn), unfolding(crate::specs::AggregatedNode::check_aggregate))]
+pub fn check_aggregate(s: &[u8], nodes: usize, at: usize) -> Result<usize, Refusal>
     requires { at + 2 ≤ length s.now }
     ensures { (result ≡ check_aggregate s.now nodes at) × NextWithin result (length s.now) }
 {
-    let k = fields::byte_field(s, at, at + EXCLUSIVE_OFFSET, 0, 1);
-    match k {
-        Field::Refused(n, p) => Checked::Refused(n, p),
-        Field::Value(kind) => {
-            let c = fields::byte_field(s, at, at + SET_COUNT_OFFSET, 1, AGGREGATE_SET_CEILING);
-            match c {
-                Field::Refused(n, p) => Checked::Refused(n, p),
-                Field::Value(sets) => {
-                    let l = fields::active_field(s, at, at + MIN_ACTIVE_OFFSET, kind, 0);
-                    match l {
-                        Field::Refused(n, p) => Checked::Refused(n, p),
-                        Field::Value(least) => {
-                            let m = fields::active_field(
-                                s,
-                                at,
-                                at + MAX_ACTIVE_OFFSET,
-                                kind,
-                                least,
-                            );
-                            match m {
-                                Field::Refused(n, p) => Checked::Refused(n, p),
-                                Field::Value(_) => check_sets(s, at, nodes, sets, at + SETS_OFFSET),
-                            }
-                        }
-                    }
-                }
-            }
-        }
-    }
+    let exclusive = fields::byte_field(s, at, at + EXCLUSIVE_OFFSET, 0, 1)? == 1;
+    let sets = fields::byte_field(s, at, at + SET_COUNT_OFFSET, 1, AGGREGATE_SET_CEILING)?;
+    let least = fields::active_field(s, at, at + MIN_ACTIVE_OFFSET, exclusive, 0)?;
+    fields::active_field(s, at, at + MAX_ACTIVE_OFFSET, exclusive, least)?;
+    check_sets(s, at, nodes, sets, at + SETS_OFFSET)
 }
 
 // The fields of the record at `at`.
@@ -127,7 +91,7 @@ pub fn set_count(s: &[u8], at: usize) -> usize
     requires { at + sets_offset ≤ length s.now }
     ensures { (result ≡ byte s.now (at + set_count_offset)) × (result < 256) }
 {
-    widths::wide8(s[at + SET_COUNT_OFFSET])
+    usize::from(s[at + SET_COUNT_OFFSET])
 }
 
 pub fn min_active(s: &[u8], at: usize) -> u32
@@ -157,7 +121,7 @@ pub fn set_size(s: &[u8], at: usize) -> usize
     requires { at < length s.now }
     ensures { (result ≡ byte s.now at) × (result < 256) }
 {
-    widths::wide8(s[at])
+    usize::from(s[at])
 }
 
 pub fn member(s: &[u8], at: usize, k: usize) -> NodeIndex
@@ -181,10 +145,8 @@ pub fn aggregate_end(s: &[u8], at: usize) -> usize
 {
     let count = set_count(s, at);
     let mut here = at + SETS_OFFSET;
-    let mut i: usize = 0;
-    while i < count {
+    for _ in 0..count {
         here = set_end(s, here);
-        i += 1;
     }
     here
 }

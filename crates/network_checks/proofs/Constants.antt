@@ -5,6 +5,7 @@ use mathlib.Core.Bool.{Bool, true, false, ◌&&◌, ◌||◌}
 use mathlib.Core.Option.{none, some}
 use lib.Ieee.{inf, lt, eq}
 use Rattle.pywr.specs.Network.{Node, Network, is_exclusive}
+use Rattle.network_checks.proofs.NodeLoops.{refused_here, refused_later, refused_none}
 use Rattle.pywr.specs.NetworkFile.{bad_constant}
 
 module _ (net : Network) (i : ℕ) (x : Node) where
@@ -20,3 +21,6 @@ module _ (net : Network) (i : ℕ) (x : Node) where
     pub bounded : (x.constant && mark && (eq x.max (inf true) || eq x.min (inf false))) ≡ false → bad_constant net i x ≡ none
     unfolding bad_constant
     bounded f = rw (e, ← p, f)
+
+-- for the loop that asks 9 and 10 of each node
+pub ruleset constant_turns = (refused_here, refused_later, refused_none, crossed, unbounded, bounded)

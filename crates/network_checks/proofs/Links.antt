@@ -5,6 +5,7 @@ use mathlib.Core.Bool.{Bool, true, false, cond, not, ◌&&◌, ◌||◌}
 use mathlib.Core.Option.{none, some}
 use lib.Dec.{eqb}
 use Rattle.pywr.specs.Network.{link, Node, Network, incoming, outgoing}
+use Rattle.network_checks.proofs.NodeLoops.{refused_here, refused_later, refused_none}
 use Rattle.pywr.specs.NetworkFile.{is_empty, unconnected_link}
 
 not_not : (b : Bool) → not (not b) ≡ b
@@ -21,3 +22,6 @@ module _ (net : Network) (i : ℕ) (x : Node) (into out : Bool) (p : into ≡ no
 
   pub connected : (eqb x.kind link && (not into || not out)) ≡ false → unconnected_link net i x ≡ none
   connected e = by_marks ∙ rw e
+
+-- for the loop that asks 8 of each node
+pub ruleset link_turns = (refused_here, refused_later, refused_none, unconnected, connected)

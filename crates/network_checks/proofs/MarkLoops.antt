@@ -1,6 +1,6 @@
 -- A turn of each loop that marks nodes. Assumes nothing.
 use Prim.Native.Nat.{ℕ, ◌+◌, ◌*◌, ◌-◌, ◌<◌, ◌≤◌}
-use mathlib.Core.Path.{◌≡◌, ◌∙◌, ap}
+use mathlib.Core.Path.{◌≡◌}
 use mathlib.Core.List.{List, map}
 use mathlib.Core.Bool.{Bool, true, cond}
 use native.Mathlib.Omega.{arith}
@@ -8,16 +8,13 @@ use lib.ListN.{length, set}
 use Rattle.pywr.specs.Bytes.{byte, le16}
 use Rattle.pywr.specs.Network.{Edge}
 use Rattle.fields.specs.Records.{records_at}
-use Rattle.fields.proofs.RecordLaws.{records_left, end_after}
+use Rattle.fields.proofs.RecordLaws.{records_left, records_over, end_after, end_more, end_none}
 use Rattle.network_edge.specs.Edge.{edge_at}
 use Rattle.network_aggregate.specs.AggregatedNode.{aggregate_set_at, set_end, aggregate_at, aggregate_end}
 use Rattle.network_laws.specs.Passed.{AggregatePassed}
 use Rattle.network_checks.specs.Marks.{mark_all, mark_sets, mark_exclusive}
 
--- one end of edge j, as it is read
-pub end_read : (file : List ℕ) (n k j : ℕ) (end : Edge → ℕ) (x y : ℕ) → k ≡ j → x ≡ y → y ≡ end (edge_at file (20 * n + 6 * k)) → x ≡ end (edge_at file (20 * n + 6 * j))
-end_read file n k j end x y q r s = r ∙ s ∙ ap (λ (i : ℕ). end (edge_at file (20 * n + 6 * i))) q
-
+-- edge j
 module _ (file : List ℕ) (n e j : ℕ) (end : Edge → ℕ) (marks : List Bool) (x : ℕ) where
   pub mark_edge : j < e → x ≡ end (edge_at file (20 * n + 6 * j))
       → mark_all (map end (records_at (edge_at file) (λ at. at + 6) (e - j) (20 * n + 6 * j))) marks
@@ -55,3 +52,6 @@ pub mark_aggregate : (file : List ℕ) (a k at : ℕ) (marks : List Bool) → k 
     (cond (aggregate_at file at).exclusive (mark_sets (aggregate_at file at).sets marks) marks)
 unfolding mark_exclusive
 mark_aggregate file a k at marks lt = rw (records_left (aggregate_end file) a k at lt (aggregate_at file))
+
+-- for a function that marks nodes
+pub ruleset marking = (fields_within, mark_edge, mark_member, mark_one_set, mark_aggregate, records_over, end_more, end_none)

@@ -1,7 +1,7 @@
 // Refusals 7 to 10: what is asked of a network once its records are all accepted.
 #![tactic(auto)]
 
-ghost use Rattle.std.specs.Prelude.{◌≡◌, true, false, not, ◌&&◌, ◌||◌, map, ℕ, ◌+◌, ◌<◌, ◌≤◌, length, get_or, eqb};
+ghost use Rattle.std.specs.Prelude.{◌≡◌, true, false, not, ◌&&◌, ◌||◌, map, ℕ, ◌+◌, ◌<◌, ◌≤◌, length, get_or, eqb, replicate};
 ghost use Rattle.std.specs.Float.{inf};
 ghost use Rattle.std.specs.Float.Ieee.{lt, eq};
 ghost use Rattle.layout.specs.Layout.{node_ceiling, edge_ceiling};
@@ -19,142 +19,107 @@ ghost use Rattle.network_checks.specs.Marks.{mark_all, mark_sets, mark_exclusive
 ghost use Rattle.network_checks.specs.Refusal.{found_by, result_with};
 
 use layout::NODE_CEILING;
+use network_node::NodeKind;
 use network_record::Counts;
-use pywr::{EdgeIndex, NodeIndex};
+use pywr::{Answer, EdgeIndex, NodeIndex, Reason};
 
-// No refusal, or one's number and place.
-#[derive(Clone, Copy)]
-pub enum Refusal {
-    Nothing,
-    At(u8, usize),
+// Of each node, whether an edge goes to it, and whether one comes from it.
+#[derive(Drop)]
+struct Linked {
+    into: [bool; NODE_CEILING],
+    out: [bool; NODE_CEILING],
 }
 
-// Marks in `into` the node that each edge goes to, and in `out` the node that it comes from.
-fn mark_ends(
-    s: &[u8],
-    n: usize,
-    e: usize,
-    into: &mut [bool; NODE_CEILING],
-    out: &mut [bool; NODE_CEILING],
-)
+// Marks the nodes that the e edges go to, and those that they come from.
+#[tactic(auto, using(crate::proofs::MarkLoops::marking), unfolding(crate::specs::Marks::mark_all))]
+fn mark_ends(s: &[u8], n: usize, e: usize) -> Linked
     requires { (n ≤ node_ceiling) × (e ≤ edge_ceiling) × ((j : ℕ) → j < e → EdgePassed s.now n (edge_place n j)) }
-    ensures { (into.new ≡ mark_all (map target (edge_records s.now n e)) into.old)
-        × (out.new ≡ mark_all (map source (edge_records s.now n e)) out.old) }
-{
-    let mut j: usize = 0;
-    while j < e {
-        let i = EdgeIndex(widths::narrow16(j));
-        let to = network_edge::to_node_index(s, n, i);
-        let from = network_edge::from_node_index(s, n, i);
-        let t = widths::wide16(to.0);
-        let f = widths::wide16(from.0);
-        into[t] = true;
-        out[f] = true;
-        j += 1;
-    }
-}
-
-// 8 of node i: a link that no edge goes to, or that none comes from.
-fn is_unconnected(
-    s: &[u8],
-    i: NodeIndex,
-    into: &[bool; NODE_CEILING],
-    out: &[bool; NODE_CEILING],
-) -> bool
-    requires { (i.0 < node_ceiling) × (node_place i.0 + node_length ≤ length s.now) }
-    ensures { result ≡ (eqb (node_at s.now (node_place i.0)).kind link && (not (get_or into.now i.0 false) || not (get_or out.now i.0 false))) }
-{
-    let k = widths::wide16(i.0);
-    if network_node::kind(s, i) == 2 {
-        if into[k] {
-            if out[k] {
-                return false;
-            }
-            return true;
-        }
-        return true;
-    }
-    false
-}
-
-// The first node that 8 refuses.
-fn first_unconnected(
-    s: &[u8],
-    c: Counts,
-    into: &[bool; NODE_CEILING],
-    out: &[bool; NODE_CEILING],
-) -> Refusal
-    requires { (c.nodes ≤ node_ceiling) × (node_place c.nodes ≤ length s.now)
-        × MarkedBy (λ i. not (is_empty (incoming (network_of s.now c) i))) c.nodes into.now
-        × MarkedBy (λ i. not (is_empty (outgoing (network_of s.now c) i))) c.nodes out.now }
-    ensures { found_by result ≡ first_refused (unconnected_link (network_of s.now c)) 0 (node_records s.now c.nodes) }
-{
-    let mut i: usize = 0;
-    while i < c.nodes {
-        if is_unconnected(s, NodeIndex(widths::narrow16(i)), into, out) {
-            return Refusal::At(8, i);
-        }
-        i += 1;
-    }
-    Refusal::Nothing
-}
-
-// 8 by node.
-fn check_links(s: &[u8], c: Counts) -> Refusal
-    requires { SectionsOf s.now c }
-    ensures { found_by result ≡ first_refused (unconnected_link (network_of s.now c)) 0 (node_records s.now c.nodes) }
+    ensures { (result.into ≡ mark_all (map target (edge_records s.now n e)) (replicate node_ceiling false))
+        × (result.out ≡ mark_all (map source (edge_records s.now n e)) (replicate node_ceiling false)) }
 {
     let mut into = [false; NODE_CEILING];
     let mut out = [false; NODE_CEILING];
-    mark_ends(s, c.nodes, c.edges, &mut into, &mut out);
-    first_unconnected(s, c, &into, &out)
+    for j in 0..e {
+        let edge = EdgeIndex(j as u16);
+        into[usize::from(network_edge::to_node_index(s, n, edge).0)] = true;
+        out[usize::from(network_edge::from_node_index(s, n, edge).0)] = true;
+    }
+    Linked { into, out }
+}
+
+// 8 of node i: a link that no edge goes to, or that none comes from.
+#[tactic(auto, unfolding(network_node::specs::Node::node_kind))]
+fn is_unconnected(s: &[u8], i: NodeIndex, linked: &Linked) -> bool
+    requires { (i.0 < node_ceiling) × (node_place i.0 + node_length ≤ length s.now) }
+    ensures { result ≡ (eqb (node_at s.now (node_place i.0)).kind link && (not (get_or linked.now.into i.0 false) || not (get_or linked.now.out i.0 false))) }
+{
+    let k = usize::from(i.0);
+    network_node::kind(s, i) == NodeKind::Link && (!linked.into[k] || !linked.out[k])
+}
+
+// The first node that 8 refuses.
+#[tactic(auto, using(crate::proofs::Links::link_turns))]
+fn first_unconnected(s: &[u8], c: Counts, linked: &Linked) -> Answer
+    requires { (c.nodes ≤ node_ceiling) × (node_place c.nodes ≤ length s.now)
+        × MarkedBy (λ i. not (is_empty (incoming (network_of s.now c) i))) c.nodes linked.now.into
+        × MarkedBy (λ i. not (is_empty (outgoing (network_of s.now c) i))) c.nodes linked.now.out }
+    ensures { found_by result ≡ first_refused (unconnected_link (network_of s.now c)) 0 (node_records s.now c.nodes) }
+{
+    for i in 0..c.nodes {
+        if is_unconnected(s, NodeIndex(i as u16), linked) {
+            return Err(Reason::UnconnectedLink.at(i));
+        }
+    }
+    Ok(())
+}
+
+// 8 by node.
+fn check_links(s: &[u8], c: Counts) -> Answer
+    requires { SectionsOf s.now c }
+    ensures { found_by result ≡ first_refused (unconnected_link (network_of s.now c)) 0 (node_records s.now c.nodes) }
+{
+    first_unconnected(s, c, &mark_ends(s, c.nodes, c.edges))
 }
 
 // Marks the nodes of the set at `at`.
+#[tactic(auto, using(crate::proofs::MarkLoops::marking), unfolding(crate::specs::Marks::mark_all))]
 fn mark_set(s: &[u8], at: usize, marks: &mut [bool; NODE_CEILING])
     requires { SetPassed s.now node_ceiling at }
     ensures { marks.new ≡ mark_all (aggregate_set_at s.now at) marks.old }
 {
     let size = network_aggregate::set_size(s, at);
-    let mut k: usize = 0;
-    while k < size {
-        let m = network_aggregate::member(s, at, k);
-        let i = widths::wide16(m.0);
-        marks[i] = true;
-        k += 1;
+    for k in 0..size {
+        marks[usize::from(network_aggregate::member(s, at, k).0)] = true;
     }
 }
 
 // Marks the nodes of every set of the aggregate at `at`, and answers where the aggregate ends.
+#[tactic(auto, using(crate::proofs::MarkLoops::marking), unfolding(crate::specs::Marks::mark_sets))]
 fn mark_sets(s: &[u8], at: usize, marks: &mut [bool; NODE_CEILING]) -> usize
     requires { AggregatePassed s.now node_ceiling at }
     ensures { (result ≡ aggregate_end s.now at) × (marks.new ≡ mark_sets (aggregate_at s.now at).sets marks.old) }
 {
     let count = network_aggregate::set_count(s, at);
     let mut here = network_aggregate::sets_at(at);
-    let mut i: usize = 0;
-    while i < count {
+    for _ in 0..count {
         mark_set(s, here, marks);
         here = network_aggregate::set_end(s, here);
-        i += 1;
     }
     here
 }
 
 // Marks the nodes that an exclusive aggregate lists; the a aggregates start at `start`.
+#[tactic(auto, using(crate::proofs::MarkLoops::marking), unfolding(crate::specs::Marks::mark_exclusive))]
 fn mark_exclusive(s: &[u8], start: usize, a: usize, marks: &mut [bool; NODE_CEILING])
     requires { (start ≤ length s.now) × ((k : ℕ) → k < a → AggregatePassed s.now node_ceiling (records_end (aggregate_end s.now) k start)) }
     ensures { marks.new ≡ mark_exclusive (records_at (aggregate_at s.now) (aggregate_end s.now) a start) marks.old }
 {
     let mut at = start;
-    let mut k: usize = 0;
-    while k < a {
+    for _ in 0..a {
         if network_aggregate::is_exclusive(s, at) {
             at = mark_sets(s, at, marks);
-            k += 1;
         } else {
             at = network_aggregate::aggregate_end(s, at);
-            k += 1;
         }
     }
 }
@@ -164,12 +129,7 @@ fn is_crossed(s: &[u8], i: NodeIndex) -> bool
     requires { NodePassed s.now (node_place i.0) }
     ensures { result ≡ ((node_at s.now (node_place i.0)).constant && lt (node_at s.now (node_place i.0)).max (node_at s.now (node_place i.0)).min) }
 {
-    if network_node::is_constant(s, i) {
-        let max = network_node::max(s, i);
-        let min = network_node::min(s, i);
-        return max < min;
-    }
-    false
+    network_node::is_constant(s, i) && network_node::max(s, i) < network_node::min(s, i)
 }
 
 // 10 of node i: an exclusive constant's max −infinity or min +infinity.
@@ -178,41 +138,33 @@ fn is_unbounded(s: &[u8], i: NodeIndex, exclusive: &[bool; NODE_CEILING]) -> boo
     ensures { result ≡ ((node_at s.now (node_place i.0)).constant && get_or exclusive.now i.0 false
         && (eq (node_at s.now (node_place i.0)).max (inf true) || eq (node_at s.now (node_place i.0)).min (inf false))) }
 {
-    let k = widths::wide16(i.0);
-    if network_node::is_constant(s, i) {
-        if exclusive[k] {
-            if network_node::max(s, i) == f64::from_bits(0xfff0000000000000) {
-                return true;
-            }
-            return network_node::min(s, i) == f64::from_bits(0x7ff0000000000000);
-        }
-        return false;
-    }
-    false
+    network_node::is_constant(s, i)
+        && exclusive[usize::from(i.0)]
+        && (network_node::max(s, i) == f64::NEG_INFINITY
+            || network_node::min(s, i) == f64::INFINITY)
 }
 
 // The first node that 9 or 10 refuses.
-fn first_bad_constant(s: &[u8], c: Counts, exclusive: &[bool; NODE_CEILING]) -> Refusal
+#[tactic(auto, using(crate::proofs::Constants::constant_turns))]
+fn first_bad_constant(s: &[u8], c: Counts, exclusive: &[bool; NODE_CEILING]) -> Answer
     requires { (c.nodes ≤ node_ceiling) × ((i : ℕ) → i < c.nodes → NodePassed s.now (node_place i))
         × MarkedBy (is_exclusive (network_of s.now c).aggregates) c.nodes exclusive.now }
     ensures { found_by result ≡ first_refused (bad_constant (network_of s.now c)) 0 (node_records s.now c.nodes) }
 {
-    let mut i: usize = 0;
-    while i < c.nodes {
-        let node = NodeIndex(widths::narrow16(i));
+    for i in 0..c.nodes {
+        let node = NodeIndex(i as u16);
         if is_crossed(s, node) {
-            return Refusal::At(9, i);
+            return Err(Reason::CrossedConstant.at(i));
         }
         if is_unbounded(s, node, exclusive) {
-            return Refusal::At(10, i);
+            return Err(Reason::UnboundedConstant.at(i));
         }
-        i += 1;
     }
-    Refusal::Nothing
+    Ok(())
 }
 
 // By node 9, then 10.
-fn check_constants(s: &[u8], c: Counts) -> Refusal
+fn check_constants(s: &[u8], c: Counts) -> Answer
     requires { SectionsOf s.now c }
     ensures { found_by result ≡ first_refused (bad_constant (network_of s.now c)) 0 (node_records s.now c.nodes) }
 {
@@ -227,16 +179,14 @@ fn check_constants(s: &[u8], c: Counts) -> Refusal
 }
 
 // 7, 8, then by node 9 and 10, of a file whose records were all accepted.
-pub fn check_network(s: &[u8], c: Counts) -> Refusal
+#[tactic(auto, using(crate::proofs::Checks::checked), unfolding(network_laws::specs::NetworkAt::network_at))]
+pub fn check_network(s: &[u8], c: Counts) -> Answer
     requires { SectionsOf s.now c }
     ensures { check_network (network_of s.now c) ≡ result_with (network_of s.now c) result }
 {
     if c.edges == 0 {
-        return Refusal::At(7, 0);
+        return Err(Reason::NoEdges.at(0));
     }
-    let r = check_links(s, c);
-    match r {
-        Refusal::At(n, p) => Refusal::At(n, p),
-        Refusal::Nothing => check_constants(s, c),
-    }
+    check_links(s, c)?;
+    check_constants(s, c)
 }

@@ -1,10 +1,11 @@
 -- An `ED` record by its bytes: what it holds, and its check, which answers where the next record starts or the refusal.
 -- Assumes nothing.
-use Rattle.std.specs.Prelude.{ℕ, zero, suc, ◌+◌, ◌*◌, List, Bool, false, cond, ◌&&◌, ◌||◌, eqb}
+use Rattle.std.specs.Prelude.{ℕ, zero, suc, ◌+◌, ◌*◌, List, Bool, false, cond, ◌&&◌, ◌||◌, eqb, Ok, Err}
 use Rattle.pywr.specs.Bytes.{byte, le16}
+use Rattle.pywr.specs.declared.Reason.{Reason}
+use Rattle.pywr.specs.Answers.{refusal_at}
 use Rattle.pywr.specs.Network.{input, output, Edge, source, target}
-use Rattle.fields.specs.Field.{node_field, field_then}
-use Rattle.fields.specs.declared.Checked.{Checked}
+use Rattle.fields.specs.Field.{Checked, node_field, check_then}
 use Rattle.network_node.specs.Node.{kind_offset, node_place}
 use Rattle.network_edge.specs.declared.End.{End}
 
@@ -43,11 +44,11 @@ wrong_way_at file from to = eqb (byte file (node_place to + kind_offset)) input 
 -- an edge whose ends are nodes: 5, 19 and 20 in turn, at the `from` field of its record at `at`
 unfoldable pub check_ends : List ℕ → ℕ → ℕ → ℕ → ℕ → ℕ → Checked
 check_ends file nodes edges at from to =
-    cond (wrong_way_at file from to) (Checked.Refused 5 (at + from_offset))
-    (cond (eqb from to) (Checked.Refused 19 (at + from_offset))
-    (cond (pair_among file edges (node_place nodes) from to) (Checked.Refused 20 (at + from_offset)) (Checked.Next (at + edge_length))))
+    cond (wrong_way_at file from to) (Err (refusal_at Reason.WrongEnd (at + from_offset)))
+    (cond (eqb from to) (Err (refusal_at Reason.EdgeToItself (at + from_offset)))
+    (cond (pair_among file edges (node_place nodes) from to) (Err (refusal_at Reason.RepeatedEdge (at + from_offset))) (Ok (at + edge_length))))
 
 unfoldable pub check_edge : List ℕ → ℕ → ℕ → ℕ → Checked
 check_edge file nodes edges at =
-    field_then (node_field file at (at + from_offset) nodes) (λ from.
-    field_then (node_field file at (at + to_offset) nodes) (λ to. check_ends file nodes edges at from to))
+    check_then (node_field file at (at + from_offset) nodes) (λ from.
+    check_then (node_field file at (at + to_offset) nodes) (λ to. check_ends file nodes edges at from to))

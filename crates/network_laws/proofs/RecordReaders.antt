@@ -14,7 +14,10 @@ use Rattle.pywr.specs.Numbers.{is_small, of_pattern}
 use Rattle.pywr.specs.Network.{Node, Edge, Part, Network, kind_of, no_node}
 use Rattle.pywr.specs.NetworkFile.{Read, between, read_node, read_edge, read_members, read_sets, read_aggregate, read_parts, read_virtual_storage, joins, wrong_way, least_date, most_date, most_constant}
 use Rattle.fields.specs.Records.{records_at, records_end, check_each}
-use Rattle.fields.specs.declared.Checked.{Checked}
+use Rattle.std.specs.Prelude.{Ok, Err}
+use Rattle.pywr.specs.declared.Reason.{Reason}
+use Rattle.pywr.specs.Answers.{number_of_reason, refusal_at}
+use Rattle.fields.specs.Field.{Checked}
 use Rattle.fields.proofs.RecordLaws.{records_length, records_get, end_fixed}
 use Rattle.network_node.specs.Node.{node_at, check_node}
 use Rattle.network_edge.specs.Edge.{edge_at, pair_among, wrong_way_at, check_ends, check_edge}
@@ -28,8 +31,8 @@ use Rattle.network_laws.proofs.Passed.{member_end, set_end_lem, part_end}
 read_last : {A B : Type 0} (f : A → B) (part : A) (st : Checked)
     → (answer part st >>= λ r. value (record { item = f r.item; next = r.next })) ≡ answer (f part) st
 unfolding ◌>>=◌
-read_last f part (Checked.Next x) = refl
-read_last f part (Checked.Refused n p) = refl
+read_last f part (Ok x) = refl
+read_last f part (Err r) = refl
 
 bind_assoc : {A B C : Type 0} (r : Result A) (f : A → Result B) (g : B → Result C) → (r >>= f >>= g) ≡ (r >>= λ a. f a >>= g)
 unfolding ◌>>=◌
@@ -42,7 +45,7 @@ bind_cong (value a) f g e = e a
 bind_cong (refused n p) f g e = refl
 
 -- a reader of `count` records, which keeps those read so far: by induction, once for all of the definition's
-module _ {A : Type 0} (read : ℕ → A) (end : ℕ → ℕ) (check : ℕ → Checked) (ends : (at x : ℕ) → check at ≡ Checked.Next x → x ≡ end at)
+module _ {A : Type 0} (read : ℕ → A) (end : ℕ → ℕ) (check : ℕ → Checked) (ends : (at x : ℕ) → check at ≡ Ok x → x ≡ end at)
     (many : ℕ → List A → ℕ → Result (Read (List A)))
     (none : (so_far : List A) (at : ℕ) → many zero so_far at ≡ value (record { item = so_far; next = at }))
     (more : (count : ℕ) (so_far : List A) (at : ℕ) → many (suc count) so_far at ≡ (answer (read at) (check at) >>= λ r. many count (so_far ++ (r.item ∷ [])) r.next))
@@ -159,11 +162,11 @@ module _ (file : List ℕ) where
   way_law n e a v from to f t = rw (kind_law n to t, kind_law n from f)
 
   -- 5, 19, 20: one law over the number
-  need_law : (b : Bool) (number place : ℕ) (edge : Edge) (next : Edge → Result (Read Edge)) (st : Checked) → next edge ≡ answer edge st
-      → (need (not b) number place edge >>= next) ≡ answer edge (cond b (Checked.Refused number place) st)
+  need_law : (b : Bool) (reason : Reason) (place : ℕ) (edge : Edge) (next : Edge → Result (Read Edge)) (st : Checked) → next edge ≡ answer edge st
+      → (need (not b) (number_of_reason reason) place edge >>= next) ≡ answer edge (cond b (Err (refusal_at reason place)) st)
   unfolding need ◌>>=◌
-  need_law true number place edge next st h = refl
-  need_law false number place edge next st h = h
+  need_law true reason place edge next st h = refl
+  need_law false reason place edge next st h = h
 
   pub edge_law : (n e a v at : ℕ) → read_edge (network_at file n e a v) file at ≡ answer (edge_at file at) (check_edge file n e at)
   unfolding read_edge check_edge check_ends network_at
@@ -181,5 +184,5 @@ module _ (file : List ℕ) where
       (λ f. node_then _ _ _ file at (at + 4) n
       (λ t. ap (λ (wrong : Bool). answers wrong repeats) (way_law n e a v from to (ltb-true _ _ f) (ltb-true _ _ t))
       ∙ ap (answers (wrong_way_at file from to)) (joins_law e (20 * n) from to)
-      ∙ need_law (wrong_way_at file from to) 5 (at + 2) edge _ _
-      (need_law (eqb from to) 19 (at + 2) edge _ _ (need_law (pair_among file e (20 * n) from to) 20 (at + 2) edge read _ refl)))))
+      ∙ need_law (wrong_way_at file from to) Reason.WrongEnd (at + 2) edge _ _
+      (need_law (eqb from to) Reason.EdgeToItself (at + 2) edge _ _ (need_law (pair_among file e (20 * n) from to) Reason.RepeatedEdge (at + 2) edge read _ refl)))))

@@ -1,1 +1,2 @@
 pub mod BoundWithin
+pub mod KindLaws

@@ -1,27 +1,33 @@
 // One record of the network file, behind the records before it: its mark, its count, its check.
 #![tactic(auto)]
 
-ghost use Rattle.std.specs.Prelude.{◌≡◌, ◌+◌, ◌<◌, ◌≤◌, length};
+ghost use Rattle.std.specs.Prelude.{◌≡◌, true, ◌+◌, ◌<◌, ◌≤◌, length};
 ghost use Rattle.layout.specs.Layout.{node_ceiling};
 ghost use Rattle.fields.specs.Field.{NextWithin};
 ghost use Rattle.network_edge.specs.Edge.{edge_place};
-ghost use Rattle.network_record.specs.Record.{mark_rank, check_ranked, check_record, RecordPassed};
+ghost use Rattle.network_record.specs.Record.{rank, mark_at, with_record, has_room, check_marked, check_record, RecordPassed};
 
-use fields::Checked;
 use layout::{AGGREGATE_CEILING, EDGE_CEILING, NODE_CEILING, VIRTUAL_STORAGE_CEILING};
+use pywr::{Reason, Refusal};
 
-// A record: its kind and where the next one starts, or a refusal's number and place.
+// The mark of a record, in the order of the file's sections.
+#[derive(Clone, Copy, PartialEq, Eq, PartialOrd, Ord)]
+pub enum Mark {
+    Node,
+    Edge,
+    Aggregate,
+    VirtualStorage,
+}
+
+// A record: its mark, and where the next one starts.
 #[derive(Clone, Copy)]
-pub enum Record {
-    Node(usize),
-    Edge(usize),
-    Aggregate(usize),
-    VirtualStorage(usize),
-    Refused(u8, usize),
+pub struct Record {
+    pub mark: Mark,
+    pub end: usize,
 }
 
 // The records of a whole file: how many of each kind, and where the virtual storages start.
-#[derive(Clone, Copy)]
+#[derive(Clone, Copy, Default)]
 pub struct Counts {
     pub nodes: usize,
     pub edges: usize,
@@ -30,104 +36,83 @@ pub struct Counts {
     pub virtual_storages_at: usize,
 }
 
-// The rank of the mark at `at` among ND, ED, AG, VS; 4 of any other.
-fn mark_rank(s: &[u8], at: usize) -> usize
+impl Counts {
+    // The counts with one record more.
+    pub fn with(self, read: Record) -> Counts
+        requires { has_room self read.mark ≡ true }
+        ensures { result ≡ with_record self read.mark read.end }
+    {
+        let mut c = self;
+        match read.mark {
+            Mark::Node => c.nodes += 1,
+            Mark::Edge => c.edges += 1,
+            Mark::Aggregate => c.aggregates += 1,
+            Mark::VirtualStorage => c.virtual_storages += 1,
+        }
+        if read.mark != Mark::VirtualStorage {
+            c.virtual_storages_at = read.end;
+        }
+        c
+    }
+
+    // Whether one record more of this mark is within its ceiling.
+    fn has_room(self, mark: Mark) -> bool
+        ensures { result ≡ has_room self mark }
+    {
+        match mark {
+            Mark::Node => self.nodes < NODE_CEILING,
+            Mark::Edge => self.edges < EDGE_CEILING,
+            Mark::Aggregate => self.aggregates < AGGREGATE_CEILING,
+            Mark::VirtualStorage => self.virtual_storages < VIRTUAL_STORAGE_CEILING,
+        }
+    }
+}
+
+// The mark at `at`, if it is one of the four.
+#[tactic(auto, unfolding(crate::specs::Record::mark_at))]
+fn mark_at(s: &[u8], at: usize) -> Option<Mark>
     requires { at + 2 ≤ length s.now }
-    ensures { result ≡ mark_rank s.now at }
+    ensures { result ≡ mark_at s.now at }
 {
-    if s[at] == b'N' {
-        if s[at + 1] == b'D' {
-            return 0;
-        }
-        return 4;
+    match (s[at], s[at + 1]) {
+        (b'N', b'D') => Some(Mark::Node),
+        (b'E', b'D') => Some(Mark::Edge),
+        (b'A', b'G') => Some(Mark::Aggregate),
+        (b'V', b'S') => Some(Mark::VirtualStorage),
+        _ => None,
     }
-    if s[at] == b'E' {
-        if s[at + 1] == b'D' {
-            return 1;
-        }
-        return 4;
-    }
-    if s[at] == b'A' {
-        if s[at + 1] == b'G' {
-            return 2;
-        }
-        return 4;
-    }
-    if s[at] == b'V' {
-        if s[at + 1] == b'S' {
-            return 3;
-        }
-        return 4;
-    }
-    4
 }
 
-// The record at `at`, whose mark has rank m, behind n nodes, e edges, a aggregates and v virtual storages: 6, or its check.
-fn check_ranked(s: &[u8], at: usize, m: usize, n: usize, e: usize, a: usize, v: usize) -> Checked
-    requires { (at + 2 ≤ length s.now) × (m ≡ 1 → edge_place n e ≤ length s.now) × (n ≤ node_ceiling) }
-    ensures { (result ≡ check_ranked s.now at n e a v m) × NextWithin result (length s.now) }
+// The record at `at`, which has this mark, behind the records counted so far: 6, or its check.
+#[tactic(auto, unfolding(crate::specs::Record::check_marked))]
+fn check_marked(s: &[u8], at: usize, mark: Mark, c: Counts) -> Result<usize, Refusal>
+    requires { (at + 2 ≤ length s.now) × (mark ≡ Mark.Edge → edge_place c.nodes c.edges ≤ length s.now) × (c.nodes ≤ node_ceiling) }
+    ensures { (result ≡ check_marked s.now at c mark) × NextWithin result (length s.now) }
 {
-    if m == 0 {
-        if NODE_CEILING <= n {
-            return Checked::Refused(6, at);
-        }
-        return network_node::check_node(s, at);
+    if !c.has_room(mark) {
+        return Err(Reason::TooManyRecords.at(at));
     }
-    if m == 1 {
-        if EDGE_CEILING <= e {
-            return Checked::Refused(6, at);
-        }
-        return network_edge::check_edge(s, n, e, at);
+    match mark {
+        Mark::Node => network_node::check_node(s, at),
+        Mark::Edge => network_edge::check_edge(s, c.nodes, c.edges, at),
+        Mark::Aggregate => network_aggregate::check_aggregate(s, c.nodes, at),
+        Mark::VirtualStorage => network_virtual_storage::check_virtual_storage(s, c.nodes, at),
     }
-    if m == 2 {
-        if AGGREGATE_CEILING <= a {
-            return Checked::Refused(6, at);
-        }
-        return network_aggregate::check_aggregate(s, n, at);
-    }
-    if m == 3 {
-        if VIRTUAL_STORAGE_CEILING <= v {
-            return Checked::Refused(6, at);
-        }
-        return network_virtual_storage::check_virtual_storage(s, n, at);
-    }
-    Checked::Refused(2, at)
 }
 
-// The record at `at`, behind n nodes, e edges, a aggregates and v virtual storages; `stage` is the rank of the record before.
-pub fn check_record(
-    s: &[u8],
-    at: usize,
-    stage: usize,
-    n: usize,
-    e: usize,
-    a: usize,
-    v: usize,
-) -> Record
-    requires { (at < length s.now) × (stage < 2 → edge_place n e ≤ at) × (n ≤ node_ceiling) }
-    ensures { (result ≡ check_record s.now at n e a v stage) × RecordPassed s.now at n e a v stage result }
+// The record at `at`, behind the records counted so far; `stage` is the mark of the record before, and a node's at the file's start.
+#[tactic(auto, unfolding(crate::specs::Record::check_record, crate::specs::Record::check_marked))]
+pub fn check_record(s: &[u8], at: usize, stage: Mark, c: Counts) -> Result<Record, Refusal>
+    requires { (at < length s.now) × (rank stage < 2 → edge_place c.nodes c.edges ≤ at) × (c.nodes ≤ node_ceiling) }
+    ensures { (result ≡ check_record s.now at c stage) × RecordPassed s.now at c stage result }
 {
-    if s.len() - at < 2 {
-        return Record::Refused(1, at);
+    if !fields::is_within(s, at, 2) {
+        return Err(Reason::FileEnds.at(at));
     }
-    let m = mark_rank(s, at);
-    if m < stage {
-        return Record::Refused(2, at);
+    let mark = mark_at(s, at).ok_or(Reason::WrongMark.at(at))?;
+    if mark < stage {
+        return Err(Reason::WrongMark.at(at));
     }
-    let r = check_ranked(s, at, m, n, e, a, v);
-    match r {
-        Checked::Refused(k, p) => Record::Refused(k, p),
-        Checked::Next(x) => {
-            if m == 0 {
-                return Record::Node(x);
-            }
-            if m == 1 {
-                return Record::Edge(x);
-            }
-            if m == 2 {
-                return Record::Aggregate(x);
-            }
-            Record::VirtualStorage(x)
-        }
-    }
+    let end = check_marked(s, at, mark, c)?;
+    Ok(Record { mark, end })
 }

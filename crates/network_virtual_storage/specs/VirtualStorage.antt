@@ -1,14 +1,13 @@
 -- A `VS` record by its bytes: what it holds, where it ends, and its check, which answers where the next record starts or the refusal.
 -- Assumes nothing.
-use Rattle.std.specs.Prelude.{ℕ, ◌+◌, ◌*◌, List, eqb}
+use Rattle.std.specs.Prelude.{ℕ, ◌+◌, ◌*◌, List, eqb, Ok}
 use Rattle.layout.specs.Layout.{part_ceiling}
 use Rattle.pywr.specs.Bytes.{byte, le16, le64}
 use Rattle.pywr.specs.Numbers.{of_pattern}
 use Rattle.pywr.specs.Network.{Part, Period, VirtualStorage}
 use Rattle.pywr.specs.NetworkFile.{least_date, most_date}
-use Rattle.fields.specs.Field.{byte_field, node_field, check_factor, field_then, check_then}
+use Rattle.fields.specs.Field.{Checked, byte_field, node_field, check_factor, check_then}
 use Rattle.fields.specs.Records.{records_at, check_each}
-use Rattle.fields.specs.declared.Checked.{Checked}
 
 -- where its fields and its parts stand in it
 abbrev pub period_offset : ℕ
@@ -66,21 +65,21 @@ module _ (file : List ℕ) where
 -- a part: a node and its factor
 unfoldable pub check_part : List ℕ → ℕ → ℕ → ℕ → Checked
 check_part file place nodes at =
-    field_then (node_field file place at nodes) (λ n. check_then (check_factor file place (at + factor_offset)) (λ next. Checked.Next (at + storage_part_length)))
+    check_then (node_field file place at nodes) (λ n. check_then (check_factor file place (at + factor_offset)) (λ next. Ok (at + storage_part_length)))
 
 -- start month, start day, end month, end day of the record at `at`
 unfoldable pub check_dates : List ℕ → ℕ → ℕ → Checked
 check_dates file at period =
-    field_then (byte_field file at (at + start_month_offset) (least_date period) (most_date period 12)) (λ m.
-    field_then (byte_field file at (at + start_day_offset) (least_date period) (most_date period 31)) (λ d.
-    field_then (byte_field file at (at + end_month_offset) (least_date period) (most_date period 12)) (λ m.
-    field_then (byte_field file at (at + end_day_offset) (least_date period) (most_date period 31)) (λ d.
-    Checked.Next (at + part_count_offset)))))
+    check_then (byte_field file at (at + start_month_offset) (least_date period) (most_date period 12)) (λ m.
+    check_then (byte_field file at (at + start_day_offset) (least_date period) (most_date period 31)) (λ d.
+    check_then (byte_field file at (at + end_month_offset) (least_date period) (most_date period 12)) (λ m.
+    check_then (byte_field file at (at + end_day_offset) (least_date period) (most_date period 31)) (λ d.
+    Ok (at + part_count_offset)))))
 
 -- the record at `at`, its mark apart
 unfoldable pub check_virtual_storage : List ℕ → ℕ → ℕ → Checked
 check_virtual_storage file nodes at =
-    field_then (byte_field file at (at + period_offset) 0 1) (λ period.
+    check_then (byte_field file at (at + period_offset) 0 1) (λ period.
     check_then (check_dates file at period) (λ next.
-    field_then (byte_field file at (at + part_count_offset) 1 part_ceiling) (λ n.
+    check_then (byte_field file at (at + part_count_offset) 1 part_ceiling) (λ n.
     check_each (check_part file at nodes) n (at + parts_offset))))

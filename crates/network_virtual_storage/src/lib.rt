@@ -5,14 +5,13 @@ ghost use Rattle.std.specs.Prelude.{◌≡◌, true, ◌+◌, ◌<◌, ◌≤◌
 ghost use Rattle.pywr.specs.Bytes.{byte, le64};
 ghost use Rattle.pywr.specs.Numbers.{is_small};
 ghost use Rattle.pywr.specs.NetworkFile.{least_date, most_date};
-ghost use Rattle.fields.specs.Field.{NextWithin};
+ghost use Rattle.fields.specs.Field.{flag, NextWithin};
 ghost use Rattle.fields.specs.Records.{check_each};
 ghost use Rattle.network_virtual_storage.specs.VirtualStorage.{part_at, period_at, virtual_storage_end, check_part, check_dates, check_virtual_storage, part_count_offset, parts_offset, factor_offset, part_place};
 ghost use Rattle.network_virtual_storage.specs.PeriodOf.{period_of};
 
-use fields::{Checked, Field};
 use layout::PART_CEILING;
-use pywr::NodeIndex;
+use pywr::{NodeIndex, Refusal};
 
 // A `VS` record: where its fields and its parts stand in it.
 const PERIOD_OFFSET: usize = 2;
@@ -44,109 +43,67 @@ pub struct Period {
     pub end_day: u8,
 }
 
-fn least_date(period: usize) -> usize
-    ensures { result ≡ least_date period }
+#[tactic(auto, unfolding(pywr::specs::NetworkFile::least_date))]
+fn least_date(dated: bool) -> usize
+    ensures { result ≡ least_date (flag dated) }
 {
-    if period == 0 {
-        return 0;
-    }
-    1
+    if dated { 1 } else { 0 }
 }
 
-fn most_date(period: usize, most: usize) -> usize
-    ensures { result ≡ most_date period most }
+#[tactic(auto, unfolding(pywr::specs::NetworkFile::most_date))]
+fn most_date(dated: bool, most: usize) -> usize
+    ensures { result ≡ most_date (flag dated) most }
 {
-    if period == 0 {
-        return 0;
-    }
-    most
+    if dated { most } else { 0 }
 }
 
 // `count` parts, from `at`.
-fn check_parts(s: &[u8], place: usize, nodes: usize, count: usize, at: usize) -> Checked
+#[tactic(auto, using(fields::proofs::RecordLaws::checked_in_turn), unfolding(crate::specs::VirtualStorage::check_part))]
+fn check_parts(
+    s: &[u8],
+    place: usize,
+    nodes: usize,
+    count: usize,
+    at: usize,
+) -> Result<usize, Refusal>
     requires { at ≤ length s.now }
     ensures { (result ≡ check_each (check_part s.now place nodes) count at) × NextWithin result (length s.now) }
 {
     let mut here = at;
-    let mut i: usize = 0;
-    while i < count {
-        let f = fields::node_field(s, place, here, nodes);
-        match f {
-            Field::Refused(n, p) => {
-                return Checked::Refused(n, p);
-            }
-            Field::Value(_) => {
-                let r = fields::check_factor(s, place, here + FACTOR_OFFSET);
-                match r {
-                    Checked::Refused(n, p) => {
-                        return Checked::Refused(n, p);
-                    }
-                    Checked::Next(_) => {
-                        here += STORAGE_PART_LENGTH;
-                        i += 1;
-                    }
-                }
-            }
-        }
+    for _ in 0..count {
+        fields::node_field(s, place, here, nodes)?;
+        fields::check_factor(s, place, here + FACTOR_OFFSET)?;
+        here += STORAGE_PART_LENGTH;
     }
-    Checked::Next(here)
+    Ok(here)
 }
 
-// The four date bytes of the record at `at`.
-fn check_dates(s: &[u8], at: usize, period: usize) -> Checked
+// The four date bytes of the record at `at`, which are 0 where it is not dated, and where the bytes after them start.
+#[tactic(auto, unfolding(crate::specs::VirtualStorage::check_dates))]
+fn check_dates(s: &[u8], at: usize, dated: bool) -> Result<usize, Refusal>
     requires { at + 2 ≤ length s.now }
-    ensures { result ≡ check_dates s.now at period }
+    ensures { result ≡ check_dates s.now at (flag dated) }
 {
-    let least = least_date(period);
-    let month = most_date(period, 12);
-    let day = most_date(period, 31);
-    let a = fields::byte_field(s, at, at + START_MONTH_OFFSET, least, month);
-    match a {
-        Field::Refused(n, p) => Checked::Refused(n, p),
-        Field::Value(_) => {
-            let b = fields::byte_field(s, at, at + START_DAY_OFFSET, least, day);
-            match b {
-                Field::Refused(n, p) => Checked::Refused(n, p),
-                Field::Value(_) => {
-                    let c = fields::byte_field(s, at, at + END_MONTH_OFFSET, least, month);
-                    match c {
-                        Field::Refused(n, p) => Checked::Refused(n, p),
-                        Field::Value(_) => {
-                            let d = fields::byte_field(s, at, at + END_DAY_OFFSET, least, day);
-                            match d {
-                                Field::Refused(n, p) => Checked::Refused(n, p),
-                                Field::Value(_) => Checked::Next(at + PART_COUNT_OFFSET),
-                            }
-                        }
-                    }
-                }
-            }
-        }
-    }
+    let least = least_date(dated);
+    let month = most_date(dated, 12);
+    let day = most_date(dated, 31);
+    fields::byte_field(s, at, at + START_MONTH_OFFSET, least, month)?;
+    fields::byte_field(s, at, at + START_DAY_OFFSET, least, day)?;
+    fields::byte_field(s, at, at + END_MONTH_OFFSET, least, month)?;
+    fields::byte_field(s, at, at + END_DAY_OFFSET, least, day)?;
+    Ok(at + PART_COUNT_OFFSET)
 }
 
-// The virtual storage whose record stands at `at`, of a network with `nodes` nodes.
-pub fn check_virtual_storage(s: &[u8], nodes: usize, at: usize) -> Checked
+// The virtual storage whose record stands at `at`, of a network with `nodes` nodes: where the next record starts.
+#[tactic(auto, using(fields::proofs::RecordLaws::checked_in_turn), unfolding(crate::specs::VirtualStorage::check_virtual_storage))]
+pub fn check_virtual_storage(s: &[u8], nodes: usize, at: usize) -> Result<usize, Refusal>
     requires { at + 2 ≤ length s.now }
     ensures { (result ≡ check_virtual_storage s.now nodes at) × NextWithin result (length s.now) }
 {
-    let k = fields::byte_field(s, at, at + PERIOD_OFFSET, 0, 1);
-    match k {
-        Field::Refused(n, p) => Checked::Refused(n, p),
-        Field::Value(period) => {
-            let d = check_dates(s, at, period);
-            match d {
-                Checked::Refused(n, p) => Checked::Refused(n, p),
-                Checked::Next(_) => {
-                    let c = fields::byte_field(s, at, at + PART_COUNT_OFFSET, 1, PART_CEILING);
-                    match c {
-                        Field::Refused(n, p) => Checked::Refused(n, p),
-                        Field::Value(count) => check_parts(s, at, nodes, count, at + PARTS_OFFSET),
-                    }
-                }
-            }
-        }
-    }
+    let dated = fields::byte_field(s, at, at + PERIOD_OFFSET, 0, 1)? == 1;
+    check_dates(s, at, dated)?;
+    let count = fields::byte_field(s, at, at + PART_COUNT_OFFSET, 1, PART_CEILING)?;
+    check_parts(s, at, nodes, count, at + PARTS_OFFSET)
 }
 
 // The fields of the record at `at`, and where it ends.
@@ -167,7 +124,7 @@ pub fn part_count(s: &[u8], at: usize) -> usize
     requires { at + parts_offset ≤ length s.now }
     ensures { (result ≡ byte s.now (at + part_count_offset)) × (result < 256) }
 {
-    widths::wide8(s[at + PART_COUNT_OFFSET])
+    usize::from(s[at + PART_COUNT_OFFSET])
 }
 
 pub fn virtual_storage_end(s: &[u8], at: usize) -> usize
@@ -185,13 +142,13 @@ pub fn part_node(s: &[u8], at: usize, k: usize) -> NodeIndex
     NodeIndex(fields::u16_at(s, at + PARTS_OFFSET + STORAGE_PART_LENGTH * k))
 }
 
+#[tactic(auto, using(fields::proofs::Nan::small_flow), unfolding(pywr::specs::Numbers::is_flow, pywr::specs::Numbers::of_pattern))]
 pub fn part_factor(s: &[u8], at: usize, k: usize) -> f64
     requires { (virtual_storage_end s.now at ≤ length s.now) × (k < byte s.now (at + part_count_offset)) × (is_small (le64 s.now (part_place at k + factor_offset)) ≡ true) }
     ensures { result ≡ (part_at s.now (part_place at k)).factor }
 {
-    let b = fields::u64_at(
+    f64::from_bits(fields::u64_at(
         s,
         at + PARTS_OFFSET + STORAGE_PART_LENGTH * k + FACTOR_OFFSET,
-    );
-    f64::from_bits(b)
+    ))
 }

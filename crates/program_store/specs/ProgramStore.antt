@@ -1,10 +1,9 @@
 -- The store of a program, whose runs it holds as one value, and what its calls leave there. The work runs are zero before each call.
 -- Assumes nothing.
-use Rattle.std.specs.Prelude.{◌≡◌, ℕ, List, replicate, Float}
+use Rattle.std.specs.Prelude.{◌≡◌, ℕ, List, replicate, Float, Ok, Err}
 use Rattle.layout.specs.Layout.{words_length, numbers_length, step_work_length}
 use Rattle.pywr.specs.declared.Sentinel.{Sentinel}
-use Rattle.pywr.specs.declared.Answer.{Answer}
-use Rattle.pywr.specs.declared.Answer.TheVariants.{Accepted, Refused}
+use Rattle.pywr.specs.Answer.{Answer}
 use Rattle.pywr.specs.Answers.{answer_of}
 use Rattle.pywr.specs.Numbers.{zero64}
 use Rattle.pywr.specs.Store.{Store, row_count}
@@ -49,15 +48,15 @@ pub record Stepped (file : List ℕ) (old : Store) (r : Answer) (new : Store) : 
 
 -- what is listed after a call: the programme, or the line of the refusal
 abbrev pub answer_text : Answer → Store → List ℕ
-answer_text Accepted s = programme_text s
-answer_text (Refused number place) s = refusal_line number place
+answer_text (Ok _) s = programme_text s
+answer_text (Err r) s = refusal_line r.number r.place
 
 -- what is said of the rows' makers after a call: of all rows, or the line of the refusal
 abbrev pub makers_answer_text : Answer → Store → List ℕ
-makers_answer_text Accepted s = makers_text s (row_count s)
-makers_answer_text (Refused number place) s = refusal_line number place
+makers_answer_text (Ok _) s = makers_text s (row_count s)
+makers_answer_text (Err r) s = refusal_line r.number r.place
 
 -- and of one row
 abbrev pub maker_answer_text : Answer → Store → ℕ → List ℕ
-maker_answer_text Accepted s row = maker_text s row
-maker_answer_text (Refused number place) s row = refusal_line number place
+maker_answer_text (Ok _) s row = maker_text s row
+maker_answer_text (Err r) s row = refusal_line r.number r.place

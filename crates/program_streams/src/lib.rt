@@ -3,7 +3,9 @@
 #![tactic(auto)]
 
 ghost use Rattle.std.specs.Prelude.{◌≡◌, ◌<◌, ◌≤◌, ℕ, length, take, IsOk, IfOk, OnOk, OnErr};
+ghost use Rattle.std.specs.Result.{result_ok};
 ghost use Rattle.std.specs.Io.KnownBytes.{Appends, Consumes, IsAtEnd};
+ghost use Rattle.program_streams.specs.Streams.{Grows};
 
 use std::io::{Cursor, ErrorKind, Read, Write};
 use std::rt::Files;
@@ -97,11 +99,104 @@ fn put_reason(error: &io::Error, words: &mut [u8]) -> usize
 }
 
 // Writes a line that says what failed, and why.
-pub fn write_failure<W: Write>(writer: &mut W, what: &[u8], error: &io::Error) -> io::Result<()> {
+pub fn write_failure<W: Write>(writer: &mut W, what: &[u8], error: &io::Error) -> io::Result<()>
+    ensures { Grows (W.contents writer.old) (W.contents writer.new) }
+{
     let mut words = [0u8; 256];
     let n = put_reason(error, &mut words);
     write_all(writer, what)?;
     write_all(writer, b": ")?;
     write_all(writer, &words[..n])?;
     write_all(writer, b"\n")
+}
+
+// What a program is called, and how it is used.
+#[derive(Clone, Copy)]
+pub struct Program {
+    pub name: &'static str,
+    pub usage: &'static str,
+}
+
+impl Program {
+    pub fn write_usage<W: Write>(&self, writer: &mut W) -> io::Result<()>
+        ensures whole { OnOk result (Appends (W.contents writer.old) (W.contents writer.new) self.now.usage.now) }
+        ensures grows { Grows (W.contents writer.old) (W.contents writer.new) }
+    {
+        write_all(writer, self.usage.as_bytes())
+    }
+
+    fn write_name<W: Write>(&self, writer: &mut W) -> io::Result<()>
+        ensures { Grows (W.contents writer.old) (W.contents writer.new) }
+    {
+        write_all(writer, self.name.as_bytes())?;
+        write_all(writer, b": ")
+    }
+
+    fn write_fault<E: Write>(&self, err: &mut E, what: &[u8], error: &io::Error) -> io::Result<()>
+        ensures { Grows (E.contents err.old) (E.contents err.new) }
+    {
+        self.write_name(err)?;
+        write_failure(err, what, error)
+    }
+
+    // Says what could not be done, and why.
+    pub fn tell<E: Write>(&self, err: &mut E, what: &[u8], error: &io::Error)
+        ensures { Grows (E.contents err.old) (E.contents err.new) }
+    {
+        let _ = self.write_fault(err, what, error);
+    }
+
+    pub fn tell_unwritten<E: Write>(&self, err: &mut E, written: io::Result<()>)
+        ensures grows { Grows (E.contents err.old) (E.contents err.new) }
+        ensures silent { IsOk written → E.contents err.new ≡ E.contents err.old }
+    {
+        if let Err(error) = written {
+            self.tell(err, b"cannot write", &error);
+        }
+    }
+
+    // The value, or what could not be done and why, said.
+    pub fn ok_or_tell<E: Write, T>(
+        &self,
+        err: &mut E,
+        what: &[u8],
+        outcome: io::Result<T>,
+    ) -> Option<T>
+        ensures { result ≡ result_ok outcome }
+    {
+        match outcome {
+            Ok(value) => Some(value),
+            Err(error) => {
+                self.tell(err, what, &error);
+                None
+            }
+        }
+    }
+
+    // Writes the usage that was asked for.
+    pub fn help<O: Write, E: Write>(&self, out: &mut O, err: &mut E)
+        ensures asked { Grows (O.contents out.old) (O.contents out.new) }
+        ensures told { Grows (E.contents err.old) (E.contents err.new) }
+    {
+        let written = self.write_usage(out);
+        self.tell_unwritten(err, written);
+    }
+
+    fn write_wrong<E: Write>(&self, err: &mut E, wrong: &str, word: &[u8]) -> io::Result<()>
+        ensures { Grows (E.contents err.old) (E.contents err.new) }
+    {
+        self.write_name(err)?;
+        write_all(err, wrong.as_bytes())?;
+        write_all(err, b" ")?;
+        write_all(err, word)?;
+        write_all(err, b"\n")?;
+        self.write_usage(err)
+    }
+
+    // Says what is wrong with a word that the program was started with, and how it is used.
+    pub fn tell_wrong<E: Write>(&self, err: &mut E, wrong: &str, word: &[u8])
+        ensures { Grows (E.contents err.old) (E.contents err.new) }
+    {
+        let _ = self.write_wrong(err, wrong, word);
+    }
 }

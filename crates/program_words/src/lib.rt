@@ -6,7 +6,6 @@ ghost use Rattle.program_words.specs.Words.{AsksHelp, is_option, number_in};
 
 use std::env::{Env, FillError};
 use std::io;
-use widths::wide8;
 
 // What the system says of a name that is too long.
 const ENAMETOOLONG: i32 = 36;
@@ -33,43 +32,26 @@ pub fn asks_help(word: &[u8]) -> bool
     word == b"--help".as_slice() || word == b"-h".as_slice()
 }
 
+#[tactic(auto, unfolding(crate::specs::Words::is_option))]
 pub fn is_option(word: &[u8]) -> bool
     ensures { result ≡ is_option word.now }
 {
-    if word.len() < 2 {
-        return false;
-    }
-    word[0] == b'-'
-}
-
-#[derive(Clone, Copy)]
-pub enum Number {
-    Value(usize),
-    NotDecimal,
+    2 <= word.len() && word[0] == b'-'
 }
 
 // Reads a word as a decimal number, at most 999,999.
-pub fn read_number(word: &[u8]) -> Number
+pub fn read_number(word: &[u8]) -> Option<usize>
     ensures { result ≡ number_in word.now }
 {
-    if word.len() == 0 {
-        return Number::NotDecimal;
+    if word.is_empty() {
+        return None;
     }
     let mut value: usize = 0;
-    let mut i: usize = 0;
-    while i < word.len() {
-        let b = word[i];
-        if b < b'0' {
-            return Number::NotDecimal;
+    for b in word {
+        if !b.is_ascii_digit() || 99999 < value {
+            return None;
         }
-        if b'9' < b {
-            return Number::NotDecimal;
-        }
-        if 99999 < value {
-            return Number::NotDecimal;
-        }
-        value = 10 * value + wide8(b - b'0');
-        i += 1;
+        value = 10 * value + usize::from(*b - b'0');
     }
-    Number::Value(value)
+    Some(value)
 }

@@ -1,10 +1,8 @@
 -- The public calls as functions of their inputs: the answer, and what the store and the work area hold after. Assumes nothing.
-use Rattle.std.specs.Prelude.{◌≡◌, ℕ, ◌+◌, List, [], Bool, true, false, cond, ◌&&◌, length, replicate, leb, ltb, Float}
+use Rattle.std.specs.Prelude.{◌≡◌, ℕ, ◌+◌, List, [], Bool, true, false, cond, ◌&&◌, length, replicate, leb, ltb, Float, Ok, Err}
 use Rattle.layout.specs.Layout.{words_length, numbers_length, step_work_length}
 use Rattle.pywr.specs.declared.Sentinel.{Sentinel}
-use Rattle.pywr.specs.declared.Answer.{Answer}
-use Rattle.pywr.specs.declared.RowAnswer.{RowAnswer}
-use Rattle.pywr.specs.declared.RowAnswer.TheVariants.{Part}
+use Rattle.pywr.specs.Answer.{Answer, RowAnswer}
 use Rattle.pywr.specs.Answers.{answer_of}
 use Rattle.pywr.specs.Result.{value, Result, refused, ◌>>=◌, need}
 use Rattle.pywr.specs.Numbers.{zero64}
@@ -130,5 +128,5 @@ row_part store r = part_of (row_answer store r)
 
 -- where the part stands in the column list
 unfoldable pub span_of : Store → ℕ → Result (List ℕ) → RowAnswer
-span_of store r (value part) = Part (start_of store r) (start_of store (r + 1))
-span_of store r (refused number place) = RowAnswer.Refused number place
+span_of store r (value part) = Ok (start_of store r, start_of store (r + 1))
+span_of store r (refused number place) = Err (record { number = number; place = place })

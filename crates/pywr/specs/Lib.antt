@@ -1,4 +1,5 @@
 pub mod Result
+pub mod Answer
 pub mod Answers
 pub mod Bytes
 pub mod Numbers

@@ -1,8 +1,7 @@
 -- Demand 3 of the port: over the stores and answers that calls of `build` and `step` left, in the words of their contracts. Assumes nothing.
-use Rattle.std.specs.Prelude.{◌≡◌, ℕ, List, [], ◌∷◌, map, Bool, true, false, Float}
+use Rattle.std.specs.Prelude.{◌≡◌, ℕ, List, [], ◌∷◌, map, Bool, true, false, Float, Ok, Err}
 use Rattle.pywr.specs.declared.Sentinel.{Sentinel}
-use Rattle.pywr.specs.declared.Answer.{Answer}
-use Rattle.pywr.specs.declared.Answer.TheVariants.{Accepted, Refused}
+use Rattle.pywr.specs.Answer.{Answer}
 use Rattle.pywr.specs.Result.{value}
 use Rattle.pywr.specs.Network.{Network}
 use Rattle.pywr.specs.NetworkFile.{parse_network}
@@ -23,8 +22,8 @@ pub data Run : Store → List Answered → Store → Type 0 where
 
 -- "A step is accepted if it answers no refusal."
 unfoldable pub accepts : Answer → Bool
-accepts Accepted = true
-accepts (Refused number place) = false
+accepts (Ok _) = true
+accepts (Err refusal) = false
 
 unfoldable pub report : Answered → Report
 report a = record { file = a.call.file; accepted = accepts a.answer }
@@ -33,7 +32,7 @@ abbrev pub PortCorrespondence : Type 0
 PortCorrespondence =
     (network_file : List ℕ) (s : Sentinel) (old built : Store) (words words' : List ℕ) (numbers numbers' : List Float) (net : Network)
     → parse_network network_file ≡ value net
-    → AfterBuild s network_file old words numbers Accepted built words' numbers'
+    → AfterBuild s network_file old words numbers (Ok tt) built words' numbers'
     → factors_in1024ths net ≡ true
     → (calls : List Answered) (last : Store)
     → Run built calls last

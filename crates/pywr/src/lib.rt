@@ -3,6 +3,7 @@
 
 ghost use Rattle.std.specs.Prelude.{◌≡◌};
 ghost use Rattle.pywr.specs.Numbers.{high, low};
+ghost use Rattle.pywr.specs.Answers.{number_of_reason, refusal_at};
 
 // A node's number in its network.
 #[derive(Clone, Copy)]
@@ -58,16 +59,79 @@ impl Sentinel {
     }
 }
 
-// The answer of a build and of a step: accepted, or refused with document 01's number and the place.
-#[derive(Clone, Copy)]
-pub enum Answer {
-    Accepted,
-    Refused(u8, usize),
+// What a refusal says, in the order of document 01's numbers.
+#[derive(Clone, Copy, PartialEq, Eq)]
+pub enum Reason {
+    FileEnds,
+    WrongMark,
+    OutOfRange,
+    NoSuchNode,
+    WrongEnd,
+    TooManyRecords,
+    NoEdges,
+    UnconnectedLink,
+    CrossedConstant,
+    UnboundedConstant,
+    OverCeilings,
+    WrongStepFile,
+    StepOutOfRange,
+    CrossedBounds,
+    ShortBuffer,
+    MisshapenStore,
+    NoSuchRow,
+    EdgeToItself,
+    RepeatedEdge,
+    BoundAtSentinel,
 }
 
-// The answer to reading a row: the row's columns from a start up to an end, or refused with number and place.
-#[derive(Clone, Copy)]
-pub enum RowAnswer {
-    Part(usize, usize),
-    Refused(u8, usize),
+impl Reason {
+    pub fn number(self) -> u8
+        ensures { result ≡ number_of_reason self }
+    {
+        match self {
+            Reason::FileEnds => 1,
+            Reason::WrongMark => 2,
+            Reason::OutOfRange => 3,
+            Reason::NoSuchNode => 4,
+            Reason::WrongEnd => 5,
+            Reason::TooManyRecords => 6,
+            Reason::NoEdges => 7,
+            Reason::UnconnectedLink => 8,
+            Reason::CrossedConstant => 9,
+            Reason::UnboundedConstant => 10,
+            Reason::OverCeilings => 11,
+            Reason::WrongStepFile => 12,
+            Reason::StepOutOfRange => 13,
+            Reason::CrossedBounds => 14,
+            Reason::ShortBuffer => 16,
+            Reason::MisshapenStore => 17,
+            Reason::NoSuchRow => 18,
+            Reason::EdgeToItself => 19,
+            Reason::RepeatedEdge => 20,
+            Reason::BoundAtSentinel => 21,
+        }
+    }
+
+    // The refusal for this reason at a place.
+    pub fn at(self, place: usize) -> Refusal
+        ensures { result ≡ refusal_at self place }
+    {
+        Refusal {
+            number: self.number(),
+            place,
+        }
+    }
 }
+
+// A refusal: document 01's number and the place.
+#[derive(Clone, Copy, PartialEq, Eq)]
+pub struct Refusal {
+    pub number: u8,
+    pub place: usize,
+}
+
+// The answer of a build and of a step.
+pub type Answer = Result<(), Refusal>;
+
+// The answer to reading a row: where the row's columns start, and where they end.
+pub type RowAnswer = Result<(usize, usize), Refusal>;

@@ -3,7 +3,7 @@
 
 ghost use Rattle.pywr_c_answers.specs.Crossing.{picked, BuildCrossed, StepCrossed, RowCrossed};
 
-use pywr_c_answers::{Refusal, RowPart, part_of, refusal_of, sentinel};
+use pywr_c_answers::{Refusal, RowPart, part_of, sentinel};
 
 // The build: the high sentinel is infinity, or the largest finite double.
 #[unsafe(no_mangle)]
@@ -59,7 +59,7 @@ pub extern "C" fn pywr_build(
         words,
         numbers,
     );
-    refusal_of(answer)
+    Refusal::from(answer)
 }
 
 // The step.
@@ -112,7 +112,7 @@ pub extern "C" fn pywr_step(
         shape,
         work,
     );
-    refusal_of(answer)
+    Refusal::from(answer)
 }
 
 // Where a row's columns stand in the column run.

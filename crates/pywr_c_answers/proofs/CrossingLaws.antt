@@ -4,8 +4,8 @@ use Prim.Native.Nat.{ℕ}
 use mathlib.Core.List.{List}
 use lib.Ieee.{Float}
 use Rattle.pywr.specs.declared.Sentinel.{Sentinel}
-use Rattle.pywr.specs.declared.Answer.{Answer}
-use Rattle.pywr.specs.declared.RowAnswer.{RowAnswer}
+use Rattle.std.specs.Prelude.{Ok, Err}
+use Rattle.pywr.specs.Answer.{Answer, RowAnswer}
 use Rattle.pywr.specs.Answers.{number_of, place_of, row_number_of, row_place_of}
 use Rattle.pywr.specs.Store.{Store}
 use Rattle.pywr.specs.Calls.{AfterBuild, AfterStep}
@@ -23,8 +23,8 @@ step_crossed a b c = record { answer = a; after = b; number = c.0; place = c.1 }
 
 -- a part within the columns rises
 pub inside_rises : (a : RowAnswer) (n : ℕ) → Inside a n → Rises a
-inside_rises (RowAnswer.Part start end) n h = h.0
-inside_rises (RowAnswer.Refused number place) n h = tt
+inside_rises (Ok (start, end)) n h = h.0
+inside_rises (Err refusal) n h = tt
 
 pub row_crossed : {s : Store} {row n p start size : ℕ} (a : RowAnswer) → RowAnswered s row a
     → (n ≡ row_number_of a) × (p ≡ row_place_of a) × (start ≡ part_start a) × (size ≡ part_length a) → RowCrossed s row n p start size

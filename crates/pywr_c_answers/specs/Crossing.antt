@@ -1,9 +1,8 @@
 -- What the calls of a C program answer: the number and the place of the answer, and of a row also where its part stands. Assumes nothing.
-use Rattle.std.specs.Prelude.{◌≡◌, ℕ, ◌-◌, ◌≤◌, List, Bool, true, false, Float}
+use Rattle.std.specs.Prelude.{◌≡◌, ℕ, ◌-◌, ◌≤◌, List, Bool, true, false, Float, Ok, Err}
 use Rattle.pywr.specs.declared.Sentinel.{Sentinel}
 use Rattle.pywr.specs.declared.Sentinel.TheVariants.{Infinity, Largest}
-use Rattle.pywr.specs.declared.Answer.{Answer}
-use Rattle.pywr.specs.declared.RowAnswer.{RowAnswer}
+use Rattle.pywr.specs.Answer.{Answer, RowAnswer}
 use Rattle.pywr.specs.Answers.{number_of, place_of, row_number_of, row_place_of}
 use Rattle.pywr.specs.Store.{Store}
 use Rattle.pywr.specs.Calls.{AfterBuild, AfterStep}
@@ -16,17 +15,17 @@ picked false = Largest
 
 -- a part does not end before it starts
 abbrev pub Rises : RowAnswer → Type 0
-Rises (RowAnswer.Part start end) = start ≤ end
-Rises (RowAnswer.Refused number place) = Unit {0}
+Rises (Ok (start, end)) = start ≤ end
+Rises (Err refusal) = Unit {0}
 
 -- where a row's part starts in the column list, and its length: 0 and 0 where it is refused
 unfoldable pub part_start : RowAnswer → ℕ
-part_start (RowAnswer.Part start end) = start
-part_start (RowAnswer.Refused number place) = 0
+part_start (Ok (start, end)) = start
+part_start (Err refusal) = 0
 
 unfoldable pub part_length : RowAnswer → ℕ
-part_length (RowAnswer.Part start end) = end - start
-part_length (RowAnswer.Refused number place) = 0
+part_length (Ok (start, end)) = end - start
+part_length (Err refusal) = 0
 
 -- number n and place p are those of a build's answer
 pub record BuildCrossed (s : Sentinel) (file : List ℕ) (old : Store) (words : List ℕ) (numbers : List Float) (n p : ℕ) (new : Store) (words' : List ℕ) (numbers' : List Float) : Type 0 where

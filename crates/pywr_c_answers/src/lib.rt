@@ -15,6 +15,24 @@ pub struct Refusal {
     pub place: u64,
 }
 
+impl From<Answer> for Refusal {
+    ghost from_gives = { λ answer r. (r.number ≡ number_of answer) × (r.place ≡ place_of answer) };
+
+    #[tactic(auto, unfolding(pywr::specs::Answers::number_of, pywr::specs::Answers::place_of))]
+    fn from(answer: Answer) -> Refusal {
+        match answer {
+            Ok(()) => Refusal {
+                number: 0,
+                place: 0,
+            },
+            Err(refusal) => Refusal {
+                number: u64::from(refusal.number),
+                place: refusal.place as u64,
+            },
+        }
+    }
+}
+
 // An answer for a row: number and place, and the part of the column run, empty where the row is refused.
 #[repr(C)]
 #[derive(Clone, Copy)]
@@ -35,37 +53,23 @@ pub fn sentinel(infinite: bool) -> Sentinel
     }
 }
 
-pub fn refusal_of(answer: Answer) -> Refusal
-    ensures { (result.number ≡ number_of answer) × (result.place ≡ place_of answer) }
-{
-    match answer {
-        Answer::Accepted => Refusal {
-            number: 0,
-            place: 0,
-        },
-        Answer::Refused(number, place) => Refusal {
-            number: widths::byte_to_u64(number),
-            place: widths::usize_to_u64(place),
-        },
-    }
-}
-
+#[tactic(auto, unfolding(pywr::specs::Answers::row_number_of, pywr::specs::Answers::row_place_of, crate::specs::Crossing::part_start, crate::specs::Crossing::part_length))]
 pub fn part_of(answer: RowAnswer) -> RowPart
     requires { Rises answer }
     ensures { (result.number ≡ row_number_of answer) × (result.place ≡ row_place_of answer) × (result.start ≡ part_start answer) × (result.length ≡ part_length answer) }
 {
     match answer {
-        RowAnswer::Refused(n, p) => RowPart {
-            number: widths::byte_to_u64(n),
-            place: widths::usize_to_u64(p),
-            start: 0,
-            length: 0,
-        },
-        RowAnswer::Part(start, end) => RowPart {
+        Ok((start, end)) => RowPart {
             number: 0,
             place: 0,
-            start: widths::usize_to_u64(start),
-            length: widths::usize_to_u64(end - start),
+            start: start as u64,
+            length: (end - start) as u64,
+        },
+        Err(refusal) => RowPart {
+            number: u64::from(refusal.number),
+            place: refusal.place as u64,
+            start: 0,
+            length: 0,
         },
     }
 }

@@ -9,6 +9,7 @@ use extremes::greater;
 use pywr::{Interval, NodeBounds, Sentinel};
 
 // A storage's available and missing volume.
+#[tactic(auto, unfolding(pywr::specs::Interval::storage_bounds))]
 pub fn storage_bounds(min: f64, max: f64, volume: f64) -> NodeBounds
     ensures { result ≡ storage_bounds min max volume }
 {
@@ -25,6 +26,7 @@ pub fn virtual_bounds(min: f64, max: f64, volume: f64) -> NodeBounds
 }
 
 // Flows are bounds as they are; a volume is spread over the days.
+#[tactic(auto, unfolding(pywr::specs::Interval::interval_of))]
 pub fn interval_of(days: f64, bounds: NodeBounds) -> Interval
     ensures { result ≡ interval_of days bounds }
 {
@@ -41,6 +43,7 @@ pub fn interval_of(days: f64, bounds: NodeBounds) -> Interval
 }
 
 // Both sentinels: an interval that binds nothing.
+#[tactic(auto, unfolding(pywr::specs::Interval::sentinels))]
 pub fn sentinels(sentinel: Sentinel) -> Interval
     ensures { result ≡ sentinels sentinel }
 {
@@ -51,6 +54,7 @@ pub fn sentinels(sentinel: Sentinel) -> Interval
 }
 
 // The lower bound is over the upper.
+#[tactic(auto, unfolding(pywr::specs::StepIntervals::is_crossed))]
 pub fn is_crossed(i: Interval) -> bool
     ensures { result ≡ is_crossed i }
 {
@@ -58,6 +62,7 @@ pub fn is_crossed(i: Interval) -> bool
 }
 
 // A bound at or beyond either sentinel.
+#[tactic(auto, unfolding(pywr::specs::StepIntervals::is_beyond))]
 pub fn is_beyond(bound: f64, sentinel: Sentinel) -> bool
     ensures { result ≡ is_beyond sentinel bound }
 {

@@ -9,10 +9,12 @@ use lib.Dec.{leb, leb→le}
 use lib.Ieee.{Float}
 use lib.Ieee.Fits.{and_l, and_r}
 use Rattle.layout.specs.Layout.{step_work_length}
-use Rattle.pywr.specs.declared.Answer.{Answer}
-use Rattle.pywr.specs.declared.Answer.TheVariants.{Accepted, Refused}
+use Rattle.std.specs.Prelude.{Ok, Err}
+use Rattle.pywr.specs.declared.Reason.{Reason}
+use Rattle.pywr.specs.declared.Refusal.{Refusal}
+use Rattle.pywr.specs.Answer.{Answer}
 use Rattle.pywr.specs.Result.{Result, value, refused, ◌>>=◌, need}
-use Rattle.pywr.specs.Answers.{answer_of}
+use Rattle.pywr.specs.Answers.{answer_of, refusal_at}
 use Rattle.pywr.specs.Store.{Store, store_has_room, word, node_count, aggregate_count, virtual_storage_count, nodes_at, aggregates_at, virtual_storages_at, node_entry, virtual_storage_entry, shape_of}
 use Rattle.pywr.specs.Misshapen.{well_shaped}
 use Rattle.pywr.specs.Calls.{step_room, step_read, step_intervals, step_ordered, step_answer}
@@ -28,13 +30,13 @@ use Rattle.step_checks.specs.Judged.{read_on, decoded_by, Judged}
 
 -- ---- answers and results
 
-pub refused_is : {A : Type 0} (r : Result A) (n p : ℕ) → answer_of r ≡ Refused n p → r ≡ refused n p
+pub refused_is : {A : Type 0} (r : Result A) (refusal : Refusal) → answer_of r ≡ Err refusal → r ≡ refused refusal.number refusal.place
 unfolding answer_of
-refused_is (value x) n p e = let z : ◌≡◌ {A = ℕ} 0 1 = cc in absurd (omega arith)
-refused_is (refused m q) n p e = cc
+refused_is (value x) refusal e = cc
+refused_is (refused m q) refusal e = let same : record { number = m; place = q } ≡ refusal = cc in ap (λ (t : Refusal). refused t.number t.place) same
 
-not_accepted : {n p : ℕ} {X : Type 0} → Refused n p ≡ Accepted → X
-not_accepted e = let z : ◌≡◌ {A = ℕ} 0 1 = cc in absurd (omega arith)
+not_accepted : {refusal : Refusal} {X : Type 0} → ◌≡◌ {A = Answer} (Err refusal) (Ok tt) → X
+not_accepted e = absurd cc
 
 -- a file in order is answered as its intervals are
 ordered_answer : {A B : Type 0} (r : Result A) (f : B) → answer_of (r >>= λ _. value f) ≡ answer_of r
@@ -42,7 +44,7 @@ unfolding answer_of ◌>>=◌
 ordered_answer (value x) f = refl
 ordered_answer (refused n p) f = refl
 
-ordered_value : {A B : Type 0} (r : Result A) (f : B) → answer_of r ≡ Accepted → (r >>= λ _. value f) ≡ value f
+ordered_value : {A B : Type 0} (r : Result A) (f : B) → answer_of r ≡ Ok tt → (r >>= λ _. value f) ≡ value f
 unfolding answer_of ◌>>=◌
 ordered_value (value x) f e = refl
 ordered_value (refused n p) f e = not_accepted e
@@ -63,7 +65,7 @@ module _ (s : Store) (file : List ℕ) (work : List Float) where
   unfolding step_answer step_read need ◌>>=◌
   misshapen e lent room = rw (room, e)
 
-  pub judged_shape : well_shaped s ≡ false → Judged s file (Refused 17 0) work
+  pub judged_shape : well_shaped s ≡ false → Judged s file (Err (refusal_at Reason.MisshapenStore 0)) work
   unfolding answer_of
   judged_shape e = record { answer = λ lent room. sym (ap answer_of (misshapen e lent room)); read = λ lent room q. not_accepted q; ready = λ q. not_accepted q }
 
@@ -76,16 +78,16 @@ module _ (s : Store) (file : List ℕ) (work : List Float) where
         (room_work s lent room) (of_true (well_shaped s) ok)
 
     -- 12, 13
-    pub judged_file : {n p : ℕ} → Refused n p ≡ answer_of (read_on s file) → Judged s file (Refused n p) work
+    pub judged_file : {refusal : Refusal} → Err refusal ≡ answer_of (read_on s file) → Judged s file (Err refusal) work
     unfolding answer_of after_reading ◌>>=◌
-    judged_file {n} {p} e =
+    judged_file {refusal} e =
         record {
-          answer = λ lent room. sym (ap answer_of (answers lent room ∙ ap (after_reading (step_ordered s)) (refused_is (read_on s file) n p (sym e))));
+          answer = λ lent room. sym (ap answer_of (answers lent room ∙ ap (after_reading (step_ordered s)) (refused_is (read_on s file) refusal (sym e))));
           read = λ lent room q. not_accepted q;
           ready = λ q. not_accepted q;
         }
 
-    module _ (e : Accepted ≡ answer_of (read_on s file)) where
+    module _ (e : Ok tt ≡ answer_of (read_on s file)) where
       read_as : read_on s file ≡ value (decoded_by s file)
       read_as = accepted_decoded (shape_of s).nodes (length (shape_of s).aggregates) (length (shape_of s).virtual_storages) file (sym e)
 
@@ -104,7 +106,7 @@ module _ (s : Store) (file : List ℕ) (work : List Float) where
 
       -- 14 or 21, or accepted
       pub judged_intervals : (r : Answer) → r ≡ answer_of (step_ordered s (decoded_by s file))
-          → (r ≡ Accepted → IntervalsHeld (node_count s) (aggregate_count s) (virtual_storage_count s) work (step_intervals s (decoded_by s file)))
+          → (r ≡ Ok tt → IntervalsHeld (node_count s) (aggregate_count s) (virtual_storage_count s) work (step_intervals s (decoded_by s file)))
           → Judged s file r work
       judged_intervals r a h =
           let i = step_ordered s (decoded_by s file) in

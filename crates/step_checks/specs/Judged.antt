@@ -1,7 +1,6 @@
 -- What judging a step file promises: the answer of the step, and where it is accepted all that its writing needs. Assumes nothing.
-use Rattle.std.specs.Prelude.{◌≡◌, ℕ, ◌≤◌, List, true, length, Float}
-use Rattle.pywr.specs.declared.Answer.{Answer}
-use Rattle.pywr.specs.declared.Answer.TheVariants.{Accepted}
+use Rattle.std.specs.Prelude.{◌≡◌, ℕ, ◌≤◌, List, true, length, Float, Ok}
+use Rattle.pywr.specs.Answer.{Answer}
 use Rattle.pywr.specs.Result.{Result, value}
 use Rattle.pywr.specs.Answers.{answer_of}
 use Rattle.pywr.specs.StepFile.{StepFile, read_step}
@@ -24,5 +23,5 @@ pub record Ready (s : Store) (file : List ℕ) (work : List Float) : Type 0 wher
 
 pub record Judged (s : Store) (file : List ℕ) (r : Answer) (work : List Float) : Type 0 where
   pub answer : (lent : List Float) → step_room s lent ≡ true → r ≡ answer_of (step_answer s file lent)
-  pub read : (lent : List Float) → step_room s lent ≡ true → r ≡ Accepted → step_answer s file lent ≡ value (decoded_by s file)
-  pub ready : r ≡ Accepted → Ready s file work
+  pub read : (lent : List Float) → step_room s lent ≡ true → r ≡ Ok tt → step_answer s file lent ≡ value (decoded_by s file)
+  pub ready : r ≡ Ok tt → Ready s file work

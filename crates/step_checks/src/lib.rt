@@ -9,9 +9,10 @@ ghost use Rattle.store.specs.Reading.{Lengths};
 ghost use Rattle.step_checks.specs.Judged.{Judged};
 
 use layout::STEP_WORK_LENGTH;
-use pywr::Answer;
+use pywr::{Answer, Reason};
 
 // Whether runs of these lengths have the room that the ceilings need.
+#[tactic(auto, unfolding(pywr::specs::Calls::step_room))]
 pub fn has_room(
     col_lower: usize,
     col_upper: usize,
@@ -54,14 +55,11 @@ pub fn judge(
         → Judged s file.now result work.new }
 {
     if !store::well_shaped(columns, row_starts, shape) {
-        return Answer::Refused(17, 0);
+        return Err(Reason::MisshapenStore.at(0));
     }
     if step_walk::walk_file(file, shape, work) {
-        return Answer::Accepted;
+        return Ok(());
     }
-    let read = step_file::read_step(file, shape);
-    match read {
-        Answer::Refused(number, place) => Answer::Refused(number, place),
-        Answer::Accepted => step_intervals::find_intervals(file, shape, work),
-    }
+    step_file::read_step(file, shape)?;
+    step_intervals::find_intervals(file, shape, work)
 }

@@ -1,2 +1,1 @@
-pub mod ColumnPlace
 pub mod CoefficientLaws

@@ -2,11 +2,11 @@
 use mathlib.Core.Path.{◌≡◌, refl, sym, ◌∙◌, ap}
 use mathlib.Core.Bool.{true, ◌&&◌}
 use mathlib.Core.List.{List, [], ◌∷◌, ◌++◌, map}
-use Prim.Native.Nat.{ℕ, zero, suc, ◌+◌, ◌*◌, ◌≤◌, ◌<◌, zero-le}
+use Prim.Native.Nat.{ℕ, zero, suc, ◌+◌, ◌*◌, ◌≤◌, ◌<◌}
 use native.Mathlib.Nat.{one-mul}
 use native.Mathlib.Omega.{arith}
 use lib.Dec.{ltb, ltb→lt}
-use lib.ListN.{length, get_or, set, drop, replicate, length-append, length-drop, length-set, length-replicate, drop_of_length-le, get_or-append}
+use lib.ListN.{length, get_or, set, drop, replicate, length-set, length-replicate, drop_of_length-le, get_or-append}
 use lib.Seq.{sets, sets-eq, set-append_left, drop_at}
 use lib.Ieee.{Float, nan, binary64, of_bits, add}
 use lib.Ieee.Fits.{and_l, and_r}
@@ -106,7 +106,6 @@ module _ (file shape : List ℕ) where
   pub record Added (d₀ d : List Float) (i : ℕ) : Type 0 where
     pub costs : List Float
     pub size : length costs ≡ columns
-    pub few : i ≤ edges
     pub held : d ≡ costs ++ drop columns d₀
     pub so_far : step_costs tables columns steps ≡ add_costs tables.nodes steps (edges_numbered (drop i tables.flow_order) tables.mapped_edges) costs
 
@@ -121,16 +120,12 @@ module _ (file shape : List ℕ) where
       record {
         costs = replicate columns zero64;
         size = length-replicate columns zero64;
-        few = zero-le;
         held =
             e
             ∙ front_is d (replicate columns zero64) columns (length-replicate columns zero64) h
             ∙ ap (λ (l : List Float). replicate columns zero64 ++ l) (sym (behind d d₁ h e));
         so_far = refl;
       }
-
-  pub added_length : (d₀ d : List Float) (i : ℕ) → columns ≤ length d₀ → Added d₀ d i → length d ≡ length d₀
-  added_length d₀ d i h a = omega (arith, ap length a.held, length-append a.costs (drop columns d₀), length-drop columns d₀, a.size)
 
   -- what 17 has tested of the edges and of the flow order
   abbrev pub EdgesFit : Type 0
@@ -205,7 +200,6 @@ module _ (file shape : List ℕ) where
         record {
           costs = costs_next;
           size = length-set a.costs column _ ∙ a.size;
-          few = omega arith;
           held =
               ap (λ (l : List Float). set l column (add binary64 (get_or l column nan) x)) a.held
               ∙ set-append_left a.costs (drop columns d₀) column _ under

@@ -17,40 +17,45 @@ use layout::{
 };
 use pywr::NodeIndex;
 use step_fields::node_cost;
-use widths::wide16;
+
+// The kinds of nodes, as the shape run has them, that give other costs than their own.
+const LINK: u16 = 2;
+
+const STORAGE: u16 = 3;
 
 // The cost that a node gives to its edges out.
+#[tactic(auto, unfolding(pywr::specs::Costs::outgoing_cost), using(crate::proofs::CostLaws::two_literal))]
 fn outgoing_cost(kind: u16, cost: f64) -> f64
     ensures { result ≡ outgoing_cost kind cost }
 {
-    if kind == 2 {
-        return cost / 2.0;
+    match kind {
+        LINK => cost / 2.0,
+        STORAGE => -cost,
+        _ => cost,
     }
-    if kind == 3 {
-        return -cost;
-    }
-    cost
 }
 
 // The cost that it gives to its edges in.
+#[tactic(auto, unfolding(pywr::specs::Costs::incoming_cost), using(crate::proofs::CostLaws::two_literal))]
 fn incoming_cost(kind: u16, cost: f64) -> f64
     ensures { result ≡ incoming_cost kind cost }
 {
-    if kind == 2 {
-        return cost / 2.0;
+    match kind {
+        LINK => cost / 2.0,
+        _ => cost,
     }
-    cost
 }
 
 // The cost of an edge: from's outgoing plus to's incoming.
+#[tactic(auto, unfolding(pywr::specs::Costs::edge_cost))]
 fn edge_cost(file: &[u8], shape: &[u16], from: NodeIndex, to: NodeIndex) -> f64
     requires { (shape_length ≤ length shape.now) × (nodes_in shape.now ≤ node_ceiling) × (from.0 < nodes_in shape.now) × (to.0 < nodes_in shape.now)
         × (aggregate_steps_at (nodes_in shape.now) ≤ length file.now) }
     ensures { result ≡ edge_cost (kind_in shape.now from.0) (cost_in file.now from.0)
         (kind_in shape.now to.0) (cost_in file.now to.0) }
 {
-    let f = wide16(from.0);
-    let t = wide16(to.0);
+    let f = usize::from(from.0);
+    let t = usize::from(to.0);
     let out = outgoing_cost(shape[NODES_AT + NODE_WIDTH * f], node_cost(file, from));
     let into = incoming_cost(shape[NODES_AT + NODE_WIDTH * t], node_cost(file, to));
     out + into
@@ -68,18 +73,15 @@ pub fn update_edge_objectives(file: &[u8], shape: &[u16], col_obj_coef: &mut [f6
         ≡ sets col_obj_coef.old 0
         (step_costs (shape_of s) (column_count s) (decoded (shape_of s).nodes a v file.now).nodes) }
 {
-    let edges = wide16(shape[EDGE_COUNT_AT]);
-    let columns = wide16(shape[EDGE_COLUMN_COUNT_AT]) + wide16(shape[SET_COUNT_AT]);
-    runs::fill_f64(col_obj_coef, 0, columns, 0.0);
-    let mut i: usize = 0;
-    while i < edges {
-        let e = wide16(shape[FLOW_ORDER_AT + i]);
+    let edges = usize::from(shape[EDGE_COUNT_AT]);
+    let columns = usize::from(shape[EDGE_COLUMN_COUNT_AT]) + usize::from(shape[SET_COUNT_AT]);
+    runs::fill(col_obj_coef, 0, columns, 0.0);
+    for i in 0..edges {
+        let e = usize::from(shape[FLOW_ORDER_AT + i]);
         let at = EDGES_AT + EDGE_WIDTH * e;
-        let c = wide16(shape[at + MAPPED_COLUMN]);
-        let from = shape[at];
-        let to = shape[at + EDGE_TO];
-        let obj_coef = edge_cost(file, shape, NodeIndex(from), NodeIndex(to));
-        col_obj_coef[c] = col_obj_coef[c] + obj_coef;
-        i += 1;
+        let c = usize::from(shape[at + MAPPED_COLUMN]);
+        let from = NodeIndex(shape[at]);
+        let to = NodeIndex(shape[at + EDGE_TO]);
+        col_obj_coef[c] += edge_cost(file, shape, from, to);
     }
 }

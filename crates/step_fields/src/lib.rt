@@ -22,14 +22,14 @@ pub fn month(file: &[u8]) -> u16
     requires { days_offset ≤ length file.now }
     ensures { result ≡ byte file.now month_offset }
 {
-    widths::byte_to_u16(file[MONTH_OFFSET])
+    u16::from(file[MONTH_OFFSET])
 }
 
 pub fn day(file: &[u8]) -> u16
     requires { days_offset ≤ length file.now }
     ensures { result ≡ byte file.now day_offset }
 {
-    widths::byte_to_u16(file[DAY_OFFSET])
+    u16::from(file[DAY_OFFSET])
 }
 
 pub fn days(file: &[u8]) -> f64
@@ -39,61 +39,68 @@ pub fn days(file: &[u8]) -> f64
     f64_at(file, DAYS_OFFSET)
 }
 
-// The record of a node.
+// A double of a node's record.
+fn node_field(file: &[u8], node: NodeIndex, offset: usize) -> f64
+    requires { (node_step_place node.0 + node_step_length ≤ length file.now) × (offset + 8 ≤ node_step_length) }
+    ensures { result ≡ f64_at file.now (node_step_place node.0 + offset) }
+{
+    f64_at(
+        file,
+        DATE_LENGTH + NODE_STEP_LENGTH * usize::from(node.0) + offset,
+    )
+}
+
 pub fn node_cost(file: &[u8], node: NodeIndex) -> f64
     requires { node_step_place node.0 + node_step_length ≤ length file.now }
     ensures { result ≡ f64_at file.now (node_step_place node.0 + node_cost_offset) }
 {
-    let k = widths::wide16(node.0);
-    f64_at(file, DATE_LENGTH + NODE_STEP_LENGTH * k + NODE_COST_OFFSET)
+    node_field(file, node, NODE_COST_OFFSET)
 }
 
 pub fn node_min(file: &[u8], node: NodeIndex) -> f64
     requires { node_step_place node.0 + node_step_length ≤ length file.now }
     ensures { result ≡ f64_at file.now (node_step_place node.0 + node_min_offset) }
 {
-    let k = widths::wide16(node.0);
-    f64_at(file, DATE_LENGTH + NODE_STEP_LENGTH * k + NODE_MIN_OFFSET)
+    node_field(file, node, NODE_MIN_OFFSET)
 }
 
 pub fn node_max(file: &[u8], node: NodeIndex) -> f64
     requires { node_step_place node.0 + node_step_length ≤ length file.now }
     ensures { result ≡ f64_at file.now (node_step_place node.0 + node_max_offset) }
 {
-    let k = widths::wide16(node.0);
-    f64_at(file, DATE_LENGTH + NODE_STEP_LENGTH * k + NODE_MAX_OFFSET)
+    node_field(file, node, NODE_MAX_OFFSET)
 }
 
 pub fn node_volume(file: &[u8], node: NodeIndex) -> f64
     requires { node_step_place node.0 + node_step_length ≤ length file.now }
     ensures { result ≡ f64_at file.now (node_step_place node.0 + node_volume_offset) }
 {
-    let k = widths::wide16(node.0);
+    node_field(file, node, NODE_VOLUME_OFFSET)
+}
+
+// A double of the record of aggregate k, behind those of all nodes.
+fn aggregate_field(file: &[u8], nodes: usize, k: usize, offset: usize) -> f64
+    requires { (aggregate_step_place nodes k + aggregate_step_length ≤ length file.now) × (offset + 8 ≤ aggregate_step_length) }
+    ensures { result ≡ f64_at file.now (aggregate_step_place nodes k + offset) }
+{
     f64_at(
         file,
-        DATE_LENGTH + NODE_STEP_LENGTH * k + NODE_VOLUME_OFFSET,
+        DATE_LENGTH + NODE_STEP_LENGTH * nodes + AGGREGATE_STEP_LENGTH * k + offset,
     )
 }
 
-// The record of aggregate k, behind those of all nodes.
 pub fn aggregate_lower(file: &[u8], nodes: usize, k: usize) -> f64
     requires { aggregate_step_place nodes k + aggregate_step_length ≤ length file.now }
     ensures { result ≡ f64_at file.now (aggregate_step_place nodes k + aggregate_lower_offset) }
 {
-    f64_at(
-        file,
-        DATE_LENGTH + NODE_STEP_LENGTH * nodes + AGGREGATE_STEP_LENGTH * k + AGGREGATE_LOWER_OFFSET,
-    )
+    aggregate_field(file, nodes, k, AGGREGATE_LOWER_OFFSET)
 }
 
 pub fn aggregate_upper(file: &[u8], nodes: usize, k: usize) -> f64
     requires { aggregate_step_place nodes k + aggregate_step_length ≤ length file.now }
     ensures { result ≡ f64_at file.now (aggregate_step_place nodes k + aggregate_upper_offset) }
 {
-    f64_at(
-        file,
-        DATE_LENGTH + NODE_STEP_LENGTH * nodes + AGGREGATE_STEP_LENGTH * k + AGGREGATE_UPPER_OFFSET,
-    )
+    aggregate_field(file, nodes, k, AGGREGATE_UPPER_OFFSET)
 }
 
 // Where the record of virtual storage k stands, behind those of all nodes and aggregates.

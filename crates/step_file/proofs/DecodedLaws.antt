@@ -6,8 +6,8 @@ use mathlib.Core.List.{List, [], ◌∷◌}
 use lib.ListN.{length}
 use lib.Dec.{leb}
 use borrow.Author.Tests.{leb-true}
-use Rattle.pywr.specs.declared.Answer.{Answer}
-use Rattle.pywr.specs.declared.Answer.TheVariants.{Accepted}
+use Rattle.std.specs.Prelude.{Ok}
+use Rattle.pywr.specs.Answer.{Answer}
 use Rattle.pywr.specs.Answers.{answer_of}
 use Rattle.pywr.specs.Result.{value}
 use Rattle.pywr.specs.Programme.{NodeShape}
@@ -20,7 +20,7 @@ use Rattle.step_file.proofs.ReaderLaws.{as_result, answer_back, step_law}
 
 -- ---- the records that passed lie within the file
 
-nodes_within : (file : List ℕ) (ns : List NodeShape) (at : ℕ) → at ≤ length file → check_nodes file ns at ≡ Accepted → at + 34 * length ns ≤ length file
+nodes_within : (file : List ℕ) (ns : List NodeShape) (at : ℕ) → at ≤ length file → check_nodes file ns at ≡ Ok tt → at + 34 * length ns ≤ length file
 unfolding check_nodes
 nodes_within file [] at h e = omega arith
 nodes_within file (n ∷ ns) at h e =
@@ -28,8 +28,8 @@ nodes_within file (n ∷ ns) at h e =
     let q : at + 34 + 34 * length ns ≤ length file = nodes_within file ns (at + 34) (node_within file n at t.0) t.1 in
     let g : at + 34 * suc (length ns) ≤ length file = omega arith in g
 
-records_within : (file : List ℕ) (check : ℕ → Answer) (size : ℕ) → ((at : ℕ) → check at ≡ Accepted → at + size ≤ length file)
-    → (count at : ℕ) → at ≤ length file → check_records check size count at ≡ Accepted → at + size * count ≤ length file
+records_within : (file : List ℕ) (check : ℕ → Answer) (size : ℕ) → ((at : ℕ) → check at ≡ Ok tt → at + size ≤ length file)
+    → (count at : ℕ) → at ≤ length file → check_records check size count at ≡ Ok tt → at + size * count ≤ length file
 unfolding check_records
 records_within file check size one zero at h e = omega arith
 records_within file check size one (suc count) at h e =
@@ -37,7 +37,7 @@ records_within file check size one (suc count) at h e =
     let q : at + size + size * count ≤ length file = records_within file check size one count (at + size) (one at t.0) t.1 in
     let g : at + size * suc count ≤ length file = omega arith in g
 
-checked_length : (shapes : List NodeShape) (aggregates virtual_storages : ℕ) (file : List ℕ) → check_file file shapes (length shapes) aggregates virtual_storages ≡ Accepted
+checked_length : (shapes : List NodeShape) (aggregates virtual_storages : ℕ) (file : List ℕ) → check_file file shapes (length shapes) aggregates virtual_storages ≡ Ok tt
     → length file ≡ file_length (length shapes) aggregates virtual_storages
 unfolding check_file check_end
 checked_length shapes aggregates virtual_storages file e =
@@ -46,15 +46,15 @@ checked_length shapes aggregates virtual_storages file e =
     let b = then_passed (check_nodes file shapes 12) _ a.1 in
     let c = then_passed (check_records (check_aggregate file) 18 aggregates (aggregate_steps_at n)) _ b.1 in
     let d = then_passed (check_records (check_virtual_storage_step file) 26 virtual_storages (virtual_storage_steps_at n aggregates)) _ c.1 in
-    let most : length file ≤ file_length n aggregates virtual_storages = leb-true _ _ (test_passed (leb (length file) (file_length n aggregates virtual_storages)) Accepted 12 _ d.1).0 in
+    let most : length file ≤ file_length n aggregates virtual_storages = leb-true _ _ (test_passed (leb (length file) (file_length n aggregates virtual_storages)) _ _ d.1).0 in
     let nodes : aggregate_steps_at n ≤ length file = nodes_within file shapes 12 (date_within file a.0) b.0 in
     let groups : virtual_storage_steps_at n aggregates ≤ length file = records_within file (check_aggregate file) 18 (aggregate_within file) aggregates (aggregate_steps_at n) nodes c.0 in
     let stores : file_length n aggregates virtual_storages ≤ length file = records_within file (check_virtual_storage_step file) 26 (virtual_storage_within file)
     virtual_storages (virtual_storage_steps_at n aggregates) groups d.0 in
     omega arith
 
-module _ (shapes : List NodeShape) (aggregates virtual_storages : ℕ) (file : List ℕ) (e : answer_of (read_step shapes aggregates virtual_storages file) ≡ Accepted) where
-  accepted_check : check_file file shapes (length shapes) aggregates virtual_storages ≡ Accepted
+module _ (shapes : List NodeShape) (aggregates virtual_storages : ℕ) (file : List ℕ) (e : answer_of (read_step shapes aggregates virtual_storages file) ≡ Ok tt) where
+  accepted_check : check_file file shapes (length shapes) aggregates virtual_storages ≡ Ok tt
   accepted_check = sym (ap answer_of (step_law shapes aggregates virtual_storages file) ∙ answer_back _ _) ∙ e
 
   pub accepted_decoded : read_step shapes aggregates virtual_storages file ≡ value (decoded shapes aggregates virtual_storages file)

@@ -1,11 +1,14 @@
 -- The loops over a step file's records: a turn and each way out, and the answer over a store's counts. Assumes nothing.
 use mathlib.Core.Path.{◌≡◌, sym, ap, ◌∙◌}
-use Prim.Native.Nat.{ℕ, ◌+◌, ◌-◌, ◌<◌, ◌≤◌}
+use Prim.Native.Nat.{ℕ, ◌+◌, ◌*◌, ◌-◌, ◌<◌, ◌≤◌}
+use native.Mathlib.Nat.{add-zero, mul-zero, sub-zero}
+use native.Mathlib.Omega.{arith}
 use mathlib.Core.List.{List}
 use lib.ListN.{length, get_or}
 use Rattle.layout.specs.Layout.{aggregates_at, virtual_storages_at}
-use Rattle.pywr.specs.declared.Answer.{Answer}
-use Rattle.pywr.specs.declared.Answer.TheVariants.{Accepted, Refused}
+use Rattle.std.specs.Prelude.{Ok, Err}
+use Rattle.pywr.specs.declared.Refusal.{Refusal}
+use Rattle.pywr.specs.Answer.{Answer}
 use Rattle.pywr.specs.Answers.{answer_of}
 use Rattle.pywr.specs.Programme.{NodeShape}
 use Rattle.pywr.specs.StepFile.{read_step}
@@ -17,34 +20,45 @@ use Rattle.step_record.specs.Check.{answer_then, check_node}
 use Rattle.step_file.specs.CheckStep.{check_nodes, check_records, check_file}
 use Rattle.step_file.proofs.ReaderLaws.{answer_back, step_law}
 
--- what is left of the nodes after i of them
-module _ (file : List ℕ) (entry : ℕ → NodeShape) (count i word at : ℕ) where
-  pub nodes_refused : (number place : ℕ) → i < count → check_node file (entry word) at ≡ Refused number place → check_nodes file (entries entry 2 word (count - i)) at ≡ Refused number place
-  unfolding check_nodes entries answer_then
-  nodes_refused number place lt e = rw (left_more count i lt, e)
+-- the first i of the nodes passed: the check of all is that of those that are left
+module _ (file : List ℕ) (entry : ℕ → NodeShape) (count : ℕ) where
+  abbrev pub NodesLeft : ℕ → Type 0
+  NodesLeft i = check_nodes file (entries entry 2 11 count) 12 ≡ check_nodes file (entries entry 2 (11 + 2 * i) (count - i)) (12 + 34 * i)
 
-  pub nodes_more : i < count → check_node file (entry word) at ≡ Accepted
-      → check_nodes file (entries entry 2 word (count - i)) at ≡ check_nodes file (entries entry 2 (word + 2) (count - (i + 1))) (at + 34)
+  pub nodes_refused : (i : ℕ) (refusal : Refusal) → NodesLeft i → i < count → check_node file (entry (11 + 2 * i)) (12 + 34 * i) ≡ Err refusal → Err refusal ≡ check_nodes file (entries entry 2 11 count) 12
   unfolding check_nodes entries answer_then
-  nodes_more lt e = rw (left_more count i lt, e)
+  nodes_refused i refusal h lt e = sym (h ∙ rw (left_more count i lt, e))
 
-  pub nodes_done_lem : count ≤ i → check_nodes file (entries entry 2 word (count - i)) at ≡ Accepted
+  pub nodes_more : (i : ℕ) → NodesLeft i → i < count → check_node file (entry (11 + 2 * i)) (12 + 34 * i) ≡ Ok tt → NodesLeft (i + 1)
+  unfolding check_nodes entries answer_then
+  nodes_more i h lt e =
+      let word : 11 + 2 * i + 2 ≡ 11 + 2 * (i + 1) = omega arith in
+      let at : 12 + 34 * i + 34 ≡ 12 + 34 * (i + 1) = omega arith in
+      h ∙ rw (left_more count i lt, e, word, at)
+
+  pub nodes_done_lem : (i : ℕ) → NodesLeft i → count ≤ i → Ok tt ≡ check_nodes file (entries entry 2 11 count) 12
   unfolding check_nodes entries
-  nodes_done_lem le = rw (left_none count i le)
+  nodes_done_lem i h le = sym (h ∙ rw (left_none count i le))
 
 -- and of records of one size
-module _ (check : ℕ → Answer) (size count i at : ℕ) where
-  pub records_refused : (number place : ℕ) → i < count → check at ≡ Refused number place → check_records check size (count - i) at ≡ Refused number place
-  unfolding check_records answer_then
-  records_refused number place lt e = rw (left_more count i lt, e)
+module _ (check : ℕ → Answer) (size count from : ℕ) where
+  abbrev pub RecordsLeft : ℕ → Type 0
+  RecordsLeft i = check_records check size count from ≡ check_records check size (count - i) (from + size * i)
 
-  pub records_more : i < count → check at ≡ Accepted → check_records check size (count - i) at ≡ check_records check size (count - (i + 1)) (at + size)
-  unfolding check_records answer_then
-  records_more lt e = rw (left_more count i lt, e)
+  pub records_first : RecordsLeft 0
+  records_first = rw (sub-zero, mul-zero, add-zero)
 
-  pub records_done : count ≤ i → check_records check size (count - i) at ≡ Accepted
+  pub records_refused : (i : ℕ) (refusal : Refusal) → RecordsLeft i → i < count → check (from + size * i) ≡ Err refusal → Err refusal ≡ check_records check size count from
+  unfolding check_records answer_then
+  records_refused i refusal h lt e = sym (h ∙ rw (left_more count i lt, e))
+
+  pub records_more : (i : ℕ) → RecordsLeft i → i < count → check (from + size * i) ≡ Ok tt → RecordsLeft (i + 1)
+  unfolding check_records answer_then
+  records_more i h lt e = let at : from + size * i + size ≡ from + size * (i + 1) = omega arith in h ∙ rw (left_more count i lt, e, at)
+
+  pub records_done : (i : ℕ) → RecordsLeft i → count ≤ i → Ok tt ≡ check_records check size count from
   unfolding check_records
-  records_done le = rw (left_none count i le)
+  records_done i h le = sym (h ∙ rw (left_none count i le))
 
 -- ---- over a store
 

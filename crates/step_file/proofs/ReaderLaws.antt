@@ -6,8 +6,8 @@ use mathlib.Core.Bool.{Bool, true, false, cond, not, ◌&&◌, ◌||◌}
 use mathlib.Core.List.{List, [], ◌∷◌, ◌++◌, append-nil, append_assoc}
 use lib.ListN.{length}
 use lib.Dec.{leb}
-use Rattle.pywr.specs.declared.Answer.{Answer}
-use Rattle.pywr.specs.declared.Answer.TheVariants.{Accepted, Refused}
+use Rattle.std.specs.Prelude.{Ok, Err}
+use Rattle.pywr.specs.Answer.{Answer}
 use Rattle.pywr.specs.declared.Interval.{Interval}
 use Rattle.pywr.specs.declared.NodeBounds.{NodeBounds}
 use Rattle.pywr.specs.Answers.{answer_of}
@@ -27,38 +27,38 @@ use Rattle.step_file.specs.CheckStep.{check_nodes, check_records, check_end, che
 
 -- what is read where the check passes
 unfoldable pub as_result : {A : Type 0} → A → Answer → Result A
-as_result x Accepted = value x
-as_result x (Refused number place) = refused number place
+as_result x (Ok _) = value x
+as_result x (Err refusal) = refused refusal.number refusal.place
 
 pub answer_back : {A : Type 0} (x : A) (a : Answer) → answer_of (as_result x a) ≡ a
 unfolding answer_of as_result
-answer_back x Accepted = refl
-answer_back x (Refused number place) = refl
+answer_back x (Ok _) = refl
+answer_back x (Err refusal) = refl
 
 then_then : (a b c : Answer) → answer_then (answer_then a b) c ≡ answer_then a (answer_then b c)
 unfolding answer_then
-then_then Accepted b c = refl
-then_then (Refused number place) b c = refl
+then_then (Ok _) b c = refl
+then_then (Err refusal) b c = refl
 
 -- a read and what follows it
 module _ {A B : Type 0} (m : Result A) (k : A → Result B) (x : A) (y : B) where
   then_law : (a b : Answer) → m ≡ as_result x a → k x ≡ as_result y b → (m >>= k) ≡ as_result y (answer_then a b)
   unfolding ◌>>=◌ answer_then as_result
-  then_law Accepted b e f = rw e f
-  then_law (Refused number place) b e f = rw e
+  then_law (Ok _) b e f = rw e f
+  then_law (Err refusal) b e f = rw e
 
   last_law : (a : Answer) → m ≡ as_result x a → k x ≡ value y → (m >>= k) ≡ as_result y a
   unfolding ◌>>=◌ as_result
-  last_law Accepted e f = rw e f
-  last_law (Refused number place) e f = rw e
+  last_law (Ok _) e f = rw e f
+  last_law (Err refusal) e f = rw e
 
-need_law : {A : Type 0} (ok : Bool) (number place : ℕ) (x : A) → need ok number place x ≡ as_result x (cond ok Accepted (Refused number place))
+need_law : {A : Type 0} (ok : Bool) (number place : ℕ) (x : A) → need ok number place x ≡ as_result x (cond ok (Ok tt) (Err (record { number = number; place = place })))
 unfolding need as_result
 need_law true number place x = refl
 need_law false number place x = refl
 
 checked_law : (b t : Bool) (ok : ℕ → Bool) (x number place short : ℕ) → ok x ≡ t
-    → checked number place ok (need b short place x) ≡ as_result x (cond b (cond t Accepted (Refused number place)) (Refused short place))
+    → checked number place ok (need b short place x) ≡ as_result x (cond b (cond t (Ok tt) (Err (record { number = number; place = place }))) (Err (record { number = short; place = place })))
 unfolding checked need ◌>>=◌ as_result
 checked_law true true ok x number place short e = rw e
 checked_law true false ok x number place short e = rw e
@@ -145,7 +145,7 @@ module _ (file : List ℕ) where
 abbrev read_up_to : {A : Type 0} → List A → ℕ → Read (List A)
 read_up_to items at = record { item = items; next = at }
 
-none_law : {A : Type 0} (size : ℕ) (so_far : List A) (at : ℕ) → value (read_up_to so_far at) ≡ as_result (read_up_to (so_far ++ []) (at + size * 0)) Accepted
+none_law : {A : Type 0} (size : ℕ) (so_far : List A) (at : ℕ) → value (read_up_to so_far at) ≡ as_result (read_up_to (so_far ++ []) (at + size * 0)) (Ok tt)
 unfolding as_result
 none_law {A} size so_far at =
     let q : at ≡ at + size * 0 = omega arith in

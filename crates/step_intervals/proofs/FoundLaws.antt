@@ -7,8 +7,9 @@ use mathlib.Core.Option.{Option, none, some}
 use lib.ListN.{get_or}
 use lib.Ieee.{Float}
 use Rattle.layout.specs.Layout.{node_rows_in, virtual_storages_held_at}
-use Rattle.pywr.specs.declared.Answer.{Answer}
-use Rattle.pywr.specs.declared.Answer.TheVariants.{Accepted, Refused}
+use Rattle.std.specs.Prelude.{Ok, Err}
+use Rattle.pywr.specs.declared.Refusal.{Refusal}
+use Rattle.pywr.specs.Answer.{Answer}
 use Rattle.pywr.specs.declared.Interval.{Interval}
 use Rattle.pywr.specs.declared.Sentinel.{Sentinel}
 use Rattle.pywr.specs.Answers.{answer_of}
@@ -54,14 +55,14 @@ module _ (s : Store) (shape file : List ℕ) (e : s.shape ≡ shape) (days : Flo
   unfolding step_ordered ordered intervals_in shape_of programme_in node_row_at node_row_entry
   nodes_answer = rw (nodes_are s file) nodes_looked.answer ∙ answers (first_refused bad 0 (intervals_in s file).nodes) (intervals_in s file)
 
-  pub nodes_refuse : (number place : ℕ) → r₁ ≡ Refused number place → Found s file (Refused number place) w₁
-  nodes_refuse number place is =
+  pub nodes_refuse : (refusal : Refusal) → r₁ ≡ Err refusal → Found s file (Err refusal) w₁
+  nodes_refuse refusal is =
       record {
         answer = sym is ∙ nodes_answer;
         held = λ a. absurd (let z : ◌≡◌ {A = ℕ} 0 1 = cc in omega arith);
       }
 
-  module _ (few_nodes : get_or shape 1 0 ≤ 256) (few_aggregates_lem : get_or shape 9 0 ≤ 64) (accepted : r₁ ≡ Accepted)
+  module _ (few_nodes : get_or shape 1 0 ≤ 256) (few_aggregates_lem : get_or shape 9 0 ≤ 64) (accepted : r₁ ≡ Ok tt)
       (w₂ w₃ : List Float) (two : Written (aggregate_numbered shape file) 256 (get_or shape 9 0) w₁ w₂)
       (three : Written (virtual_storage_numbered sentinel days shape file) virtual_storages_held_at (get_or shape 10 0) w₂ w₃) where
     virtual_storages_written : Written (virtual_storage_numbered (sentinel_of (word s 0)) (f64_at file 4) s.shape file) virtual_storages_held_at (virtual_storage_count s) w₂ w₃
@@ -85,5 +86,5 @@ module _ (s : Store) (shape file : List ℕ) (e : s.shape ≡ shape) (days : Flo
               (virtual_storage_count s) v.held ∙ sym (virtual_storages_are s file);
         }
 
-    pub all_found : Found s file Accepted w₃
+    pub all_found : Found s file (Ok tt) w₃
     all_found = record { answer = sym accepted ∙ nodes_answer; held = λ a. all_held }

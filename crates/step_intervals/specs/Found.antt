@@ -1,7 +1,6 @@
 -- What finding the intervals of a step promises: its answer, and the work run where it accepts. Assumes nothing.
-use Rattle.std.specs.Prelude.{◌≡◌, ℕ, List, length, Float}
-use Rattle.pywr.specs.declared.Answer.{Answer}
-use Rattle.pywr.specs.declared.Answer.TheVariants.{Accepted}
+use Rattle.std.specs.Prelude.{◌≡◌, ℕ, List, length, Float, Ok}
+use Rattle.pywr.specs.Answer.{Answer}
 use Rattle.pywr.specs.Answers.{answer_of}
 use Rattle.pywr.specs.Calls.{step_intervals, step_ordered}
 use Rattle.pywr.specs.StepFile.{StepFile}
@@ -20,4 +19,4 @@ intervals_in s file = step_intervals s (decoded_by s file)
 
 pub record Found (s : Store) (file : List ℕ) (r : Answer) (work : List Float) : Type 0 where
   pub answer : r ≡ answer_of (step_ordered s (decoded_by s file))
-  pub held : r ≡ Accepted → IntervalsHeld (node_count s) (aggregate_count s) (virtual_storage_count s) work (intervals_in s file)
+  pub held : r ≡ Ok tt → IntervalsHeld (node_count s) (aggregate_count s) (virtual_storage_count s) work (intervals_in s file)

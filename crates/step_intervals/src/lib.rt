@@ -18,15 +18,10 @@ pub fn find_intervals(file: &[u8], shape: &[u16], work: &mut [f64]) -> Answer
 {
     let days = step_fields::days(file);
     let sentinel = store_shape::kept_sentinel(shape);
-    let r = step_node_intervals::find_node_intervals(file, shape, days, sentinel, work);
-    match r {
-        Answer::Refused(number, place) => Answer::Refused(number, place),
-        Answer::Accepted => {
-            step_aggregate_intervals::find_aggregate_intervals(file, shape, work);
-            step_virtual_storage_intervals::find_virtual_storage_intervals(
-                file, shape, days, sentinel, work,
-            );
-            Answer::Accepted
-        }
-    }
+    step_node_intervals::find_node_intervals(file, shape, days, sentinel, work)?;
+    step_aggregate_intervals::find_aggregate_intervals(file, shape, work);
+    step_virtual_storage_intervals::find_virtual_storage_intervals(
+        file, shape, days, sentinel, work,
+    );
+    Ok(())
 }

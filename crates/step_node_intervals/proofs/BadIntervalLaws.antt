@@ -6,7 +6,9 @@ use native.Mathlib.Omega.{arith}
 use mathlib.Core.List.{List}
 use mathlib.Core.Option.{Option, none}
 use lib.Ieee.{Float}
-use Rattle.pywr.specs.declared.Answer.TheVariants.{Accepted, Refused}
+use Rattle.std.specs.Prelude.{Ok, Err}
+use Rattle.pywr.specs.declared.Reason.{Reason}
+use Rattle.pywr.specs.Answers.{refusal_at}
 use Rattle.pywr.specs.declared.Interval.{Interval}
 use Rattle.pywr.specs.declared.Sentinel.{Sentinel}
 use Rattle.pywr.specs.Programme.{NodeRow}
@@ -31,17 +33,17 @@ module _ (s : Sentinel) (node_rows : List NodeRow) (f : ℕ → Interval) (count
       rw (written.ordered k l, ← (is_held k l), least.before k lt)
 
   -- 21, of a node before every crossed one
-  pub beyond_refused : first < n → Looked test f 0 count w₀ (Refused 21 first) w
+  pub beyond_refused : first < n → Looked test f 0 count w₀ (Err (refusal_at Reason.BoundAtSentinel first)) w
   unfolding bad_interval
   beyond_refused lt =
       looked_refused test f 0 count w₀ w 21 first (omega (arith, written.few)) before (rw (written.ordered first lt, ← (is_held first lt), least.holds lt))
 
   module _ (all : n ≤ first) where
-    pub crossed_refused : n < count → Looked test f 0 count w₀ (Refused 14 n) w
+    pub crossed_refused : n < count → Looked test f 0 count w₀ (Err (refusal_at Reason.CrossedBounds n)) w
     unfolding bad_interval
     crossed_refused lt = looked_refused test f 0 count w₀ w 14 n lt (λ k less. before k (omega arith)) (rw (written.crossed lt))
 
-    pub none_bad : count ≤ n → Looked test f 0 count w₀ Accepted w
+    pub none_bad : count ≤ n → Looked test f 0 count w₀ (Ok tt) w
     none_bad le =
         let e : n ≡ count = omega (arith, written.few) in
         let all-written : Written f 0 count w₀ w = rw e at written.so_far in

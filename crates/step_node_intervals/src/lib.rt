@@ -14,11 +14,12 @@ use layout::{
     NODE_COUNT_AT, NODE_FLAG, NODE_ROW_COUNT_AT, NODE_ROW_TYPE, NODE_ROW_WIDTH, NODE_ROWS_AT,
     NODE_WIDTH, NODES_AT, UPPERS_AT,
 };
-use pywr::{Answer, Interval, NodeBounds, NodeIndex, Sentinel};
+use pywr::{Answer, Interval, NodeBounds, NodeIndex, Reason, Sentinel};
 use step_bounds::is_beyond;
-use widths::wide16;
+use step_record::STORAGE;
 
 // A node's interval; a constant node's is both sentinels, its min and max not read.
+#[tactic(auto, using(std::proofs::lemmas::Bool::Decides::nat_tests), unfolding(crate::specs::NodeIntervals::node_numbered, step_file::specs::Decoded::node_step_at, pywr::specs::StepFile::bounds_read, pywr::specs::StepIntervals::node_interval))]
 fn node_interval(
     file: &[u8],
     shape: &[u16],
@@ -29,17 +30,18 @@ fn node_interval(
     requires { (node_step_place node.0 + node_step_length ≤ length file.now) × (nodes_at + node_width * node.0 + node_width ≤ length shape.now) }
     ensures { result ≡ node_numbered sentinel days shape.now file.now node.0 }
 {
-    let k = wide16(node.0);
+    let k = usize::from(node.0);
     if shape[NODES_AT + NODE_WIDTH * k + NODE_FLAG] == 1 {
         return step_bounds::sentinels(sentinel);
     }
     let min = step_fields::node_min(file, node);
     let max = step_fields::node_max(file, node);
-    if shape[NODES_AT + NODE_WIDTH * k] == 3 {
-        let volume = step_fields::node_volume(file, node);
-        return step_bounds::interval_of(days, step_bounds::storage_bounds(min, max, volume));
-    }
-    step_bounds::interval_of(days, NodeBounds::Flow(min, max))
+    let bounds = if shape[NODES_AT + NODE_WIDTH * k] == STORAGE {
+        step_bounds::storage_bounds(min, max, step_fields::node_volume(file, node))
+    } else {
+        NodeBounds::Flow(min, max)
+    };
+    step_bounds::interval_of(days, bounds)
 }
 
 // Writes the nodes' intervals up to the first whose lower bound is over its upper, and answers how many it wrote.
@@ -53,18 +55,16 @@ fn write_node_intervals(
     requires { (shape_length ≤ length shape.now) × (step_work_length ≤ length work.old) × (nodes_in shape.now ≤ node_ceiling) × (aggregate_steps_at (nodes_in shape.now) ≤ length file.now) }
     ensures { WrittenTo (node_numbered sentinel days shape.now file.now) 0 (nodes_in shape.now) work.old result work.new }
 {
-    let nodes = wide16(shape[NODE_COUNT_AT]);
-    let mut i: usize = 0;
-    while i < nodes {
-        let x = node_interval(file, shape, NodeIndex(widths::narrow16(i)), days, sentinel);
+    let nodes = usize::from(shape[NODE_COUNT_AT]);
+    for i in 0..nodes {
+        let x = node_interval(file, shape, NodeIndex(i as u16), days, sentinel);
         if step_bounds::is_crossed(x) {
             return i;
         }
         work[i] = x.lower;
         work[UPPERS_AT + i] = x.upper;
-        i += 1;
     }
-    i
+    nodes
 }
 
 // The node of the node row at `at`, if it is under `first`, the row is binary and the node's interval has a bound at or beyond a
@@ -73,7 +73,7 @@ fn lesser_beyond(shape: &[u16], work: &[f64], sentinel: Sentinel, at: usize, fir
     requires { (at + node_row_width ≤ length shape.now) × (step_work_length ≤ length work.now) × (first ≤ node_ceiling) }
     ensures { result ≡ lesser_beyond sentinel work.now (node_row_at shape.now at) first }
 {
-    let node = wide16(shape[at]);
+    let node = usize::from(shape[at]);
     if first <= node {
         return first;
     }
@@ -93,18 +93,11 @@ fn first_beyond(shape: &[u16], work: &[f64], sentinel: Sentinel, written: usize)
     requires { (shape_length ≤ length shape.now) × (step_work_length ≤ length work.now) × (node_rows_in shape.now ≤ node_row_ceiling) × (written ≤ node_ceiling) }
     ensures { LeastOf (binary_beyond sentinel (node_rows_of shape.now (node_rows_in shape.now)) work.now) written result }
 {
-    let node_rows = wide16(shape[NODE_ROW_COUNT_AT]);
+    let node_rows = usize::from(shape[NODE_ROW_COUNT_AT]);
     let mut first = written;
-    let mut i: usize = 0;
-    while i < node_rows {
-        first = lesser_beyond(
-            shape,
-            work,
-            sentinel,
-            NODE_ROWS_AT + NODE_ROW_WIDTH * i,
-            first,
-        );
-        i += 1;
+    for i in 0..node_rows {
+        let at = NODE_ROWS_AT + NODE_ROW_WIDTH * i;
+        first = lesser_beyond(shape, work, sentinel, at, first);
     }
     first
 }
@@ -123,14 +116,14 @@ pub fn find_node_intervals(
     ensures { Looked (bad_interval sentinel (has_binary_row (node_rows_of shape.now (node_rows_in shape.now))))
         (node_numbered sentinel days shape.now file.now) 0 (nodes_in shape.now) work.old result work.new }
 {
-    let nodes = wide16(shape[NODE_COUNT_AT]);
+    let nodes = usize::from(shape[NODE_COUNT_AT]);
     let written = write_node_intervals(file, shape, days, sentinel, work);
     let first = first_beyond(shape, work, sentinel, written);
     if first < written {
-        return Answer::Refused(21, first);
+        return Err(Reason::BoundAtSentinel.at(first));
     }
     if written < nodes {
-        return Answer::Refused(14, written);
+        return Err(Reason::CrossedBounds.at(written));
     }
-    Answer::Accepted
+    Ok(())
 }

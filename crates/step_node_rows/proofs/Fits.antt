@@ -1,5 +1,5 @@
 -- What fits of a node row whose row is binary: its set's integer column, and the coefficient on it. Assumes nothing.
-use mathlib.Core.Path.{◌≡◌}
+use mathlib.Core.Path.{◌≡◌, refl}
 use Prim.Native.Nat.{ℕ, ◌+◌, ◌<◌, ◌≤◌}
 use native.Mathlib.Omega.{arith}
 use mathlib.Core.Bool.{true}
@@ -9,7 +9,15 @@ use lib.Seq.{slice}
 use Rattle.layout.specs.Layout.{column_ceiling, element_ceiling, edge_columns_in, node_row_row, node_row_type, node_row_set}
 use Rattle.pywr.specs.Network.{listed}
 use Rattle.store_rows.proofs.Starts.{start_under}
-use Rattle.step_node_rows.specs.NodeConstraintBounds.{NodeRowFits, VaryingFit}
+use Rattle.step_node_rows.specs.declared.NodeRowType.{NodeRowType}
+use Rattle.step_node_rows.specs.declared.NodeRowType.TheVariants.{Continuous, BinaryUpper, BinaryLower}
+use Rattle.step_node_rows.specs.NodeConstraintBounds.{IsRowType, NodeRowFits, VaryingFit}
+
+-- a row whose type is not continuous is binary by its word too
+pub binary_word : {word : ℕ} (t : NodeRowType) → IsRowType word t → (t ≡ Continuous → ⊥) → word ≡ 0 → ⊥
+binary_word Continuous is n = absurd (n refl)
+binary_word BinaryUpper is n = λ e. omega (arith, is)
+binary_word BinaryLower is n = is.0
 
 module _ {columns row_starts shape : List ℕ} {at : ℕ} (fit : VaryingFit columns row_starts shape) (fits : NodeRowFits columns row_starts shape at) (binary : node_row_type shape at ≡ 0 → ⊥) where
   pub column_under : edge_columns_in shape + node_row_set shape at < column_ceiling

@@ -1,5 +1,5 @@
 -- The varying rows of a store in its runs, and what the passes over the node rows need and promise. Assumes nothing.
-use Rattle.std.specs.Prelude.{◌≡◌, ℕ, ◌+◌, ◌<◌, ◌≤◌, true, cond, length, get_or, eqb, Float}
+use Rattle.std.specs.Prelude.{◌≡◌, ℕ, ◌+◌, ◌<◌, ◌≤◌, true, cond, length, get_or, eqb, Float, Option, Some, None}
 use mathlib.Core.List.{List, map, flat_map}
 use Rattle.std.proofs.lemmas.List.Edits.{sets}
 use Rattle.std.proofs.Math.Seq.{slice}
@@ -15,6 +15,8 @@ use Rattle.pywr.specs.Written.{columns_in, values_in}
 use Rattle.store_rows.specs.Starts.{RowsWithin}
 use Rattle.step_work.specs.WorkRun.{held_from}
 use Rattle.step_row_bounds.specs.RowBounds.{BoundsWritten}
+use Rattle.step_node_rows.specs.declared.NodeRowType.{NodeRowType}
+use Rattle.step_node_rows.specs.declared.NodeRowType.TheVariants.{Continuous, BinaryUpper, BinaryLower}
 
 -- the store s with these columns, row starts and shape
 abbrev pub over : Store → List ℕ → List ℕ → List ℕ → Store
@@ -86,6 +88,17 @@ coefficient_change work s n = apply_coefficient n.row_type (edge_column_count s 
 -- the coefficient that an interval gives to a binary row
 unfoldable pub coefficient_by_word : ℕ → Interval → Float
 coefficient_by_word row_type by = cond (eqb row_type 1) by.upper (neg by.lower)
+
+-- the word of a row's type in a node row
+abbrev pub IsRowType : ℕ → NodeRowType → Type 0
+IsRowType word Continuous = word ≡ 0
+IsRowType word BinaryUpper = word ≡ 1
+IsRowType word BinaryLower = (word ≡ 0 → ⊥) × (word ≡ 1 → ⊥)
+
+-- none to a continuous row, and to a binary one that coefficient
+abbrev pub CoefficientGiven : ℕ → Interval → Option Float → Type 0
+CoefficientGiven word by None = word ≡ 0
+CoefficientGiven word by (Some x) = (word ≡ 0 → ⊥) × (x ≡ coefficient_by_word word by)
 
 -- the rows after the node row at `at` changed its row
 abbrev pub node_row_applied : Store → (Store → NodeRow → Row → Row) → ℕ → List Row → List Row

@@ -1,7 +1,8 @@
 -- The marks, fields and records of a step file, each checked where it stands: accepted, or 12 or 13 with the record's place. Assumes nothing.
-use Rattle.std.specs.Prelude.{ℕ, ◌+◌, List, Bool, true, cond, ◌&&◌, leb}
-use Rattle.pywr.specs.declared.Answer.{Answer}
-use Rattle.pywr.specs.declared.Answer.TheVariants.{Accepted, Refused}
+use Rattle.std.specs.Prelude.{ℕ, ◌+◌, List, Bool, true, cond, ◌&&◌, leb, Ok, Err}
+use Rattle.pywr.specs.declared.Reason.{Reason}
+use Rattle.pywr.specs.Answer.{Answer}
+use Rattle.pywr.specs.Answers.{refusal_at}
 use Rattle.pywr.specs.Bytes.{byte, le64, within, mark_is}
 use Rattle.pywr.specs.Numbers.{is_flow, is_small, is_days}
 use Rattle.pywr.specs.Programme.{NodeShape}
@@ -76,18 +77,20 @@ unfoldable pub volume_range : Bool → Range
 volume_range stores = cond stores Small Unread
 
 unfoldable pub check_mark : List ℕ → ℕ → ℕ → ℕ → Answer
-check_mark file at a b = cond (within file at 2 && mark_is file at a b) Accepted (Refused 12 at)
+check_mark file at a b = cond (within file at 2 && mark_is file at a b) (Ok tt) (Err (refusal_at Reason.WrongStepFile at))
 
 unfoldable pub check_field : List ℕ → ℕ → ℕ → Range → Answer
-check_field file place at range = cond (within file at 8) (cond (in_range range (le64 file at)) Accepted (Refused 13 place)) (Refused 12 place)
+check_field file place at range =
+    cond (within file at 8) (cond (in_range range (le64 file at)) (Ok tt) (Err (refusal_at Reason.StepOutOfRange place))) (Err (refusal_at Reason.WrongStepFile place))
 
 unfoldable pub check_byte : List ℕ → ℕ → ℕ → Answer
-check_byte file at most = cond (within file at 1) (cond (leb 1 (byte file at) && leb (byte file at) most) Accepted (Refused 13 0)) (Refused 12 0)
+check_byte file at most =
+    cond (within file at 1) (cond (leb 1 (byte file at) && leb (byte file at) most) (Ok tt) (Err (refusal_at Reason.StepOutOfRange 0))) (Err (refusal_at Reason.WrongStepFile 0))
 
 -- the first refusal ends the reading
 unfoldable pub answer_then : Answer → Answer → Answer
-answer_then Accepted next = next
-answer_then (Refused number place) next = Refused number place
+answer_then (Ok _) next = next
+answer_then (Err refusal) next = Err refusal
 
 unfoldable pub check_date : List ℕ → Answer
 check_date file =

@@ -1,11 +1,11 @@
 -- Rows at the front of their runs, and one of them adjusted. Assumes nothing.
 use mathlib.Core.Path.{◌≡◌, refl, sym, ap, ◌∙◌}
-use Prim.Native.Nat.{ℕ, zero, suc, ◌+◌, ◌<◌, ◌≤◌}
-use native.Mathlib.Nat.{add-zero, add-suc, suc-add, zero-add, not-suc-le-zero}
+use Prim.Native.Nat.{ℕ, zero, suc, ◌<◌, ◌≤◌}
+use native.Mathlib.Nat.{zero-add}
 use native.Mathlib.Omega.{arith}
 use mathlib.Core.List.{List, [], ◌∷◌, ◌++◌, map, flat_map}
-use lib.ListN.{length, get_or, set, replicate, length-map, get_or-map}
-use lib.Seq.{sets, set-set, set_comm, length-sets}
+use lib.ListN.{length, get_or, set, drop, replicate, length-map, length-set, get_or-map, get_or-append}
+use lib.Seq.{sets, sets-eq, set-append_left, length-sets}
 use lib.Ieee.{Float}
 use Rattle.laws.proofs.Runs.{get_d_any}
 use Rattle.pywr.specs.declared.Interval.{Interval}
@@ -14,41 +14,28 @@ use Rattle.pywr.specs.Interval.{tighten}
 use Rattle.pywr.specs.Programme.{Row}
 use Rattle.pywr.specs.Step.{adjust, with_bounds, apply_row_bounds}
 use Rattle.pywr.specs.Written.{lower_of, upper_of}
-use Rattle.pywr.proofs.StoreLaws.{Holds, sets_holds}
 use Rattle.step_row_bounds.specs.RowBounds.{BoundsWritten, RowSet, RowTightened}
 
 -- ---- runs
 
 module _ {A : Type 0} where
-  set_before : (xs l : List A) (to at : ℕ) (v : A) → at < to → set (sets l to xs) at v ≡ sets (set l at v) to xs
-  set_before [] l to at v h = refl
-  set_before (x ∷ xs) l to at v h =
-      set_before xs (set l to x) (suc to) at v (omega arith) ∙ ap (λ (t : List A). sets t (suc to) xs) (set_comm l to at x v (λ e. omega arith))
+  -- what is written stands in front of the rest
+  in_front : (xs l : List A) → length xs ≤ length l → sets l 0 xs ≡ xs ++ drop (length xs) l
+  in_front xs l room = sets-eq xs l 0 (omega arith) ∙ rw zero-add
 
-  set_from : (xs l : List A) (to p : ℕ) (v : A) → p < length xs → set (sets l to xs) (to + p) v ≡ sets l to (set xs p v)
-  set_from [] l to p v h = absurd (not-suc-le-zero h)
-  set_from (x ∷ xs) l to zero v h =
-      ap (λ (k : ℕ). set (sets (set l to x) (suc to) xs) k v) (add-zero to)
-      ∙ set_before xs (set l to x) (suc to) to v (omega arith)
-      ∙ ap (λ (t : List A). sets t (suc to) xs) (set-set l to x v)
-  set_from (x ∷ xs) l to (suc p) v h =
-      ap (λ (k : ℕ). set (sets (set l to x) (suc to) xs) k v) (add-suc to p ∙ sym (suc-add to p))
-      ∙ set_from xs (set l to x) (suc to) p v (let k : suc p < suc (length xs) = h in omega arith)
+  set_written : (xs l : List A) (p : ℕ) (v : A) → p < length xs → length xs ≤ length l → set (sets l 0 xs) p v ≡ sets l 0 (set xs p v)
+  set_written xs l p v h room =
+      let same = length-set xs p v in
+      rw (in_front xs l room, in_front (set xs p v) l (omega arith), same) (set-append_left xs (drop (length xs) l) p v h)
 
-  -- a store into what was written
-  set_written : (xs l : List A) (p : ℕ) (v : A) → p < length xs → set (sets l 0 xs) p v ≡ sets l 0 (set xs p v)
-  set_written xs l p v h = ap (λ (k : ℕ). set (sets l 0 xs) k v) (sym (zero-add p)) ∙ set_from xs l 0 p v h
-
-  -- what was written stands there
   get_written : (xs l : List A) (p : ℕ) (d : A) → p < length xs → length xs ≤ length l → get_or (sets l 0 xs) p d ≡ get_or xs p d
-  unfolding Holds
-  get_written xs l p d h room = ap (λ (k : ℕ). get_or (sets l 0 xs) k d) (sym (zero-add p)) ∙ sets_holds d xs l 0 (omega arith) p h
+  get_written xs l p d h room = rw (in_front xs l room) (get_or-append xs (drop (length xs) l) d p h)
 
   -- a change of what was written
   pub change_written : (xs l : List A) (p : ℕ) (d : A) (change : A → A) → p < length xs → length xs ≤ length l
       → set (sets l 0 xs) p (change (get_or (sets l 0 xs) p d)) ≡ sets l 0 (set xs p (change (get_or xs p d)))
   change_written xs l p d change h room =
-      ap (λ (y : A). set (sets l 0 xs) p (change y)) (get_written xs l p d h room) ∙ set_written xs l p (change (get_or xs p d)) h
+      ap (λ (y : A). set (sets l 0 xs) p (change y)) (get_written xs l p d h room) ∙ set_written xs l p (change (get_or xs p d)) h room
 
 -- ---- one row adjusted
 

@@ -1,2 +1,3 @@
 pub mod AdjustLaws
 pub mod Applied
+pub mod SameRuns

@@ -1,1 +1,2 @@
+pub mod SameRuns
 pub mod RowBounds

@@ -9,13 +9,24 @@ ghost use Rattle.pywr.specs.Programme.{Row};
 ghost use Rattle.pywr.specs.Store.{sentinel_of, entries};
 ghost use Rattle.pywr.specs.Step.{with_bounds, apply_intervals};
 ghost use Rattle.step_work.specs.WorkRun.{held_at, held_from};
+ghost use Rattle.step_row_bounds.specs.SameRuns.{BoundsAlone};
 ghost use Rattle.step_row_bounds.specs.RowBounds.{BoundsWritten, RowSet, RowTightened, RowTable};
 
 use extremes::{greater, lesser};
 use layout::{UPPERS_AT, VARYING_COUNT_AT};
 use pywr::Interval;
 use store_shape::kept_sentinel;
-use widths::wide16;
+
+// The runs whose rows a step writes, and the tables that it reads.
+#[derive(Drop)]
+pub struct StoreRows<'a> {
+    pub row_lower: &'a mut [f64],
+    pub row_upper: &'a mut [f64],
+    pub elements: &'a mut [f64],
+    pub columns: &'a [u16],
+    pub row_starts: &'a [u32],
+    pub shape: &'a [u16],
+}
 
 // Interval k of a step's work run.
 pub fn held_interval(work: &[f64], k: usize) -> Interval
@@ -29,16 +40,18 @@ pub fn held_interval(work: &[f64], k: usize) -> Interval
 }
 
 // Every varying row's bounds become the store's sentinels.
-pub fn reset_row_bounds(row_lower: &mut [f64], row_upper: &mut [f64], shape: &[u16])
-    requires { (shape_length ≤ length shape.now) × (varying_in shape.now ≤ row_ceiling) × (row_ceiling ≤ length row_lower.old) × (row_ceiling ≤ length row_upper.old) }
-    ensures { (rows : List Row) → length rows ≡ varying_in shape.now
-        → BoundsWritten (map (with_bounds (sentinels (sentinel_of (sentinel_in shape.now)))) rows)
-        row_lower.old row_upper.old row_lower.new row_upper.new }
+pub fn reset_row_bounds(store: &mut StoreRows<'_>)
+    requires { (shape_length ≤ length store.old.shape.now) × (varying_in store.old.shape.now ≤ row_ceiling)
+        × (row_ceiling ≤ length store.old.row_lower.now) × (row_ceiling ≤ length store.old.row_upper.now) }
+    ensures rows { (rows : List Row) → length rows ≡ varying_in store.old.shape.now
+        → BoundsWritten (map (with_bounds (sentinels (sentinel_of (sentinel_in store.old.shape.now)))) rows)
+        store.old.row_lower.now store.old.row_upper.now store.new.row_lower.now store.new.row_upper.now }
+    ensures alone { BoundsAlone store.old store.new }
 {
-    let sentinel = kept_sentinel(shape);
-    let rows = wide16(shape[VARYING_COUNT_AT]);
-    runs::fill_f64(row_lower, 0, rows, sentinel.low());
-    runs::fill_f64(row_upper, 0, rows, sentinel.high());
+    let sentinel = kept_sentinel(store.shape);
+    let rows = usize::from(store.shape[VARYING_COUNT_AT]);
+    runs::fill(store.row_lower, 0, rows, sentinel.low());
+    runs::fill(store.row_upper, 0, rows, sentinel.high());
 }
 
 fn tighten(held: Interval, by: Interval) -> Interval
@@ -51,50 +64,47 @@ fn tighten(held: Interval, by: Interval) -> Interval
 }
 
 // A row's bounds become the interval's.
-pub fn set_row_bounds(row_lower: &mut [f64], row_upper: &mut [f64], row: usize, bounds: Interval)
-    requires { (row < length row_lower.old) × (row < length row_upper.old) }
-    ensures { RowSet row bounds row_lower.old row_upper.old row_lower.new row_upper.new }
+pub fn set_row_bounds(store: &mut StoreRows<'_>, row: usize, bounds: Interval)
+    requires { (row < length store.old.row_lower.now) × (row < length store.old.row_upper.now) }
+    ensures row { RowSet row bounds store.old.row_lower.now store.old.row_upper.now store.new.row_lower.now store.new.row_upper.now }
+    ensures alone { BoundsAlone store.old store.new }
 {
-    row_lower[row] = bounds.lower;
-    row_upper[row] = bounds.upper;
+    store.row_lower[row] = bounds.lower;
+    store.row_upper[row] = bounds.upper;
 }
 
 // A row's bounds tightened by an interval: a looser bound is ignored.
-pub fn apply_row_bounds(row_lower: &mut [f64], row_upper: &mut [f64], row: usize, by: Interval)
-    requires { (row < length row_lower.old) × (row < length row_upper.old) }
-    ensures { RowTightened row by row_lower.old row_upper.old row_lower.new row_upper.new }
+pub fn apply_row_bounds(store: &mut StoreRows<'_>, row: usize, by: Interval)
+    requires { (row < length store.old.row_lower.now) × (row < length store.old.row_upper.now) }
+    ensures row { RowTightened row by store.old.row_lower.now store.old.row_upper.now store.new.row_lower.now store.new.row_upper.now }
+    ensures alone { BoundsAlone store.old store.new }
 {
     let held = Interval {
-        lower: row_lower[row],
-        upper: row_upper[row],
+        lower: store.row_lower[row],
+        upper: store.row_upper[row],
     };
-    set_row_bounds(row_lower, row_upper, row, tighten(held, by));
+    set_row_bounds(store, row, tighten(held, by));
 }
 
 // The intervals from `first` on, applied one after another to the rows that a table of the shape run names.
 pub fn apply_intervals(
-    row_lower: &mut [f64],
-    row_upper: &mut [f64],
-    shape: &[u16],
+    store: &mut StoreRows<'_>,
     table: usize,
     words: usize,
     count: usize,
     work: &[f64],
     first: usize,
 )
-    requires { RowTable shape.now table words count × (row_ceiling ≤ length row_lower.old) × (row_ceiling ≤ length row_upper.old)
+    requires { RowTable store.old.shape.now table words count × (row_ceiling ≤ length store.old.row_lower.now) × (row_ceiling ≤ length store.old.row_upper.now)
         × (step_work_length ≤ length work.now) × (first + count ≤ uppers_at) }
-    ensures { (rows : List Row) (lower upper : List Float) → length rows ≡ varying_in shape.now
-        → BoundsWritten rows lower upper row_lower.old row_upper.old
-        → BoundsWritten (apply_intervals (entries (λ at. entry_row shape.now at) words table count) (held_from work.now first count) rows)
-        lower upper row_lower.new row_upper.new }
+    ensures rows { (rows : List Row) (lower upper : List Float) → length rows ≡ varying_in store.old.shape.now
+        → BoundsWritten rows lower upper store.old.row_lower.now store.old.row_upper.now
+        → BoundsWritten (apply_intervals (entries (λ at. entry_row store.old.shape.now at) words table count) (held_from work.now first count) rows)
+        lower upper store.new.row_lower.now store.new.row_upper.now }
+    ensures alone { BoundsAlone store.old store.new }
 {
-    let mut at = table;
-    let mut i: usize = 0;
-    while i < count {
-        let row = wide16(shape[at]);
-        apply_row_bounds(row_lower, row_upper, row, held_interval(work, first + i));
-        at += words;
-        i += 1;
+    for i in 0..count {
+        let row = usize::from(store.shape[table + words * i]);
+        apply_row_bounds(store, row, held_interval(work, first + i));
     }
 }

@@ -7,6 +7,7 @@ ghost use Rattle.layout.specs.Layout.{node_row_ceiling, row_ceiling, element_cei
 ghost use Rattle.pywr.specs.Programme.{Row};
 ghost use Rattle.pywr.specs.StepIntervals.{Intervals};
 ghost use Rattle.pywr.specs.Store.{Store};
+ghost use Rattle.step_row_bounds.specs.SameRuns.{SameRuns};
 ghost use Rattle.step_node_rows.specs.NodeConstraintBounds.{over, VaryingWritten, NodeRowFits, VaryingFit};
 ghost use Rattle.step_rows.specs.ConstraintBounds.{store_of, StepRuns, StepWritten, HasRuns, HeldIn, binary_rows_updated};
 
@@ -15,73 +16,52 @@ use layout::{
     VIRTUAL_STORAGE_COUNT_AT, VIRTUAL_STORAGE_WIDTH, VIRTUAL_STORAGES_AT, VIRTUAL_STORAGES_HELD_AT,
 };
 use step_node_rows::{reset_binary_rows, update_coefficients, update_node_constraint_bounds};
-use step_row_bounds::{apply_intervals, reset_row_bounds};
-use widths::wide16;
+use step_row_bounds::{StoreRows, apply_intervals, reset_row_bounds};
 
 // The binary rows: reset, then with the step's coefficients.
-fn update_binary_rows(
-    row_lower: &mut [f64],
-    row_upper: &mut [f64],
-    elements: &mut [f64],
-    columns: &[u16],
-    row_starts: &[u32],
-    shape: &[u16],
-    work: &[f64],
-)
-    requires { (row_ceiling ≤ length row_lower.old) × (row_ceiling ≤ length row_upper.old) × (element_ceiling ≤ length elements.old) × (step_work_length ≤ length work.now)
-        × VaryingFit columns.now row_starts.now shape.now × (node_rows_in shape.now ≤ node_row_ceiling)
-        × ((k : ℕ) → k < node_rows_in shape.now → NodeRowFits columns.now row_starts.now shape.now (node_rows_at + node_row_width * k)) }
-    ensures { (s : Store) (rows : List Row)
-        → VaryingWritten (over s columns.now row_starts.now shape.now) rows
-        row_lower.old row_upper.old elements.old
-        → VaryingWritten (over s columns.now row_starts.now shape.now)
-        (binary_rows_updated (over s columns.now row_starts.now shape.now) work.now rows)
-        row_lower.new row_upper.new elements.new }
+fn update_binary_rows(store: &mut StoreRows<'_>, work: &[f64])
+    requires { (row_ceiling ≤ length store.old.row_lower.now) × (row_ceiling ≤ length store.old.row_upper.now) × (element_ceiling ≤ length store.old.elements.now)
+        × (step_work_length ≤ length work.now) × VaryingFit store.old.columns.now store.old.row_starts.now store.old.shape.now × (node_rows_in store.old.shape.now ≤ node_row_ceiling)
+        × ((k : ℕ) → k < node_rows_in store.old.shape.now → NodeRowFits store.old.columns.now store.old.row_starts.now store.old.shape.now (node_rows_at + node_row_width * k)) }
+    ensures rows { (s : Store) (rows : List Row)
+        → VaryingWritten (over s store.old.columns.now store.old.row_starts.now store.old.shape.now) rows
+        store.old.row_lower.now store.old.row_upper.now store.old.elements.now
+        → VaryingWritten (over s store.old.columns.now store.old.row_starts.now store.old.shape.now)
+        (binary_rows_updated (over s store.old.columns.now store.old.row_starts.now store.old.shape.now) work.now rows)
+        store.new.row_lower.now store.new.row_upper.now store.new.elements.now }
+    ensures same { SameRuns store.old store.new }
 {
-    reset_binary_rows(row_lower, row_upper, elements, columns, row_starts, shape);
-    update_coefficients(elements, columns, row_starts, shape, work);
+    reset_binary_rows(store);
+    update_coefficients(store, work);
 }
 
-pub fn update_constraint_bounds(
-    row_lower: &mut [f64],
-    row_upper: &mut [f64],
-    elements: &mut [f64],
-    columns: &[u16],
-    row_starts: &[u32],
-    shape: &[u16],
-    work: &[f64],
-)
-    requires { StepRuns (store_of row_lower.old row_upper.old elements.old columns.now row_starts.now shape.now) work.now }
-    ensures { (s : Store) (i : Intervals)
-        → HasRuns s row_lower.old row_upper.old elements.old columns.now row_starts.now shape.now
+pub fn update_constraint_bounds(store: &mut StoreRows<'_>, work: &[f64])
+    requires { StepRuns (store_of store.old.row_lower.now store.old.row_upper.now store.old.elements.now store.old.columns.now store.old.row_starts.now store.old.shape.now) work.now }
+    ensures rows { (s : Store) (i : Intervals)
+        → HasRuns s store.old.row_lower.now store.old.row_upper.now store.old.elements.now store.old.columns.now store.old.row_starts.now store.old.shape.now
         → HeldIn s work.now i
-        → StepWritten s i row_lower.new row_upper.new elements.new }
+        → StepWritten s i store.new.row_lower.now store.new.row_upper.now store.new.elements.now }
+    ensures same { SameRuns store.old store.new }
 {
-    reset_row_bounds(row_lower, row_upper, shape);
-    update_node_constraint_bounds(row_lower, row_upper, shape, work);
-    let aggregates = wide16(shape[AGGREGATE_COUNT_AT]);
+    reset_row_bounds(store);
+    update_node_constraint_bounds(store, work);
+    let aggregates = usize::from(store.shape[AGGREGATE_COUNT_AT]);
     apply_intervals(
-        row_lower,
-        row_upper,
-        shape,
+        store,
         AGGREGATES_AT,
         AGGREGATE_WIDTH,
         aggregates,
         work,
         AGGREGATES_HELD_AT,
     );
-    let virtual_storages = wide16(shape[VIRTUAL_STORAGE_COUNT_AT]);
+    let virtual_storages = usize::from(store.shape[VIRTUAL_STORAGE_COUNT_AT]);
     apply_intervals(
-        row_lower,
-        row_upper,
-        shape,
+        store,
         VIRTUAL_STORAGES_AT,
         VIRTUAL_STORAGE_WIDTH,
         virtual_storages,
         work,
         VIRTUAL_STORAGES_HELD_AT,
     );
-    update_binary_rows(
-        row_lower, row_upper, elements, columns, row_starts, shape, work,
-    );
+    update_binary_rows(store, work);
 }

@@ -8,8 +8,10 @@ ghost use Rattle.step_file.specs.Decoded.{virtual_storage_step_at};
 ghost use Rattle.step_virtual_interval.specs.VirtualInterval.{virtual_interval_at};
 
 use pywr::{Interval, NodeBounds, Sentinel};
+use step_period::MonthDay;
 
 // The available and missing volume of the virtual storage whose record stands at `at`.
+#[tactic(auto, unfolding(step_file::specs::Decoded::virtual_storage_step_at))]
 fn bounds_at(file: &[u8], at: usize) -> NodeBounds
     requires { at + virtual_storage_step_length ≤ length file.now }
     ensures { result ≡ virtual_storage_step_at file.now at }
@@ -21,6 +23,7 @@ fn bounds_at(file: &[u8], at: usize) -> NodeBounds
 }
 
 // A virtual storage's interval on the step's date; both sentinels outside its period.
+#[tactic(auto, unfolding(crate::specs::VirtualInterval::virtual_interval_at, pywr::specs::Period::virtual_interval))]
 pub fn virtual_storage_interval(
     file: &[u8],
     shape: &[u16],
@@ -34,8 +37,9 @@ pub fn virtual_storage_interval(
 {
     let month = step_fields::month(file);
     let day = step_fields::day(file);
-    if step_period::is_active_at(shape, place, month, day) {
-        return step_bounds::interval_of(days, bounds_at(file, at));
+    if step_period::is_active_at(shape, place, MonthDay { month, day }) {
+        step_bounds::interval_of(days, bounds_at(file, at))
+    } else {
+        step_bounds::sentinels(sentinel)
     }
-    step_bounds::sentinels(sentinel)
 }

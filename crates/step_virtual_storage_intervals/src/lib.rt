@@ -12,7 +12,6 @@ use layout::{
     VIRTUAL_STORAGES_AT, VIRTUAL_STORAGES_HELD_AT,
 };
 use pywr::Sentinel;
-use widths::wide16;
 
 pub fn find_virtual_storage_intervals(
     file: &[u8],
@@ -27,11 +26,10 @@ pub fn find_virtual_storage_intervals(
     ensures { Written (virtual_storage_numbered sentinel days shape.now file.now) virtual_storages_held_at
         (virtual_storages_in shape.now) work.old work.new }
 {
-    let nodes = wide16(shape[NODE_COUNT_AT]);
-    let aggregates = wide16(shape[AGGREGATE_COUNT_AT]);
-    let virtual_storages = wide16(shape[VIRTUAL_STORAGE_COUNT_AT]);
-    let mut i: usize = 0;
-    while i < virtual_storages {
+    let nodes = usize::from(shape[NODE_COUNT_AT]);
+    let aggregates = usize::from(shape[AGGREGATE_COUNT_AT]);
+    let virtual_storages = usize::from(shape[VIRTUAL_STORAGE_COUNT_AT]);
+    for i in 0..virtual_storages {
         let x = step_virtual_interval::virtual_storage_interval(
             file,
             shape,
@@ -43,6 +41,5 @@ pub fn find_virtual_storage_intervals(
         let k = VIRTUAL_STORAGES_HELD_AT + i;
         work[k] = x.lower;
         work[UPPERS_AT + k] = x.upper;
-        i += 1;
     }
 }

@@ -17,37 +17,28 @@ use layout::{
     NODE_ROW_TYPE, NODE_ROW_WIDTH, NODE_ROWS_AT, NODE_WIDTH, NODES_AT, UPPERS_AT,
     VIRTUAL_STORAGE_COUNT_AT, VIRTUAL_STORAGE_WIDTH, VIRTUAL_STORAGES_AT, VIRTUAL_STORAGES_HELD_AT,
 };
-use pywr::{Answer, Sentinel};
+use pywr::Sentinel;
 use step_bounds::is_beyond;
+use step_period::MonthDay;
 use step_record::{
     AGGREGATE_STEP_LENGTH, DATE_LENGTH, NODE_STEP_LENGTH, VIRTUAL_STORAGE_STEP_LENGTH,
 };
-use step_walk_record::Walked;
-use widths::wide16;
 
 // The nodes' records, and their intervals.
 fn walk_nodes(file: &[u8], shape: &[u16], days: f64, sentinel: Sentinel, work: &mut [f64]) -> bool
     requires { (shape_length ≤ length shape.now) × (step_work_length ≤ length work.old) × (nodes_in shape.now ≤ node_ceiling) × (aggregate_steps_at (nodes_in shape.now) ≤ length file.now) }
     ensures { result ≡ true → NodesWalked sentinel days shape.now file.now work.old work.new }
 {
-    let nodes = wide16(shape[NODE_COUNT_AT]);
-    let mut i: usize = 0;
-    let mut at: usize = DATE_LENGTH;
-    while i < nodes {
+    let nodes = usize::from(shape[NODE_COUNT_AT]);
+    for i in 0..nodes {
         let kind = shape[NODES_AT + NODE_WIDTH * i];
         let constant = shape[NODES_AT + NODE_WIDTH * i + NODE_FLAG];
-        let node = step_walk_record::walk_node(file, at, kind, constant, days, sentinel);
-        match node {
-            Walked::Stopped => {
-                return false;
-            }
-            Walked::Good(x) => {
-                work[i] = x.lower;
-                work[UPPERS_AT + i] = x.upper;
-                at += NODE_STEP_LENGTH;
-                i += 1;
-            }
-        }
+        let at = DATE_LENGTH + NODE_STEP_LENGTH * i;
+        let Some(x) = step_walk_record::walk_node(file, at, kind, constant, days, sentinel) else {
+            return false;
+        };
+        work[i] = x.lower;
+        work[UPPERS_AT + i] = x.upper;
     }
     true
 }
@@ -57,17 +48,15 @@ fn none_beyond(shape: &[u16], work: &[f64], sentinel: Sentinel) -> bool
     requires { (shape_length ≤ length shape.now) × (step_work_length ≤ length work.now) × (nodes_in shape.now ≤ node_ceiling) × (node_rows_in shape.now ≤ node_row_ceiling) × NodesNamed shape.now }
     ensures { result ≡ true → NoneBeyond sentinel shape.now work.now }
 {
-    let node_rows = wide16(shape[NODE_ROW_COUNT_AT]);
-    let mut i: usize = 0;
-    while i < node_rows {
+    let node_rows = usize::from(shape[NODE_ROW_COUNT_AT]);
+    for i in 0..node_rows {
         let at = NODE_ROWS_AT + NODE_ROW_WIDTH * i;
         if shape[at + NODE_ROW_TYPE] != 0 {
-            let node = wide16(shape[at]);
+            let node = usize::from(shape[at]);
             if is_beyond(work[node], sentinel) | is_beyond(work[UPPERS_AT + node], sentinel) {
                 return false;
             }
         }
-        i += 1;
     }
     true
 }
@@ -79,24 +68,17 @@ fn walk_aggregates(file: &[u8], shape: &[u16], work: &mut [f64]) -> bool
     ensures { result ≡ true → RecordsWalked (check_aggregate file.now) aggregate_step_length (aggregate_steps_at (nodes_in shape.now))
         (aggregate_numbered shape.now file.now) aggregates_held_at (aggregates_in shape.now) work.old work.new }
 {
-    let nodes = wide16(shape[NODE_COUNT_AT]);
-    let aggregates = wide16(shape[AGGREGATE_COUNT_AT]);
-    let mut i: usize = 0;
-    let mut at: usize = DATE_LENGTH + NODE_STEP_LENGTH * nodes;
-    while i < aggregates {
-        let aggregate = step_walk_record::walk_aggregate(file, at);
-        match aggregate {
-            Walked::Stopped => {
-                return false;
-            }
-            Walked::Good(x) => {
-                let k = AGGREGATES_HELD_AT + i;
-                work[k] = x.lower;
-                work[UPPERS_AT + k] = x.upper;
-                at += AGGREGATE_STEP_LENGTH;
-                i += 1;
-            }
-        }
+    let nodes = usize::from(shape[NODE_COUNT_AT]);
+    let aggregates = usize::from(shape[AGGREGATE_COUNT_AT]);
+    let first = DATE_LENGTH + NODE_STEP_LENGTH * nodes;
+    for i in 0..aggregates {
+        let at = first + AGGREGATE_STEP_LENGTH * i;
+        let Some(x) = step_walk_record::walk_aggregate(file, at) else {
+            return false;
+        };
+        let k = AGGREGATES_HELD_AT + i;
+        work[k] = x.lower;
+        work[UPPERS_AT + k] = x.upper;
     }
     true
 }
@@ -117,30 +99,24 @@ fn walk_virtual_storages(
         (virtual_storage_numbered sentinel days shape.now file.now) virtual_storages_held_at (virtual_storages_in shape.now)
         work.old work.new }
 {
-    let nodes = wide16(shape[NODE_COUNT_AT]);
-    let aggregates = wide16(shape[AGGREGATE_COUNT_AT]);
-    let virtual_storages = wide16(shape[VIRTUAL_STORAGE_COUNT_AT]);
+    let nodes = usize::from(shape[NODE_COUNT_AT]);
+    let aggregates = usize::from(shape[AGGREGATE_COUNT_AT]);
+    let virtual_storages = usize::from(shape[VIRTUAL_STORAGE_COUNT_AT]);
     let month = step_fields::month(file);
     let day = step_fields::day(file);
-    let mut i: usize = 0;
-    let mut at: usize = DATE_LENGTH + NODE_STEP_LENGTH * nodes + AGGREGATE_STEP_LENGTH * aggregates;
-    while i < virtual_storages {
+    let date = MonthDay { month, day };
+    let first = DATE_LENGTH + NODE_STEP_LENGTH * nodes + AGGREGATE_STEP_LENGTH * aggregates;
+    for i in 0..virtual_storages {
         let place = VIRTUAL_STORAGES_AT + VIRTUAL_STORAGE_WIDTH * i;
-        let storage = step_walk_record::walk_virtual_storage(
-            file, shape, place, at, month, day, days, sentinel,
-        );
-        match storage {
-            Walked::Stopped => {
-                return false;
-            }
-            Walked::Good(x) => {
-                let k = VIRTUAL_STORAGES_HELD_AT + i;
-                work[k] = x.lower;
-                work[UPPERS_AT + k] = x.upper;
-                at += VIRTUAL_STORAGE_STEP_LENGTH;
-                i += 1;
-            }
-        }
+        let at = first + VIRTUAL_STORAGE_STEP_LENGTH * i;
+        let Some(x) = step_walk_record::walk_virtual_storage(
+            file, shape, place, at, date, days, sentinel,
+        ) else {
+            return false;
+        };
+        let k = VIRTUAL_STORAGES_HELD_AT + i;
+        work[k] = x.lower;
+        work[UPPERS_AT + k] = x.upper;
     }
     true
 }
@@ -151,9 +127,9 @@ pub fn walk_file(file: &[u8], shape: &[u16], work: &mut [f64]) -> bool
         × (aggregates_in shape.now ≤ aggregate_ceiling) × (virtual_storages_in shape.now ≤ virtual_storage_ceiling) × NodesNamed shape.now }
     ensures { result ≡ true → ((s : Store) → s.shape ≡ shape.now → FileWalked s file.now work.new) }
 {
-    let nodes = wide16(shape[NODE_COUNT_AT]);
-    let aggregates = wide16(shape[AGGREGATE_COUNT_AT]);
-    let virtual_storages = wide16(shape[VIRTUAL_STORAGE_COUNT_AT]);
+    let nodes = usize::from(shape[NODE_COUNT_AT]);
+    let aggregates = usize::from(shape[AGGREGATE_COUNT_AT]);
+    let virtual_storages = usize::from(shape[VIRTUAL_STORAGE_COUNT_AT]);
     let length = DATE_LENGTH
         + NODE_STEP_LENGTH * nodes
         + AGGREGATE_STEP_LENGTH * aggregates
@@ -161,22 +137,19 @@ pub fn walk_file(file: &[u8], shape: &[u16], work: &mut [f64]) -> bool
     if file.len() != length {
         return false;
     }
-    let date = step_record::check_date(file);
-    match date {
-        Answer::Refused(number, place) => false,
-        Answer::Accepted => {
-            let days = step_fields::days(file);
-            let sentinel = store_shape::kept_sentinel(shape);
-            if !walk_nodes(file, shape, days, sentinel, work) {
-                return false;
-            }
-            if !none_beyond(shape, work, sentinel) {
-                return false;
-            }
-            if !walk_aggregates(file, shape, work) {
-                return false;
-            }
-            walk_virtual_storages(file, shape, days, sentinel, work)
-        }
+    if step_record::check_date(file).is_err() {
+        return false;
     }
+    let days = step_fields::days(file);
+    let sentinel = store_shape::kept_sentinel(shape);
+    if !walk_nodes(file, shape, days, sentinel, work) {
+        return false;
+    }
+    if !none_beyond(shape, work, sentinel) {
+        return false;
+    }
+    if !walk_aggregates(file, shape, work) {
+        return false;
+    }
+    walk_virtual_storages(file, shape, days, sentinel, work)
 }

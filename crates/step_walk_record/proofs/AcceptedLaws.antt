@@ -1,4 +1,5 @@
 -- A record whose mark and fields passed in one look passes its check. Assumes nothing.
+use Rattle.std.specs.Prelude.{Ok}
 use Prim.Native.Nat.{ℕ, ◌+◌, ◌≤◌}
 use mathlib.Core.Path.{◌≡◌}
 use mathlib.Core.Bool.{true}
@@ -6,7 +7,6 @@ use mathlib.Core.List.{List}
 use native.Mathlib.Omega.{arith}
 use lib.ListN.{length}
 use borrow.Author.Tests.{le-leb}
-use Rattle.pywr.specs.declared.Answer.TheVariants.{Accepted}
 use Rattle.pywr.specs.Bytes.{le64, mark_is}
 use Rattle.pywr.specs.Programme.{NodeShape}
 use Rattle.pywr.specs.StepFile.{is_storage}
@@ -18,11 +18,11 @@ use Rattle.step_record.specs.Check.{aggregate_upper_offset, virtual_storage_step
 use Rattle.step_walk_record.proofs.GoodLaws.{FlowsFit, VolumesFit}
 
 module _ (file : List ℕ) (place : ℕ) where
-  mark_accepted : (a b : ℕ) → place + 2 ≤ length file → mark_is file place a b ≡ true → check_mark file place a b ≡ Accepted
+  mark_accepted : (a b : ℕ) → place + 2 ≤ length file → mark_is file place a b ≡ true → check_mark file place a b ≡ Ok tt
   unfolding check_mark
   mark_accepted a b h e = rw (le-leb (place + 2) (length file) h, e)
 
-  field_accepted : (at : ℕ) (range : Range) → at + 8 ≤ length file → in_range range (le64 file at) ≡ true → check_field file place at range ≡ Accepted
+  field_accepted : (at : ℕ) (range : Range) → at + 8 ≤ length file → in_range range (le64 file at) ≡ true → check_field file place at range ≡ Ok tt
   unfolding check_field
   field_accepted at range h e = rw (le-leb (at + 8) (length file) h, e)
 
@@ -35,7 +35,7 @@ module _ (file : List ℕ) (at : ℕ) where
 
   pub node_accepted : (n : NodeShape) → at + node_step_length ≤ length file → mark_is file at 78 66 ≡ true → in_range Small (le64 file (at + node_cost_offset)) ≡ true
       → BoundsFit n
-      → check_node file n at ≡ Accepted
+      → check_node file n at ≡ Ok tt
   unfolding check_node answer_then
   node_accepted n h m c b =
       rw (
@@ -48,7 +48,7 @@ module _ (file : List ℕ) (at : ℕ) where
 
   pub aggregate_accepted : at + aggregate_step_length ≤ length file → mark_is file at 71 66 ≡ true
       → FlowsFit (le64 file (at + aggregate_lower_offset)) (le64 file (at + aggregate_upper_offset))
-      → check_aggregate file at ≡ Accepted
+      → check_aggregate file at ≡ Ok tt
   unfolding check_aggregate answer_then in_range
   aggregate_accepted h m f =
       rw (
@@ -59,7 +59,7 @@ module _ (file : List ℕ) (at : ℕ) where
 
   pub virtual_storage_accepted : at + virtual_storage_step_length ≤ length file → mark_is file at 86 66 ≡ true
       → VolumesFit (le64 file (at + virtual_min_offset)) (le64 file (at + virtual_max_offset)) (le64 file (at + virtual_volume_offset))
-      → check_virtual_storage_step file at ≡ Accepted
+      → check_virtual_storage_step file at ≡ Ok tt
   unfolding check_virtual_storage_step answer_then in_range
   virtual_storage_accepted h m v =
       rw (

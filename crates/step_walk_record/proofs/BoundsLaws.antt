@@ -1,4 +1,5 @@
 -- What the bounds of a node tell where they are good: their ranges, the node's interval, and that it is not crossed. Assumes nothing.
+use Rattle.std.specs.Prelude.{Some}
 use Prim.Native.Nat.{ℕ, ◌+◌}
 use mathlib.Core.Path.{◌≡◌, sym, subst}
 use mathlib.Core.Bool.{true, false}
@@ -14,7 +15,6 @@ use Rattle.pywr.specs.StepFile.{is_storage, bounds_read}
 use Rattle.pywr.specs.StepIntervals.{node_interval, is_crossed}
 use Rattle.step_record.specs.Check.{in_range, bound_range, volume_range, node_min_offset, node_max_offset, node_volume_offset}
 use Rattle.step_file.specs.Decoded.{node_step_at}
-use Rattle.step_walk_record.specs.declared.Walked.TheVariants.{Good}
 use Rattle.step_walk_record.specs.Fields.{are_flows, are_volumes, uncrossed, constant_walked, storage_walked, flow_walked}
 use Rattle.step_walk_record.proofs.GoodLaws.{good_tested, good_same, uncrossed_good, sentinels_uncrossed, flows_fit, volumes_fit}
 use Rattle.step_walk_record.proofs.AcceptedLaws.{BoundsFit}
@@ -25,10 +25,10 @@ module _ (file : List ℕ) (at : ℕ) (n : NodeShape) (days : Float) (s : Sentin
     pub interval : x ≡ node_interval s days (node_step_at file n at).bounds
     pub ordered : is_crossed x ≡ false
 
-  pub constant_good : (x : Interval) → n.constant ≡ true → constant_walked file at (is_storage n) s ≡ Good x → BoundsGood x
+  pub constant_good : (x : Interval) → n.constant ≡ true → constant_walked file at (is_storage n) s ≡ Some x → BoundsGood x
   unfolding constant_walked bound_range in_range node_step_at bounds_read node_interval
   constant_good x k e =
-      let t = good_tested (in_range (volume_range (is_storage n)) (le64 file (at + node_volume_offset))) (Good (sentinels s)) x e in
+      let t = good_tested (in_range (volume_range (is_storage n)) (le64 file (at + node_volume_offset))) (Some (sentinels s)) x e in
       let q = good_same _ _ t.1 in
       record {
         fit = record { min = rw k; max = rw k; volume = t.0 };
@@ -36,7 +36,7 @@ module _ (file : List ℕ) (at : ℕ) (n : NodeShape) (days : Float) (s : Sentin
         ordered = subst (λ (y : Interval). is_crossed y ≡ false) q (sentinels_uncrossed s);
       }
 
-  pub storage_good : (x : Interval) → n.constant ≡ false → is_storage n ≡ true → storage_walked file at days ≡ Good x → BoundsGood x
+  pub storage_good : (x : Interval) → n.constant ≡ false → is_storage n ≡ true → storage_walked file at days ≡ Some x → BoundsGood x
   unfolding storage_walked bound_range volume_range in_range node_step_at bounds_read node_interval
   storage_good x k st e =
       let min : ℕ = le64 file (at + node_min_offset) in
@@ -52,7 +52,7 @@ module _ (file : List ℕ) (at : ℕ) (n : NodeShape) (days : Float) (s : Sentin
         ordered = subst (λ (y : Interval). is_crossed y ≡ false) u.1 u.0;
       }
 
-  pub flow_good : (x : Interval) → n.constant ≡ false → is_storage n ≡ false → flow_walked file at ≡ Good x → BoundsGood x
+  pub flow_good : (x : Interval) → n.constant ≡ false → is_storage n ≡ false → flow_walked file at ≡ Some x → BoundsGood x
   unfolding flow_walked bound_range volume_range in_range node_step_at bounds_read node_interval interval_of
   flow_good x k st e =
       let min : ℕ = le64 file (at + node_min_offset) in

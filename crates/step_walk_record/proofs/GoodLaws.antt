@@ -1,4 +1,5 @@
 -- What a good answer tells of the tests that led to it. Assumes nothing.
+use Rattle.std.specs.Prelude.{Option, Some, None}
 use Prim.Native.Nat.{ℕ}
 use mathlib.Core.Path.{◌≡◌, refl, sym, subst}
 use mathlib.Core.Bool.{Bool, true, false, not, cond, ◌&&◌}
@@ -12,29 +13,27 @@ use Rattle.pywr.specs.Numbers.{high, low, is_flow, is_small}
 use Rattle.pywr.specs.Interval.{sentinels}
 use Rattle.pywr.specs.StepIntervals.{is_crossed}
 use Rattle.fields.proofs.Nan.{small_flow}
-use Rattle.step_walk_record.specs.declared.Walked.{Walked}
-use Rattle.step_walk_record.specs.declared.Walked.TheVariants.{Good, Stopped}
 use Rattle.step_walk_record.specs.Fields.{are_flows, are_volumes, uncrossed}
 
-pub never_good : {A : Type 0} (x : Interval) → Stopped ≡ Good x → A
+pub never_good : {A : Type 0} (x : Interval) → None ≡ Some x → A
 never_good x e = absurd (let z : ◌≡◌ {A = ℕ} 0 1 = cc in omega arith)
 
-pub good_tested : (b : Bool) (w : Walked) (x : Interval) → cond b w Stopped ≡ Good x → (b ≡ true) × (w ≡ Good x)
+pub good_tested : (b : Bool) (w : Option Interval) (x : Interval) → cond b w None ≡ Some x → (b ≡ true) × (w ≡ Some x)
 good_tested true w x e = (refl, e)
 good_tested false w x e = never_good x e
 
-pub good_same : (x y : Interval) → Good x ≡ Good y → x ≡ y
+pub good_same : (x y : Interval) → Some x ≡ Some y → x ≡ y
 good_same x y e = cc
 
 pub both : (a b : Bool) → (a && b) ≡ true → (a ≡ true) × (b ≡ true)
 both true b e = (refl, e)
 both false b e = absurd (let z : ◌≡◌ {A = ℕ} 0 1 = cc in omega arith)
 
-good_uncrossed : (b : Bool) (x y : Interval) → cond b Stopped (Good x) ≡ Good y → (b ≡ false) × (x ≡ y)
+good_uncrossed : (b : Bool) (x y : Interval) → cond b None (Some x) ≡ Some y → (b ≡ false) × (x ≡ y)
 good_uncrossed true x y e = never_good y e
 good_uncrossed false x y e = (refl, good_same x y e)
 
-pub uncrossed_good : (x y : Interval) → uncrossed x ≡ Good y → (is_crossed x ≡ false) × (x ≡ y)
+pub uncrossed_good : (x y : Interval) → uncrossed x ≡ Some y → (is_crossed x ≡ false) × (x ≡ y)
 unfolding uncrossed
 uncrossed_good x y e = good_uncrossed (is_crossed x) x y e
 

@@ -1,4 +1,5 @@
 -- Each record's contract: from a stop, from the tests that a good answer passed, and a virtual storage's on the date of its file. Assumes nothing.
+use Rattle.std.specs.Prelude.{Option, Some, None}
 use Prim.Native.Nat.{ℕ, ◌+◌, ◌≤◌}
 use mathlib.Core.Path.{◌≡◌, sym, ◌∙◌}
 use mathlib.Core.Bool.{true}
@@ -17,8 +18,6 @@ use Rattle.step_record.specs.Check.{virtual_storage_step_length, virtual_min_off
 use Rattle.step_file.specs.Decoded.{aggregate_step_at, virtual_storage_step_at}
 use Rattle.step_period.specs.PeriodAt.{period_at}
 use Rattle.step_virtual_interval.specs.VirtualInterval.{virtual_interval_at}
-use Rattle.step_walk_record.specs.declared.Walked.{Walked}
-use Rattle.step_walk_record.specs.declared.Walked.TheVariants.{Good, Stopped}
 use Rattle.step_walk_record.specs.Fields.{are_flows, are_volumes}
 use Rattle.step_walk_record.specs.WalkedRecord.{NodeWalked, AggregateWalked, VirtualStorageWalked}
 use Rattle.step_walk_record.proofs.GoodLaws.{never_good, good_same, flows_fit, volumes_fit}
@@ -28,11 +27,11 @@ use Rattle.step_walk_record.proofs.BoundsLaws.{BoundsGood}
 -- ---- a node
 
 module _ (file : List ℕ) (at kind constant : ℕ) (days : Float) (s : Sentinel) where
-  pub node_stopped : NodeWalked file at kind constant days s Stopped
+  pub node_stopped : NodeWalked file at kind constant days s None
   node_stopped = record { accepted = λ x e. never_good x e; interval = λ x e. never_good x e; ordered = λ x e. never_good x e }
 
-  pub node_walked : (r : Walked) → at + node_step_length ≤ length file → mark_is file at 78 66 ≡ true → is_small (le64 file (at + node_cost_offset)) ≡ true
-      → ((x : Interval) → r ≡ Good x → BoundsGood file at (record { kind = kind; constant = eqb constant 1 }) days s x)
+  pub node_walked : (r : Option Interval) → at + node_step_length ≤ length file → mark_is file at 78 66 ≡ true → is_small (le64 file (at + node_cost_offset)) ≡ true
+      → ((x : Interval) → r ≡ Some x → BoundsGood file at (record { kind = kind; constant = eqb constant 1 }) days s x)
       → NodeWalked file at kind constant days s r
   unfolding in_range
   node_walked r h m c b =
@@ -45,14 +44,14 @@ module _ (file : List ℕ) (at kind constant : ℕ) (days : Float) (s : Sentinel
 -- ---- an aggregate
 
 module _ (file : List ℕ) (at : ℕ) where
-  pub aggregate_stopped : AggregateWalked file at Stopped
+  pub aggregate_stopped : AggregateWalked file at None
   aggregate_stopped = record { accepted = λ x e. never_good x e; interval = λ x e. never_good x e }
 
   pub aggregate_walked : (lower upper : ℕ) → at + aggregate_step_length ≤ length file → mark_is file at 71 66 ≡ true
       → lower ≡ le64 file (at + aggregate_lower_offset)
       → upper ≡ le64 file (at + aggregate_upper_offset)
       → are_flows lower upper ≡ true
-      → AggregateWalked file at (Good (record { lower = of_pattern lower; upper = of_pattern upper }))
+      → AggregateWalked file at (Some (record { lower = of_pattern lower; upper = of_pattern upper }))
   unfolding aggregate_step_at
   aggregate_walked lower upper h m p q f =
       record {
@@ -63,7 +62,7 @@ module _ (file : List ℕ) (at : ℕ) where
 -- ---- a virtual storage
 
 module _ (shape file : List ℕ) (place at month day : ℕ) (days : Float) (s : Sentinel) where
-  pub virtual_storage_stopped : VirtualStorageWalked shape file place at month day days s Stopped
+  pub virtual_storage_stopped : VirtualStorageWalked shape file place at month day days s None
   virtual_storage_stopped = record { accepted = λ x e. never_good x e; interval = λ x e. never_good x e }
 
   pub virtual_storage_walked : (min max volume : ℕ) (x : Interval) → at + virtual_storage_step_length ≤ length file → mark_is file at 86 66 ≡ true
@@ -72,7 +71,7 @@ module _ (shape file : List ℕ) (place at month day : ℕ) (days : Float) (s : 
       → volume ≡ le64 file (at + virtual_volume_offset)
       → are_volumes min max volume ≡ true
       → x ≡ virtual_interval s days (is_active (period_at shape place) month day) (virtual_bounds (of_pattern min) (of_pattern max) (of_pattern volume))
-      → VirtualStorageWalked shape file place at month day days s (Good x)
+      → VirtualStorageWalked shape file place at month day days s (Some x)
   unfolding virtual_storage_step_at
   virtual_storage_walked min max volume x h m p q t v i =
       record {
@@ -81,9 +80,9 @@ module _ (shape file : List ℕ) (place at month day : ℕ) (days : Float) (s : 
       }
 
   -- on the step's own date the interval is the virtual storage's of the step
-  pub walked_on_date : (r : Walked) (x : Interval) → VirtualStorageWalked shape file place at month day days s r
+  pub walked_on_date : (r : Option Interval) (x : Interval) → VirtualStorageWalked shape file place at month day days s r
       → month ≡ byte file month_offset → day ≡ byte file day_offset
-      → r ≡ Good x
+      → r ≡ Some x
       → x ≡ virtual_interval_at s days shape file place at
   unfolding virtual_interval_at
   walked_on_date r x w m d e = rw (← m, ← d) (w.interval x e)

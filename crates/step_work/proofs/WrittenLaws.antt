@@ -11,7 +11,8 @@ use lib.ListN.{length, set, length-set}
 use lib.Seq.{get_or-set_same, get_or-set_other}
 use lib.Ieee.{Float}
 use Rattle.layout.specs.Layout.{step_work_length, uppers_at}
-use Rattle.pywr.specs.declared.Answer.TheVariants.{Accepted, Refused}
+use Rattle.std.specs.Prelude.{Ok, Err}
+use Rattle.pywr.specs.declared.Refusal.{Refusal}
 use Rattle.pywr.specs.declared.Interval.{Interval}
 use Rattle.pywr.specs.Numbers.{zero64}
 use Rattle.pywr.specs.StepIntervals.{is_crossed}
@@ -98,23 +99,26 @@ module _ {f : ℕ → Interval} {base count : ℕ} {w₀ w : List Float} {i : �
           crossed = λ less. ap is_crossed (sym e) ∙ sym is ∙ crossed;
         }
 
-  pub passed_all : count ≤ i → Passed f base count w₀ w i → WrittenTo f base count w₀ i w
-  passed_all le h = record { few = h.writing.few; so_far = h.writing.so_far; ordered = h.ordered; crossed = λ less. absurd (omega arith) }
+  pub passed_all : count ≤ i → Passed f base count w₀ w i → WrittenTo f base count w₀ count w
+  passed_all le h =
+      let e : i ≡ count = omega (arith, h.writing.few) in
+      record { few = omega arith; so_far = rw e at h.writing.so_far; ordered = λ k lt. h.ordered k (omega arith); crossed = λ less. absurd (omega arith) }
 
 -- ---- what a test says of the intervals
 
 module _ (test : ℕ → Interval → Option ℕ) (f : ℕ → Interval) (base count : ℕ) (w₀ w : List Float) where
-  pub looked_refused : (number i : ℕ) → i < count → ((k : ℕ) → k < i → test k (f k) ≡ none) → test i (f i) ≡ some number → Looked test f base count w₀ (Refused number i) w
+  pub looked_refused : (number i : ℕ) → i < count → ((k : ℕ) → k < i → test k (f k) ≡ none) → test i (f i) ≡ some number → Looked test f base count w₀ (Err (record { number = number; place = i })) w
   unfolding found_answer
   looked_refused number i lt before here =
+      let refusal : ℕ → Refusal = λ (n : ℕ). record { number = number; place = n } in
       let said : ℕ → Option ℕ = λ (k : ℕ). test k (f k) in
       record {
-        answer = ap (λ (n : ℕ). Refused number n) (sym (zero-add i))
+        answer = ap (λ (n : ℕ). Err (refusal n)) (sym (zero-add i))
             ∙ sym (ap found_answer (first_refused_lem test f count 0 i number lt (λ k less. ap said (zero-add k) ∙ before k less) (ap said (zero-add i) ∙ here)));
         written = λ a. absurd (let z : ◌≡◌ {A = ℕ} 0 1 = cc in omega arith);
       }
 
-  pub looked_all : ((k : ℕ) → k < count → test k (f k) ≡ none) → Written f base count w₀ w → Looked test f base count w₀ Accepted w
+  pub looked_all : ((k : ℕ) → k < count → test k (f k) ≡ none) → Written f base count w₀ w → Looked test f base count w₀ (Ok tt) w
   unfolding found_answer
   looked_all all held =
       record {

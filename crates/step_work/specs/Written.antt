@@ -1,9 +1,8 @@
 -- A step's intervals as they were written into the work run. Assumes nothing.
-use Rattle.std.specs.Prelude.{◌≡◌, ℕ, ◌+◌, ◌<◌, ◌≤◌, true, false, List, Float}
+use Rattle.std.specs.Prelude.{◌≡◌, ℕ, ◌+◌, ◌<◌, ◌≤◌, true, false, List, Float, Ok, Err}
 use Rattle.std.proofs.Math.Option.{Option, none, some}
-use Rattle.pywr.specs.declared.Answer.{Answer}
-use Rattle.pywr.specs.declared.Answer.TheVariants.{Accepted, Refused}
 use Rattle.pywr.specs.declared.Interval.{Interval}
+use Rattle.pywr.specs.Answer.{Answer}
 use Rattle.pywr.specs.Result.{first_refused}
 use Rattle.pywr.specs.StepIntervals.{is_crossed}
 use Rattle.pywr.specs.Store.{entries}
@@ -23,10 +22,10 @@ pub record WrittenTo (f : ℕ → Interval) (base count : ℕ) (old : List Float
 
 -- accepted, or the refusal that was found
 unfoldable pub found_answer : Option (ℕ × ℕ) → Answer
-found_answer none = Accepted
-found_answer (some found) = Refused found.0 found.1
+found_answer none = Ok tt
+found_answer (some found) = Err (record { number = found.0; place = found.1 })
 
 -- the answer is the first refusal that the test gives, and where there is none all are written
 pub record Looked (test : ℕ → Interval → Option ℕ) (f : ℕ → Interval) (base count : ℕ) (old : List Float) (r : Answer) (new : List Float) : Type 0 where
   pub answer : r ≡ found_answer (first_refused test 0 (entries f 1 0 count))
-  pub written : r ≡ Accepted → Written f base count old new
+  pub written : r ≡ Ok tt → Written f base count old new

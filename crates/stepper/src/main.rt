@@ -7,9 +7,9 @@
 ghost use Rattle.std.specs.Prelude.{◌≤◌, length, IfSome};
 
 use program_store::Runs;
-use program_streams::{read_named, write_all, write_failure};
+use program_streams::{Program, read_named};
 use program_words::{asks_help, has_word, is_option, word_at};
-use pywr::{Answer, Sentinel};
+use pywr::Sentinel;
 use std::env::Env;
 use std::io;
 use std::io::Write;
@@ -21,35 +21,10 @@ const FILE_ROOM: usize = 65536;
 
 const WORD_ROOM: usize = 4096;
 
-fn write_usage<W: Write>(writer: &mut W) -> io::Result<()> {
-    write_all(
-        writer,
-        b"usage: stepper [--finite] NETWORK [STEP]..\nBuilds the network and runs the step files in turn; lists the linear programme after each, or the fresh build without steps.\n",
-    )
-}
-
-fn write_fault<E: Write>(err: &mut E, what: &[u8], error: &io::Error) -> io::Result<()> {
-    write_all(err, b"stepper: ")?;
-    write_failure(err, what, error)
-}
-
-// Says what could not be done, and why.
-fn tell<E: Write>(err: &mut E, what: &[u8], error: &io::Error) {
-    let _ = write_fault(err, what, error);
-}
-
-fn tell_unwritten<E: Write>(err: &mut E, written: io::Result<()>) {
-    if let Err(error) = written {
-        tell(err, b"cannot write", &error);
-    }
-}
-
-fn write_unknown<E: Write>(err: &mut E, option: &[u8]) -> io::Result<()> {
-    write_all(err, b"stepper: unknown option ")?;
-    write_all(err, option)?;
-    write_all(err, b"\n")?;
-    write_usage(err)
-}
+const STEPPER: Program = Program {
+    name: "stepper",
+    usage: "usage: stepper [--finite] NETWORK [STEP]..\nBuilds the network and runs the step files in turn; lists the linear programme after each, or the fresh build without steps.\n",
+};
 
 // Reads the file of a name, or says why it cannot.
 fn read_file<S: Files, E: Write>(
@@ -60,37 +35,28 @@ fn read_file<S: Files, E: Write>(
 ) -> Option<usize>
     ensures { IfSome result (λ n. n ≤ length buffer.new) }
 {
-    match read_named(system, name, buffer) {
-        Ok(n) => Some(n),
-        Err(error) => {
-            tell(err, name, &error);
-            None
-        }
-    }
+    let read = read_named(system, name, buffer);
+    STEPPER.ok_or_tell(err, name, read)
 }
 
-// The store after a step, and whether all of its lines were written.
-#[derive(Drop)]
-struct Ran {
-    runs: Runs,
-    written: io::Result<()>,
+// Reads the word at k, or says why it cannot.
+fn read_word<S: Env, E: Write>(
+    system: &S,
+    err: &mut E,
+    k: usize,
+    word: &mut [u8],
+) -> Option<Option<usize>>
+    ensures { IfSome result (λ found. IfSome found (λ n. n ≤ length word.new)) }
+{
+    let read = word_at(system, k, word);
+    STEPPER.ok_or_tell(err, b"argument", read)
 }
 
 // Runs a step file and writes its number and what it answers.
-fn run_step<O: Write>(out: &mut O, number: usize, file: &[u8], runs: Runs) -> Ran {
-    let line = listing::list_step(out, number);
-    if line.written.is_err() {
-        return Ran {
-            runs,
-            written: line.written,
-        };
-    }
-    let stepped = program_store::step(file, runs);
-    let listed = program_store::list_answer(out, stepped.answer, &stepped.runs);
-    Ran {
-        runs: stepped.runs,
-        written: listed.written,
-    }
+fn run_step<O: Write>(out: &mut O, number: usize, file: &[u8], runs: &mut Runs) -> io::Result<()> {
+    listing::list_step(out, number).written?;
+    let answer = runs.step(file);
+    runs.list_answer(out, answer).written
 }
 
 // Runs the step files that the words from `first` on name, up to one that cannot be read or listed.
@@ -100,33 +66,21 @@ fn run_steps<S: Env + Files, O: Write, E: Write>(
     err: &mut E,
     first: usize,
     buffer: &mut [u8],
-    built: Runs,
+    runs: &mut Runs,
 ) {
-    let mut runs = built;
     for k in first..usize::MAX {
         let mut name = [0u8; WORD_ROOM];
-        let n = match word_at(system, k, &mut name) {
-            Ok(Some(n)) => n,
-            Ok(None) => return,
-            Err(error) => {
-                tell(err, b"argument", &error);
-                return;
-            }
+        let Some(Some(n)) = read_word(system, err, k, &mut name) else {
+            return;
         };
         let Some(n) = read_file(system, err, &name[..n], buffer) else {
             return;
         };
-        let ran = run_step(out, k - first, &buffer[..n], runs);
-        if let Err(error) = ran.written {
-            tell(err, b"cannot write", &error);
+        if let Err(error) = run_step(out, k - first, &buffer[..n], runs) {
+            STEPPER.tell(err, b"cannot write", &error);
             return;
         }
-        runs = ran.runs;
     }
-}
-
-fn is_accepted(answer: Answer) -> bool {
-    matches!(answer, Answer::Accepted)
 }
 
 // Builds a network, and runs the steps that the words from `first` on name.
@@ -142,13 +96,14 @@ fn run<S: Env + Files, O: Write, E: Write>(
     let Some(n) = read_file(system, err, network, &mut buffer) else {
         return;
     };
-    let built = program_store::build(&buffer[..n], sentinel, program_store::zeros());
-    if has_word(system, first) && is_accepted(built.answer) {
-        run_steps(system, out, err, first, &mut buffer, built.runs);
+    let mut runs = Runs::zeros();
+    let answer = runs.build(&buffer[..n], sentinel);
+    if has_word(system, first) && answer.is_ok() {
+        run_steps(system, out, err, first, &mut buffer, &mut runs);
         return;
     }
-    let listed = program_store::list_answer(out, built.answer, &built.runs);
-    tell_unwritten(err, listed.written);
+    let listed = runs.list_answer(out, answer);
+    STEPPER.tell_unwritten(err, listed.written);
 }
 
 // Starts with the network's name at word `network`.
@@ -160,25 +115,20 @@ fn start<S: Env + Files, O: Write, E: Write>(
     sentinel: Sentinel,
 ) {
     let mut word = [0u8; WORD_ROOM];
-    let n = match word_at(system, network, &mut word) {
-        Ok(Some(n)) => n,
-        Ok(None) => {
-            let _ = write_usage(err);
-            return;
-        }
-        Err(error) => {
-            tell(err, b"argument", &error);
-            return;
-        }
+    let Some(found) = read_word(system, err, network, &mut word) else {
+        return;
     };
-    if asks_help(&word[..n]) {
-        let written = write_usage(out);
-        tell_unwritten(err, written);
-    } else if is_option(&word[..n]) {
-        let _ = write_unknown(err, &word[..n]);
+    let Some(n) = found else {
+        let _ = STEPPER.write_usage(err);
+        return;
+    };
+    let word = &word[..n];
+    if asks_help(word) {
+        STEPPER.help(out, err);
+    } else if is_option(word) {
+        STEPPER.tell_wrong(err, "unknown option", word);
     } else {
-        let first = network.saturating_add(1);
-        run(system, out, err, &word[..n], first, sentinel);
+        run(system, out, err, word, network.saturating_add(1), sentinel);
     }
 }
 

@@ -1,6 +1,6 @@
 -- What reading a store promises: the lengths of its runs, and a row's part within the columns. Assumes nothing.
-use Rattle.std.specs.Prelude.{◌≡◌, ℕ, ◌≤◌, List, length}
-use Rattle.pywr.specs.declared.RowAnswer.{RowAnswer}
+use Rattle.std.specs.Prelude.{◌≡◌, ℕ, ◌≤◌, List, length, Ok, Err}
+use Rattle.pywr.specs.Answer.{RowAnswer}
 use Rattle.pywr.specs.Store.{Store}
 use Rattle.pywr.specs.Answers.{row_number_of, row_place_of}
 use Rattle.pywr.specs.Calls.{row_answer, row_part, span_of}
@@ -19,8 +19,8 @@ pub record Lengths (s : Store) (a b c d e f g h i : ℕ) : Type 0 where
 
 -- a part that is answered lies within a run of n
 abbrev pub Inside : RowAnswer → ℕ → Type 0
-Inside (RowAnswer.Part start end) n = (start ≤ end) × (end ≤ n)
-Inside (RowAnswer.Refused number place) n = Unit {0}
+Inside (Ok part) n = (part.0 ≤ part.1) × (part.1 ≤ n)
+Inside (Err refusal) n = Unit {0}
 
 -- what the answer for a row promises: the definition, and a part within the columns
 pub record RowAnswered (s : Store) (row : ℕ) (r : RowAnswer) : Type 0 where

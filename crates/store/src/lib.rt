@@ -10,14 +10,13 @@ ghost use Rattle.store.specs.Reading.{Lengths, RowAnswered, RowRead};
 use layout::{
     COLUMN_CEILING, ELEMENT_CEILING, ROW_CEILING, ROW_STARTS_LENGTH, SENTINEL_AT, SHAPE_LENGTH,
 };
-use pywr::RowAnswer;
+use pywr::{Reason, RowAnswer};
 use store_node_rows::node_rows_fit;
 use store_rows::{columns_rise, starts_rise};
 use store_shape::{
     aggregates_fit, counts_fit, edges_fit, flow_order_fits, makers_fit, nodes_fit, row_count,
     virtual_storages_fit,
 };
-use widths::wide32;
 
 // Whether runs of these lengths have the room that the ceilings need.
 pub fn has_room(
@@ -101,15 +100,15 @@ pub fn row_answer(
         row_starts.len(),
         shape.len(),
     ) {
-        return RowAnswer::Refused(16, 0);
+        return Err(Reason::ShortBuffer.at(0));
     }
     if !well_shaped(columns, row_starts, shape) {
-        return RowAnswer::Refused(17, 0);
+        return Err(Reason::MisshapenStore.at(0));
     }
     if row_count(shape) <= row {
-        return RowAnswer::Refused(18, row);
+        return Err(Reason::NoSuchRow.at(row));
     }
-    RowAnswer::Part(wide32(row_starts[row]), wide32(row_starts[row + 1]))
+    Ok((row_starts[row] as usize, row_starts[row + 1] as usize))
 }
 
 // The columns of a row, as a part of the column run: empty where the answer is a refusal, whose number and place are stored.
@@ -152,12 +151,12 @@ pub fn row_columns<'a>(
         row,
     );
     match answer {
-        RowAnswer::Refused(n, p) => {
-            *number = n;
-            *place = p;
+        Err(refusal) => {
+            *number = refusal.number;
+            *place = refusal.place;
             &columns[0..0]
         }
-        RowAnswer::Part(start, end) => {
+        Ok((start, end)) => {
             *number = 0;
             *place = 0;
             &columns[start..end]

@@ -14,24 +14,22 @@ use layout::{
     NODE_ROW_TYPE, NODE_ROW_WIDTH, NODE_ROWS_AT, SET_COUNT_AT, VARYING_COUNT_AT,
 };
 use pywr::ColumnIndex;
-use widths::{wide16, wide32};
 
 // Whether the row from `start` up to `end` has the column, looked for from the end, where a row's integer columns stand.
 fn row_holds(columns: &[u16], start: usize, end: usize, column: ColumnIndex) -> bool
     requires { end ≤ length columns.now }
     ensures { result ≡ listed column.0 (slice start end columns.now) }
 {
-    let mut k = end;
-    while start < k {
-        if column.0 == columns[k - 1] {
+    for k in (start..end).rev() {
+        if column.0 == columns[k] {
             return true;
         }
-        k -= 1;
     }
     false
 }
 
 // A node row: a node, a varying row, a row type, and, unless continuous, a set whose integer column is in the row.
+#[tactic(auto, using(std::proofs::lemmas::Bool::Decides::nat_tests), unfolding(pywr::specs::Misshapen::node_row_fits, pywr::specs::Store::columns_of_row))]
 fn node_row_fits(columns: &[u16], row_starts: &[u32], shape: &[u16], at: usize) -> bool
     requires { RowsWithin columns.now row_starts.now shape.now × (at + node_row_width ≤ shape_length) }
     ensures { (s : Store) → s.columns ≡ columns.now → s.row_starts ≡ row_starts.now → s.shape ≡ shape.now
@@ -55,11 +53,11 @@ fn node_row_fits(columns: &[u16], row_starts: &[u32], shape: &[u16], at: usize) 
     if shape[SET_COUNT_AT] <= set {
         return false;
     }
-    let r = wide16(row);
+    let r = usize::from(row);
     row_holds(
         columns,
-        wide32(row_starts[r]),
-        wide32(row_starts[r + 1]),
+        row_starts[r] as usize,
+        row_starts[r + 1] as usize,
         ColumnIndex(shape[EDGE_COLUMN_COUNT_AT] + set),
     )
 }
@@ -69,14 +67,14 @@ pub fn node_rows_fit(columns: &[u16], row_starts: &[u32], shape: &[u16]) -> bool
     ensures { (s : Store) → s.columns ≡ columns.now → s.row_starts ≡ row_starts.now → s.shape ≡ shape.now
         → result ≡ all_entries (node_row_fits s) node_row_width node_rows_at (node_row_count s) }
 {
-    let node_rows = wide16(shape[NODE_ROW_COUNT_AT]);
-    let mut at: usize = NODE_ROWS_AT;
-    let mut i: usize = 0;
-    while i < node_rows {
-        if node_row_fits(columns, row_starts, shape, at) {
-            at += NODE_ROW_WIDTH;
-            i += 1;
-        } else {
+    let node_rows = usize::from(shape[NODE_ROW_COUNT_AT]);
+    for i in 0..node_rows {
+        if !node_row_fits(
+            columns,
+            row_starts,
+            shape,
+            NODE_ROWS_AT + NODE_ROW_WIDTH * i,
+        ) {
             return false;
         }
     }

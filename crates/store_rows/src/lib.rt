@@ -11,7 +11,6 @@ ghost use Rattle.store_rows.specs.Starts.{RowsWithin};
 use layout::{EDGE_COLUMN_COUNT_AT, ELEMENT_COUNT_AT, SET_COUNT_AT};
 use pywr::ColumnIndex;
 use store_shape::{row_count, words_under};
-use widths::{wide16, wide32};
 
 // "row starts not from 0, falling, or not ending at the element count"
 pub fn starts_rise(row_starts: &[u32], shape: &[u16]) -> bool
@@ -21,15 +20,14 @@ pub fn starts_rise(row_starts: &[u32], shape: &[u16]) -> bool
 {
     let rows = row_count(shape);
     let mut good = row_starts[0] == 0;
-    let mut r: usize = 0;
-    while r < rows {
-        good = good & (row_starts[r] <= row_starts[r + 1]);
-        r += 1;
+    for r in 0..rows {
+        good &= row_starts[r] <= row_starts[r + 1];
     }
-    good & (wide32(row_starts[rows]) == wide16(shape[ELEMENT_COUNT_AT]))
+    good & (row_starts[rows] as usize == usize::from(shape[ELEMENT_COUNT_AT]))
 }
 
 // A column falls where it is not over the one before it: 1 there.
+#[tactic(auto, using(std::proofs::lemmas::Bool::Decides::nat_tests), unfolding(crate::specs::Falls::fall))]
 fn fall_of(before: ColumnIndex, column: ColumnIndex) -> u16
     ensures { (result ≡ fall before.0 column.0) × (result ≤ 1) }
 {
@@ -42,10 +40,8 @@ fn falls(columns: &[u16], n: usize) -> u16
     ensures { result ≡ sum_from (fall_at columns.now) 0 n }
 {
     let mut sum: u16 = 0;
-    let mut i: usize = 1;
-    while i < n {
+    for i in 1..n {
         sum += fall_of(ColumnIndex(columns[i - 1]), ColumnIndex(columns[i]));
-        i += 1;
     }
     sum
 }
@@ -55,10 +51,7 @@ fn start_fall(columns: &[u16], start: usize, end: usize) -> u16
     requires { end ≤ length columns.now }
     ensures { (result ≡ start_fall columns.now start end) × (result ≤ 1) }
 {
-    if end <= start {
-        return 0;
-    }
-    if start == 0 {
+    if end <= start || start == 0 {
         return 0;
     }
     fall_of(ColumnIndex(columns[start - 1]), ColumnIndex(columns[start]))
@@ -70,10 +63,8 @@ fn start_falls(columns: &[u16], row_starts: &[u32], rows: usize) -> u16
     ensures { result ≡ sum_from (row_fall columns.now row_starts.now) 0 rows }
 {
     let mut sum: u16 = 0;
-    let mut r: usize = 0;
-    while r < rows {
-        sum += start_fall(columns, wide32(row_starts[r]), wide32(row_starts[r + 1]));
-        r += 1;
+    for r in 0..rows {
+        sum += start_fall(columns, row_starts[r] as usize, row_starts[r + 1] as usize);
     }
     sum
 }
@@ -84,7 +75,7 @@ pub fn columns_rise(columns: &[u16], row_starts: &[u32], shape: &[u16]) -> bool
     ensures { (s : Store) → s.columns ≡ columns.now → s.row_starts ≡ row_starts.now → s.shape ≡ shape.now
         → result ≡ all_entries (row_columns_rise s) 1 0 (row_count s) }
 {
-    let kept = wide16(shape[ELEMENT_COUNT_AT]);
+    let kept = usize::from(shape[ELEMENT_COUNT_AT]);
     let under = words_under(
         columns,
         0,

@@ -1,4 +1,4 @@
 pub mod EntryLaws
-mod ThreeWords
+mod MakerEntry
 pub mod Entries
 pub mod SentinelLaws

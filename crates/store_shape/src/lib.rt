@@ -19,7 +19,6 @@ use layout::{
     VIRTUAL_STORAGE_COUNT_AT, VIRTUAL_STORAGE_WIDTH, VIRTUAL_STORAGES_AT,
 };
 use pywr::Sentinel;
-use widths::wide16;
 
 // The ceilings in the width of the words.
 const NODE_CEILING_WORD: u16 = NODE_CEILING as u16;
@@ -37,6 +36,7 @@ const AGGREGATE_CEILING_WORD: u16 = AGGREGATE_CEILING as u16;
 const VIRTUAL_STORAGE_CEILING_WORD: u16 = VIRTUAL_STORAGE_CEILING as u16;
 
 // The sentinel that the store keeps.
+#[tactic(auto, using(crate::proofs::SentinelLaws::infinite, crate::proofs::SentinelLaws::largest))]
 pub fn kept_sentinel(shape: &[u16]) -> Sentinel
     requires { shape_length ≤ length shape.now }
     ensures { result ≡ sentinel_of (sentinel_in shape.now) }
@@ -53,10 +53,11 @@ pub fn row_count(shape: &[u16]) -> usize
     requires { shape_length ≤ length shape.now }
     ensures { result ≡ varying_in shape.now + fixed_in shape.now }
 {
-    wide16(shape[VARYING_COUNT_AT]) + wide16(shape[FIXED_COUNT_AT])
+    usize::from(shape[VARYING_COUNT_AT]) + usize::from(shape[FIXED_COUNT_AT])
 }
 
 // "a count over its ceiling"
+#[tactic(auto, unfolding(pywr::specs::Misshapen::counts_fit))]
 pub fn counts_fit(shape: &[u16]) -> bool
     requires { shape_length ≤ length shape.now }
     ensures { (s : Store) → s.shape ≡ shape.now → result ≡ counts_fit s }
@@ -77,30 +78,22 @@ pub fn nodes_fit(shape: &[u16]) -> bool
     requires { (shape_length ≤ length shape.now) × (nodes_in shape.now ≤ node_ceiling) }
     ensures { (s : Store) → s.shape ≡ shape.now → result ≡ all_entries (node_fits s) node_width nodes_at (node_count s) }
 {
-    let nodes = wide16(shape[NODE_COUNT_AT]);
+    let nodes = usize::from(shape[NODE_COUNT_AT]);
     let mut good = true;
-    let mut at: usize = NODES_AT;
-    let mut i: usize = 0;
-    while i < nodes {
-        good = good & ((shape[at] <= 3) & (shape[at + NODE_FLAG] <= 1));
-        at += NODE_WIDTH;
-        i += 1;
+    for i in 0..nodes {
+        let at = NODES_AT + NODE_WIDTH * i;
+        good &= (shape[at] <= 3) & (shape[at + NODE_FLAG] <= 1);
     }
     good
 }
 
 // An edge: two nodes and a column.
+#[tactic(auto, using(std::proofs::lemmas::Bool::Decides::nat_tests), unfolding(pywr::specs::Misshapen::edge_fits))]
 fn edge_fits(shape: &[u16], at: usize, nodes: u16, columns: u16) -> bool
     requires { at + edge_width ≤ length shape.now }
     ensures { (s : Store) → s.shape ≡ shape.now → nodes ≡ node_count s → columns ≡ edge_column_count s → result ≡ edge_fits s at }
 {
-    if nodes <= shape[at] {
-        return false;
-    }
-    if nodes <= shape[at + EDGE_TO] {
-        return false;
-    }
-    shape[at + MAPPED_COLUMN] < columns
+    shape[at] < nodes && shape[at + EDGE_TO] < nodes && shape[at + MAPPED_COLUMN] < columns
 }
 
 // The loops over the tables of three words end at the first entry that fails: the compiler cannot vectorise them.
@@ -110,14 +103,9 @@ pub fn edges_fit(shape: &[u16]) -> bool
 {
     let nodes = shape[NODE_COUNT_AT];
     let columns = shape[EDGE_COLUMN_COUNT_AT];
-    let edges = wide16(shape[EDGE_COUNT_AT]);
-    let mut at: usize = EDGES_AT;
-    let mut i: usize = 0;
-    while i < edges {
-        if edge_fits(shape, at, nodes, columns) {
-            at += EDGE_WIDTH;
-            i += 1;
-        } else {
+    let edges = usize::from(shape[EDGE_COUNT_AT]);
+    for i in 0..edges {
+        if !edge_fits(shape, EDGES_AT + EDGE_WIDTH * i, nodes, columns) {
             return false;
         }
     }
@@ -130,32 +118,30 @@ pub fn words_under(words: &[u16], first: usize, count: usize, limit: u16) -> boo
     ensures { result ≡ all_entries (λ (at : ℕ). ltb (get_or words.now at 0) limit) 1 first count }
 {
     let mut good = true;
-    let mut at: usize = first;
-    let mut i: usize = 0;
-    while i < count {
-        good = good & (words[at] < limit);
-        at += 1;
-        i += 1;
+    for i in 0..count {
+        good &= words[first + i] < limit;
     }
     good
 }
 
 // An aggregate: a varying row.
+#[tactic(auto, unfolding(pywr::specs::Misshapen::aggregate_fits))]
 pub fn aggregates_fit(shape: &[u16]) -> bool
     requires { (shape_length ≤ length shape.now) × (aggregates_in shape.now ≤ aggregate_ceiling) }
     ensures { (s : Store) → s.shape ≡ shape.now → result ≡ all_entries (aggregate_fits s) aggregate_width aggregates_at (aggregate_count s) }
 {
-    let aggregates = wide16(shape[AGGREGATE_COUNT_AT]);
+    let aggregates = usize::from(shape[AGGREGATE_COUNT_AT]);
     words_under(shape, AGGREGATES_AT, aggregates, shape[VARYING_COUNT_AT])
 }
 
 // The flow order: an edge for each edge.
+#[tactic(auto, unfolding(pywr::specs::Misshapen::flow_order_fits))]
 pub fn flow_order_fits(shape: &[u16]) -> bool
     requires { (shape_length ≤ length shape.now) × (edges_in shape.now ≤ edge_ceiling) }
     ensures { (s : Store) → s.shape ≡ shape.now → result ≡ all_entries (flow_order_fits s) flow_order_width flow_order_at (edge_count s) }
 {
     let edges = shape[EDGE_COUNT_AT];
-    words_under(shape, FLOW_ORDER_AT, wide16(edges), edges)
+    words_under(shape, FLOW_ORDER_AT, usize::from(edges), edges)
 }
 
 // A virtual storage: a varying row, and whether it has a period.
@@ -164,14 +150,11 @@ pub fn virtual_storages_fit(shape: &[u16]) -> bool
     ensures { (s : Store) → s.shape ≡ shape.now → result ≡ all_entries (virtual_storage_fits s) virtual_storage_width virtual_storages_at (virtual_storage_count s) }
 {
     let varying = shape[VARYING_COUNT_AT];
-    let virtual_storages = wide16(shape[VIRTUAL_STORAGE_COUNT_AT]);
+    let virtual_storages = usize::from(shape[VIRTUAL_STORAGE_COUNT_AT]);
     let mut good = true;
-    let mut at: usize = VIRTUAL_STORAGES_AT;
-    let mut i: usize = 0;
-    while i < virtual_storages {
-        good = good & ((shape[at] < varying) & (shape[at + PERIOD_FLAG] <= 1));
-        at += VIRTUAL_STORAGE_WIDTH;
-        i += 1;
+    for i in 0..virtual_storages {
+        let at = VIRTUAL_STORAGES_AT + VIRTUAL_STORAGE_WIDTH * i;
+        good &= (shape[at] < varying) & (shape[at + PERIOD_FLAG] <= 1);
     }
     good
 }
@@ -186,7 +169,7 @@ fn maker_fits(shape: &[u16], at: usize, makers: &[u16; MAKER_KINDS]) -> bool
     if BY_EXCLUSIVITY < kind {
         return false;
     }
-    if makers[wide16(kind)] <= shape[at + MAKER_INDEX] {
+    if makers[usize::from(kind)] <= shape[at + MAKER_INDEX] {
         return false;
     }
     1 <= shape[at + MAKER_SHARED_BY]
@@ -202,13 +185,8 @@ pub fn makers_fit(shape: &[u16]) -> bool
     let virtual_storages = shape[VIRTUAL_STORAGE_COUNT_AT];
     let makers: [u16; MAKER_KINDS] = [nodes, nodes, aggregates, virtual_storages, aggregates];
     let rows = row_count(shape);
-    let mut at: usize = MAKERS_AT;
-    let mut i: usize = 0;
-    while i < rows {
-        if maker_fits(shape, at, &makers) {
-            at += MAKER_WIDTH;
-            i += 1;
-        } else {
+    for i in 0..rows {
+        if !maker_fits(shape, MAKERS_AT + MAKER_WIDTH * i, &makers) {
             return false;
         }
     }

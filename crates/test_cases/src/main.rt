@@ -13,12 +13,13 @@
 ghost use Rattle.std.specs.Prelude.{◌≤◌, length};
 
 use layout::{
-    EDGE_COLUMN_COUNT_AT, ELEMENT_CEILING, ELEMENT_COUNT_AT, FIXED_COUNT_AT, ROW_STARTS_LENGTH,
-    SET_COUNT_AT, SHAPE_LENGTH, STEP_WORK_LENGTH, VARYING_COUNT_AT,
+    EDGE_COLUMN_COUNT_AT, ELEMENT_COUNT_AT, FIXED_COUNT_AT, SET_COUNT_AT, STEP_WORK_LENGTH,
+    VARYING_COUNT_AT,
 };
 use program_store::Runs;
 use program_streams::read_all;
 use pywr::{Answer, Sentinel};
+use std::fmt::Display;
 use std::io;
 use std::io::Read;
 
@@ -32,10 +33,8 @@ fn print_line(rt: &impl Print, line: &[u8]) -> io::Result<()> {
 
 fn print_answer(rt: &impl Print, answer: Answer) -> io::Result<()> {
     match answer {
-        Answer::Refused(number, place) => {
-            listing::list_refusal(&mut io::writer(rt), number, place).written
-        }
-        Answer::Accepted => print_line(rt, b"A"),
+        Ok(()) => print_line(rt, b"A"),
+        Err(refusal) => listing::list_refusal(&mut io::writer(rt), refusal).written,
     }
 }
 
@@ -47,195 +46,111 @@ fn sentinel(number: u16) -> Sentinel {
     }
 }
 
-fn build(rt: &impl Print, file: &[u8], number: u16, runs: Runs) -> io::Result<Runs> {
-    let built = program_store::build(file, sentinel(number), runs);
-    print_answer(rt, built.answer)?;
-    Ok(built.runs)
-}
-
-// 1 for an element that is not zero, and 0 for zero.
-fn marked(x: f64) -> usize
-    ensures { result ≤ 1 }
-{
-    if x != 0.0 { 1 } else { 0 }
-}
-
-// How many elements are not zero.
-fn count_marked(run: &[f64]) -> usize {
-    let mut count: usize = 0;
-    let mut i: usize = 0;
-    while i < run.len() {
-        count += marked(run[i]);
-        i += 1;
-    }
-    count
+fn build(rt: &impl Print, file: &[u8], number: u16, store: &mut Runs) -> io::Result<()> {
+    let answer = store.build(file, sentinel(number));
+    print_answer(rt, answer)
 }
 
 fn print_work(rt: &impl Print, work: &[f64]) -> io::Result<()> {
-    let count = count_marked(work);
+    let count = work.iter().filter(|x| **x != 0.0).count();
     if 0 < count {
         println!(rt; "work {count}")?;
     }
     Ok(())
 }
 
+// How much of a run of this length is lent.
+fn lent(length: usize, short: bool) -> usize
+    ensures { result ≤ length }
+{
+    length.saturating_sub(usize::from(short))
+}
+
 // A run that a step reads, or the run without its last element.
-fn front_f64(run: &[f64], short: bool) -> &[f64] {
-    if short {
-        if 0 < run.len() {
-            return &run[0..run.len() - 1];
-        }
-    }
-    run
-}
-
-fn front_u32(run: &[u32], short: bool) -> &[u32] {
-    if short {
-        if 0 < run.len() {
-            return &run[0..run.len() - 1];
-        }
-    }
-    run
-}
-
-fn front_u16(run: &[u16], short: bool) -> &[u16] {
-    if short {
-        if 0 < run.len() {
-            return &run[0..run.len() - 1];
-        }
-    }
-    run
+fn front<T>(run: &[T], short: bool) -> &[T] {
+    &run[..lent(run.len(), short)]
 }
 
 // A run that a step writes, or the run without its last element.
 fn front_mut(run: &mut [f64], short: bool) -> &mut [f64] {
-    if short {
-        if 0 < run.len() {
-            let end = run.len() - 1;
-            return &mut run[0..end];
-        }
-    }
-    run
+    let end = lent(run.len(), short);
+    &mut run[..end]
 }
 
-fn step(rt: &impl Print, file: &[u8], short: u16, store: Runs) -> io::Result<Runs> {
-    let col_lower = store.col_lower;
-    let col_upper = store.col_upper;
-    let mut col_obj_coef = store.col_obj_coef;
-    let mut row_lower = store.row_lower;
-    let mut row_upper = store.row_upper;
-    let mut elements = store.elements;
-    let columns = store.columns;
-    let row_starts = store.row_starts;
-    let shape = store.shape;
-    let mut work = [1.0f64; STEP_WORK_LENGTH];
+fn step(rt: &impl Print, file: &[u8], short: u16, store: &mut Runs) -> io::Result<()> {
+    let mut work = [1.0; STEP_WORK_LENGTH];
     let answer = built_solver::step(
         file,
-        front_f64(&col_lower, short == 0),
-        front_f64(&col_upper, short == 1),
-        front_mut(&mut col_obj_coef, short == 2),
-        front_mut(&mut row_lower, short == 3),
-        front_mut(&mut row_upper, short == 4),
-        front_mut(&mut elements, short == 5),
-        front_u16(&columns, short == 6),
-        front_u32(&row_starts, short == 7),
-        front_u16(&shape, short == 8),
+        front(&store.col_lower, short == 0),
+        front(&store.col_upper, short == 1),
+        front_mut(&mut store.col_obj_coef, short == 2),
+        front_mut(&mut store.row_lower, short == 3),
+        front_mut(&mut store.row_upper, short == 4),
+        front_mut(&mut store.elements, short == 5),
+        front(&store.columns, short == 6),
+        front(&store.row_starts, short == 7),
+        front(&store.shape, short == 8),
         front_mut(&mut work, short == 9),
     );
     print_answer(rt, answer)?;
-    print_work(rt, &work)?;
-    Ok(Runs {
-        col_lower,
-        col_upper,
-        col_obj_coef,
-        row_lower,
-        row_upper,
-        elements,
-        columns,
-        row_starts,
-        shape,
-    })
+    print_work(rt, &work)
 }
 
-fn print_change(rt: &impl Print, run: &str, at: usize, old: u32, new: u16) -> io::Result<()> {
-    println!(rt; "{run} {at} {old} {new}")
-}
-
-fn change_shape(rt: &impl Print, mut store: Runs, at: usize, word: u16) -> io::Result<Runs> {
-    if at < SHAPE_LENGTH {
-        print_change(rt, "shape", at, store.shape[at] as u32, word)?;
-        store.shape[at] = word;
+// Changes a word of a run; one that is not there stays.
+fn change<T: Copy + Display + From<u16>>(
+    rt: &impl Print,
+    name: &str,
+    run: &mut [T],
+    at: usize,
+    word: u16,
+) -> io::Result<()> {
+    if at < run.len() {
+        let old = run[at];
+        println!(rt; "{name} {at} {old} {word}")?;
+        run[at] = T::from(word);
     }
-    Ok(store)
-}
-
-fn change_column(rt: &impl Print, mut store: Runs, at: usize, column: u16) -> io::Result<Runs> {
-    if at < ELEMENT_CEILING {
-        print_change(rt, "column", at, store.columns[at] as u32, column)?;
-        store.columns[at] = column;
-    }
-    Ok(store)
-}
-
-fn change_start(rt: &impl Print, mut store: Runs, at: usize, start: u16) -> io::Result<Runs> {
-    if at < ROW_STARTS_LENGTH {
-        print_change(rt, "start", at, store.row_starts[at], start)?;
-        store.row_starts[at] = start as u32;
-    }
-    Ok(store)
+    Ok(())
 }
 
 // The counts that the shape run starts with: columns of edges and of sets, varying and fixed rows, elements.
 fn print_counts(rt: &impl Print, store: &Runs) -> io::Result<()> {
-    let columns = store.shape[EDGE_COLUMN_COUNT_AT] as usize + store.shape[SET_COUNT_AT] as usize;
-    let varying = store.shape[VARYING_COUNT_AT] as usize;
-    let rows = varying + store.shape[FIXED_COUNT_AT] as usize;
+    let columns = usize::from(store.shape[EDGE_COLUMN_COUNT_AT])
+        + usize::from(store.shape[SET_COUNT_AT]);
+    let varying = usize::from(store.shape[VARYING_COUNT_AT]);
+    let rows = varying + usize::from(store.shape[FIXED_COUNT_AT]);
     let elements = store.shape[ELEMENT_COUNT_AT];
     println!(rt; "P {columns} {rows} {varying} {elements}")
 }
 
-fn word_of(low: u8, high: u8) -> u16 {
-    low as u16 + 256 * (high as u16)
-}
-
 // Runs a command on the store; a letter that is none does nothing.
-fn run(rt: &impl Print, command: [u8; 5], file: &[u8], store: Runs) -> io::Result<Runs> {
-    let letter = command[0];
-    let first = word_of(command[1], command[2]);
-    let second = word_of(command[3], command[4]);
+fn run(rt: &impl Print, command: [u8; 5], file: &[u8], store: &mut Runs) -> io::Result<()> {
+    let [letter, a, b, c, d] = command;
+    let first = u16::from_le_bytes([a, b]);
+    let second = u16::from_le_bytes([c, d]);
+    let at = usize::from(first);
     match letter {
-        b'T' => {
-            print_line(rt, file)?;
-            Ok(store)
-        }
+        b'T' => print_line(rt, file),
         b'B' => build(rt, file, first, store),
         b'S' => step(rt, file, first, store),
-        b'H' => change_shape(rt, store, first as usize, second),
-        b'C' => change_column(rt, store, first as usize, second),
-        b'R' => change_start(rt, store, first as usize, second),
-        b'P' => {
-            print_counts(rt, &store)?;
-            Ok(store)
+        b'H' => change(rt, "shape", &mut store.shape, at, second),
+        b'C' => change(rt, "column", &mut store.columns, at, second),
+        b'R' => change(rt, "start", &mut store.row_starts, at, second),
+        b'P' => print_counts(rt, store),
+        b'L' => store.list(&mut io::writer(rt)).written,
+        b'Z' => {
+            *store = Runs::zeros();
+            Ok(())
         }
-        b'L' => {
-            program_store::list(&mut io::writer(rt), &store).written?;
-            Ok(store)
-        }
-        b'Z' => Ok(program_store::zeros()),
-        _ => Ok(store),
+        _ => Ok(()),
     }
-}
-
-fn has_file(letter: u8) -> bool {
-    (letter == b'T') | (letter == b'B') | (letter == b'S')
 }
 
 // How many bytes follow a command.
 fn file_length(command: [u8; 5]) -> usize
     ensures { result ≤ 65535 }
 {
-    if has_file(command[0]) {
-        word_of(command[3], command[4]) as usize
+    if matches!(command[0], b'T' | b'B' | b'S') {
+        usize::from(u16::from_le_bytes([command[3], command[4]]))
     } else {
         0
     }
@@ -253,7 +168,7 @@ fn read(reader: &mut impl Read, buffer: &mut [u8], n: usize) -> io::Result<bool>
 fn main(rt: HostRuntime) -> io::Result<()> {
     let mut input = rt.stdin();
     let mut buffer = [0u8; FILE_ROOM];
-    let mut store = program_store::zeros();
+    let mut store = Runs::zeros();
     for _ in 0..65536u32 {
         let mut command = [0u8; 5];
         if !read(&mut input, &mut command, 5)? {
@@ -263,7 +178,7 @@ fn main(rt: HostRuntime) -> io::Result<()> {
         if !read(&mut input, &mut buffer, n)? {
             return Ok(());
         }
-        store = run(&rt, command, &buffer[..n], store)?;
+        run(&rt, command, &buffer[..n], &mut store)?;
     }
     Ok(())
 }

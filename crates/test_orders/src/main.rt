@@ -3,7 +3,7 @@
 // counts; a refused build would count as no column. scripts/lines.py writes what must come out.
 #![tactic(auto)]
 
-ghost use Rattle.std.specs.Prelude.{◌<◌, ◌≤◌, length, IfOk};
+ghost use Rattle.std.specs.Prelude.{◌<◌, ◌≤◌, length};
 
 use layout::{
     BY_MASS, EDGE_COLUMN_COUNT_AT, EDGE_WIDTH, EDGES_AT, ELEMENT_CEILING, FIXED_COUNT_AT,
@@ -30,9 +30,6 @@ const OUTPUT: u8 = 1;
 
 const LINK: u8 = 2;
 
-// An edge from node 1 to node 2 is 0x12. Those of a network stand in front, as many as its count says.
-type Edges = [u8; MOST_EDGES];
-
 // In how many orders so many edges can be keyed.
 fn orders(count: usize) -> usize
     ensures { 0 < result }
@@ -46,19 +43,6 @@ fn orders(count: usize) -> usize
     }
 }
 
-// The edge at `from` is put at `to`, and those between move up by one.
-fn move_edge(edges: &mut Edges, from: usize, to: usize)
-    requires { (to ≤ from) × (from < 5) }
-{
-    let edge = edges[from];
-    let mut i = from;
-    while to < i {
-        edges[i] = edges[i - 1];
-        i -= 1;
-    }
-    edges[to] = edge;
-}
-
 // Which of the edges that are left comes next in order k.
 fn next_edge(k: usize, left: usize) -> usize
     requires { 0 < left }
@@ -67,56 +51,52 @@ fn next_edge(k: usize, left: usize) -> usize
     k / orders(left - 1) % left
 }
 
-// The edges in order k of all their orders, which stand as in a dictionary.
-fn in_order(given: Edges, count: usize, k: usize) -> Edges
-    requires { count ≤ 5 }
-{
-    let mut edges = given;
-    for i in 0..count {
-        move_edge(&mut edges, i + next_edge(k, count - i), i);
+// Puts the edges into order k of all their orders, which stand as in a dictionary.
+fn put_in_order(edges: &mut [u8], k: usize) {
+    for i in 0..edges.len() {
+        let next = i + next_edge(k, edges.len() - i);
+        edges[i..next + 1].rotate_right(1);
     }
-    edges
 }
 
 // Every node varies, so the rest of its record is zero.
 fn put_nodes(file: &mut [u8; FILE_LENGTH], kinds: &[u8])
     requires { length kinds.now ≤ 6 }
 {
-    for n in 0..kinds.len() {
+    for (n, kind) in kinds.iter().enumerate() {
         let at = NODE_LENGTH * n;
         file[at] = b'N';
         file[at + 1] = b'D';
-        file[at + 2] = kinds[n];
+        file[at + 2] = *kind;
     }
 }
 
-fn put_edges(file: &mut [u8; FILE_LENGTH], start: usize, edges: Edges, count: usize)
-    requires { (start ≤ 120) × (count ≤ 5) }
+// An edge from node 1 to node 2 is 0x12.
+fn put_edges(file: &mut [u8; FILE_LENGTH], start: usize, edges: &[u8])
+    requires { (start ≤ 120) × (length edges.now ≤ 5) }
 {
-    for e in 0..count {
+    for (e, edge) in edges.iter().enumerate() {
         let at = start + EDGE_LENGTH * e;
         file[at] = b'E';
         file[at + 1] = b'D';
-        file[at + 2] = edges[e] / 16;
-        file[at + 4] = edges[e] % 16;
+        file[at + 2] = *edge / 16;
+        file[at + 4] = *edge % 16;
     }
 }
 
-fn build_front(file: [u8; FILE_LENGTH], length: usize) -> Runs
-    requires { length ≤ 150 }
-{
-    let built = program_store::build(&file[0..length], Sentinel::Infinity, program_store::zeros());
-    built.runs
-}
-
-fn build(kinds: &[u8], edges: Edges, count: usize) -> Runs
-    requires { (length kinds.now ≤ 6) × (count ≤ 5) }
+fn build(kinds: &[u8], edges: &[u8]) -> Runs
+    requires { (length kinds.now ≤ 6) × (length edges.now ≤ 5) }
 {
     let mut file = [0u8; FILE_LENGTH];
     let start = NODE_LENGTH * kinds.len();
     put_nodes(&mut file, kinds);
-    put_edges(&mut file, start, edges, count);
-    build_front(file, start + EDGE_LENGTH * count)
+    put_edges(&mut file, start, edges);
+    let mut store = Runs::zeros();
+    let _ = store.build(
+        &file[..start + EDGE_LENGTH * edges.len()],
+        Sentinel::Infinity,
+    );
+    store
 }
 
 fn print_counts(rt: &impl Print, columns: usize, mass: usize) -> io::Result<()> {
@@ -124,12 +104,12 @@ fn print_counts(rt: &impl Print, columns: usize, mass: usize) -> io::Result<()> 
 }
 
 // The edges as they are keyed, each with its column.
-fn print_edges(rt: &impl Print, store: &Runs, edges: Edges, count: usize) -> io::Result<()>
-    requires { count ≤ 5 }
+fn print_edges(rt: &impl Print, store: &Runs, edges: &[u8]) -> io::Result<()>
+    requires { length edges.now ≤ 5 }
 {
-    for e in 0..count {
-        let from = edges[e] / 16;
-        let to = edges[e] % 16;
+    for (e, edge) in edges.iter().enumerate() {
+        let from = *edge / 16;
+        let to = *edge % 16;
         let column = store.shape[EDGES_AT + EDGE_WIDTH * e + MAPPED_COLUMN];
         print!(rt; "{from}-{to} in {column}; ")?;
     }
@@ -148,47 +128,41 @@ fn print_element(rt: &impl Print, x: f64) -> io::Result<()> {
     }
 }
 
-fn least(a: usize, b: usize) -> usize
-    ensures { (result ≤ a) × (result ≤ b) }
-{
-    if a < b { a } else { b }
-}
-
 fn print_elements(rt: &impl Print, store: &Runs, row: usize) -> io::Result<()>
     requires { row < 1024 }
 {
-    let end = least(widths::wide32(store.row_starts[row + 1]), ELEMENT_CEILING);
-    let start = widths::wide32(store.row_starts[row]);
+    let start = store.row_starts[row] as usize;
+    let end = (store.row_starts[row + 1] as usize).min(ELEMENT_CEILING);
     for at in start..end {
         print_element(rt, store.elements[at])?;
     }
     Ok(())
 }
 
-// Writes a mass row. Answers 1 for a mass row and 0 for another.
-fn mass_row(rt: &impl Print, store: &Runs, row: usize) -> io::Result<usize>
+// Writes a mass row; another is left out. Answers whether it is one.
+fn mass_row(rt: &impl Print, store: &Runs, row: usize) -> io::Result<bool>
     requires { row < 1024 }
-    ensures { IfOk result (λ n. n ≤ 1) }
 {
     let at = MAKERS_AT + MAKER_WIDTH * row;
     if store.shape[at] != BY_MASS {
-        return Ok(0);
+        return Ok(false);
     }
     let link = store.shape[at + MAKER_INDEX];
     print!(rt; "link {link}:")?;
     print_elements(rt, store, row)?;
     print!(rt; "; ")?;
-    Ok(1)
+    Ok(true)
 }
 
 // Writes the mass rows. Answers how many there are.
 fn mass_rows(rt: &impl Print, store: &Runs) -> io::Result<usize> {
-    let made = widths::wide16(store.shape[VARYING_COUNT_AT])
-        + widths::wide16(store.shape[FIXED_COUNT_AT]);
-    let rows = least(made, ROW_CEILING);
+    let made = usize::from(store.shape[VARYING_COUNT_AT])
+        + usize::from(store.shape[FIXED_COUNT_AT]);
     let mut count: usize = 0;
-    for row in 0..rows {
-        count += mass_row(rt, store, row)?;
+    for row in 0..made.min(ROW_CEILING) {
+        if mass_row(rt, store, row)? {
+            count += 1;
+        }
     }
     Ok(count)
 }
@@ -197,11 +171,9 @@ fn mass_rows(rt: &impl Print, store: &Runs) -> io::Result<usize> {
 type Tally = [u16; 36];
 
 fn count_order(tally: &mut Tally, columns: usize, mass: usize) {
-    if columns < 6 {
-        if mass < 6 {
-            let at = 6 * columns + mass;
-            tally[at] = tally[at].wrapping_add(1);
-        }
+    if columns < 6 && mass < 6 {
+        let at = 6 * columns + mass;
+        tally[at] = tally[at].wrapping_add(1);
     }
 }
 
@@ -215,16 +187,19 @@ fn print_tally(rt: &impl Print, tally: &Tally) -> io::Result<()> {
     Ok(())
 }
 
-fn every_order(rt: &impl Print, kinds: &[u8], edges: Edges, count: usize) -> io::Result<()>
-    requires { (length kinds.now ≤ 6) × (count ≤ 5) }
+fn every_order(rt: &impl Print, kinds: &[u8], edges: &[u8]) -> io::Result<()>
+    requires { (length kinds.now ≤ 6) × (length edges.now ≤ 5) }
 {
     let mut tally = [0u16; 36];
-    for k in 0..orders(count) {
-        let keyed = in_order(edges, count, k);
-        let store = build(kinds, keyed, count);
-        print_edges(rt, &store, keyed, count)?;
+    for k in 0..orders(edges.len()) {
+        let mut most = [0u8; MOST_EDGES];
+        let keyed = &mut most[..edges.len()];
+        keyed.copy_from_slice(edges);
+        put_in_order(keyed, k);
+        let store = build(kinds, keyed);
+        print_edges(rt, &store, keyed)?;
         let mass = mass_rows(rt, &store)?;
-        let columns = widths::wide16(store.shape[EDGE_COLUMN_COUNT_AT]);
+        let columns = usize::from(store.shape[EDGE_COLUMN_COUNT_AT]);
         print_counts(rt, columns, mass)?;
         println!(rt)?;
         count_order(&mut tally, columns, mass);
@@ -237,24 +212,18 @@ fn chain(rt: &impl Print) -> io::Result<()> {
     every_order(
         rt,
         &[INPUT, LINK, LINK, LINK, OUTPUT],
-        [0x01, 0x12, 0x23, 0x34, 0],
-        4,
+        &[0x01, 0x12, 0x23, 0x34],
     )
 }
 
 fn ring_behind_an_input(rt: &impl Print) -> io::Result<()> {
     println!(rt; "# a ring behind an input: input 0, links 1 and 2")?;
-    every_order(rt, &[INPUT, LINK, LINK], [0x01, 0x12, 0x21, 0, 0], 3)
+    every_order(rt, &[INPUT, LINK, LINK], &[0x01, 0x12, 0x21])
 }
 
 fn closed_ring(rt: &impl Print) -> io::Result<()> {
     println!(rt; "# a closed ring: links 0 to 3")?;
-    every_order(
-        rt,
-        &[LINK, LINK, LINK, LINK],
-        [0x01, 0x12, 0x23, 0x30, 0],
-        4,
-    )
+    every_order(rt, &[LINK, LINK, LINK, LINK], &[0x01, 0x12, 0x23, 0x30])
 }
 
 fn meeting_chains(rt: &impl Print) -> io::Result<()> {
@@ -262,8 +231,7 @@ fn meeting_chains(rt: &impl Print) -> io::Result<()> {
     every_order(
         rt,
         &[INPUT, INPUT, LINK, LINK, LINK, OUTPUT],
-        [0x02, 0x24, 0x13, 0x34, 0x45],
-        5,
+        &[0x02, 0x24, 0x13, 0x34, 0x45],
     )
 }
 

@@ -2,9 +2,6 @@
 // A line is what was changed, then the number and the place of the answer and the length of the part.
 #![tactic(auto)]
 
-ghost use Rattle.std.specs.Prelude.{◌≡◌, length};
-ghost use Rattle.layout.specs.Layout.{element_ceiling, row_starts_length, shape_length};
-
 use layout::{
     AGGREGATE_CEILING, AGGREGATE_COUNT_AT, AGGREGATES_AT, BY_EXCLUSIVITY, BY_MASS, BY_NODE,
     COLUMN_CEILING, EDGE_CEILING, EDGE_COLUMN_COUNT_AT, EDGE_COUNT_AT, EDGE_TO, EDGES_AT,
@@ -32,32 +29,17 @@ const FOURTH_MAKER: usize = THIRD_MAKER + MAKER_WIDTH;
 
 const FIFTH_MAKER: usize = FOURTH_MAKER + MAKER_WIDTH;
 
-// Two nodes with an edge, one edge column and one set. Varying rows: 0 with column 0, and 1 with columns 0 and 1, the set's.
-// Fixed rows: 2 with column 0, and 3 with none.
-fn small_columns() -> [u16; ELEMENT_CEILING]
-    ensures { element_ceiling ≡ length result }
-{
-    let mut columns = [0u16; ELEMENT_CEILING];
-    columns[2] = 1;
-    columns
-}
-
-fn small_starts() -> [u32; ROW_STARTS_LENGTH]
-    ensures { row_starts_length ≡ length result }
-{
-    let mut starts = [0u32; ROW_STARTS_LENGTH];
-    starts[1] = 1;
-    starts[2] = 3;
-    starts[3] = 4;
-    starts[4] = 4;
-    starts
+// A store of a few rows; the runs that are not here are zeros.
+#[derive(Drop)]
+struct SmallStore {
+    columns: [u16; ELEMENT_CEILING],
+    row_starts: [u32; ROW_STARTS_LENGTH],
+    shape: [u16; SHAPE_LENGTH],
 }
 
 // Node 0 has row 0 and, as a binary upper row, row 1. The aggregate and the virtual storage, which has a period, have row 0. Row 2 is node 1's mass row;
 // row 3 has this maker.
-fn shape_with(kind: u16, index: u16, shared_by: u16) -> [u16; SHAPE_LENGTH]
-    ensures { shape_length ≡ length result }
-{
+fn shape_with(kind: u16, index: u16, shared_by: u16) -> [u16; SHAPE_LENGTH] {
     let mut shape = [0u16; SHAPE_LENGTH];
     shape[NODE_COUNT_AT] = 2;
     shape[EDGE_COUNT_AT] = 1;
@@ -92,68 +74,56 @@ fn shape_with(kind: u16, index: u16, shared_by: u16) -> [u16; SHAPE_LENGTH]
     shape
 }
 
+// Two nodes with an edge, one edge column and one set. Varying rows: 0 with column 0, and 1 with columns 0 and 1, the set's.
+// Fixed rows: 2 with column 0, and 3 with none, whose maker this is.
+fn store_with(kind: u16, index: u16, shared_by: u16) -> SmallStore {
+    let mut columns = [0u16; ELEMENT_CEILING];
+    columns[2] = 1;
+    let mut row_starts = [0u32; ROW_STARTS_LENGTH];
+    row_starts[1] = 1;
+    row_starts[2] = 3;
+    row_starts[3] = 4;
+    row_starts[4] = 4;
+    SmallStore {
+        columns,
+        row_starts,
+        shape: shape_with(kind, index, shared_by),
+    }
+}
+
 // Row 3 is the aggregate's exclusivity row.
-fn small_shape() -> [u16; SHAPE_LENGTH]
-    ensures { shape_length ≡ length result }
-{
-    shape_with(BY_EXCLUSIVITY, 0, 1)
+fn small_store() -> SmallStore {
+    store_with(BY_EXCLUSIVITY, 0, 1)
 }
 
 // The run, or the run without its last element.
-fn front_f64(run: &[f64], short: bool) -> &[f64] {
-    if short {
-        if 0 < run.len() {
-            return &run[0..run.len() - 1];
-        }
+fn front<T>(run: &[T], short: bool) -> &[T] {
+    match run.split_last() {
+        Some((_, front)) if short => front,
+        _ => run,
     }
-    run
 }
 
-fn front_u32(run: &[u32], short: bool) -> &[u32] {
-    if short {
-        if 0 < run.len() {
-            return &run[0..run.len() - 1];
-        }
-    }
-    run
-}
-
-fn front_u16(run: &[u16], short: bool) -> &[u16] {
-    if short {
-        if 0 < run.len() {
-            return &run[0..run.len() - 1];
-        }
-    }
-    run
-}
-
-// Reads a row of the store with these runs and runs of zeros; run `short`, if under 9, is one short.
-fn read(
-    rt: &impl Print,
-    columns: &[u16],
-    row_starts: &[u32],
-    shape: &[u16],
-    row: usize,
-    short: usize,
-) -> io::Result<()> {
-    let col_lower = [0.0f64; COLUMN_CEILING];
-    let col_upper = [0.0f64; COLUMN_CEILING];
-    let col_obj_coef = [0.0f64; COLUMN_CEILING];
-    let row_lower = [0.0f64; ROW_CEILING];
-    let row_upper = [0.0f64; ROW_CEILING];
-    let elements = [0.0f64; ELEMENT_CEILING];
+// Reads a row of the store; run `short`, if under 9, is one short.
+fn read(rt: &impl Print, store: &SmallStore, row: usize, short: usize) -> io::Result<()> {
+    let col_lower = [0.0; COLUMN_CEILING];
+    let col_upper = [0.0; COLUMN_CEILING];
+    let col_obj_coef = [0.0; COLUMN_CEILING];
+    let row_lower = [0.0; ROW_CEILING];
+    let row_upper = [0.0; ROW_CEILING];
+    let elements = [0.0; ELEMENT_CEILING];
     let mut number: u8 = 0;
     let mut place: usize = 0;
     let part = store::row_columns(
-        front_f64(&col_lower, short == 0),
-        front_f64(&col_upper, short == 1),
-        front_f64(&col_obj_coef, short == 2),
-        front_f64(&row_lower, short == 3),
-        front_f64(&row_upper, short == 4),
-        front_f64(&elements, short == 5),
-        front_u16(columns, short == 6),
-        front_u32(row_starts, short == 7),
-        front_u16(shape, short == 8),
+        front(&col_lower, short == 0),
+        front(&col_upper, short == 1),
+        front(&col_obj_coef, short == 2),
+        front(&row_lower, short == 3),
+        front(&row_upper, short == 4),
+        front(&elements, short == 5),
+        front(&store.columns, short == 6),
+        front(&store.row_starts, short == 7),
+        front(&store.shape, short == 8),
         row,
         &mut number,
         &mut place,
@@ -163,189 +133,184 @@ fn read(
 }
 
 fn row(rt: &impl Print, r: usize) -> io::Result<()> {
-    let columns = small_columns();
-    let starts = small_starts();
-    let shape = small_shape();
     print!(rt; "row {r}")?;
-    read(rt, &columns, &starts, &shape, r, 9)
+    read(rt, &small_store(), r, 9)
 }
 
 fn short_run(rt: &impl Print, k: usize) -> io::Result<()> {
-    let columns = small_columns();
-    let starts = small_starts();
-    let shape = small_shape();
     print!(rt; "short {k}")?;
-    read(rt, &columns, &starts, &shape, 4, k)
+    read(rt, &small_store(), 4, k)
 }
 
 // The same with another maker of row 3.
 fn maker(rt: &impl Print, kind: u16, index: u16, shared_by: u16) -> io::Result<()> {
-    let columns = small_columns();
-    let starts = small_starts();
-    let shape = shape_with(kind, index, shared_by);
     print!(rt; "maker {kind} {index} {shared_by}")?;
-    read(rt, &columns, &starts, &shape, 0, 9)
+    read(rt, &store_with(kind, index, shared_by), 0, 9)
 }
 
 fn shape_word(rt: &impl Print, at: usize, word: u16) -> io::Result<()> {
-    let columns = small_columns();
-    let starts = small_starts();
-    let mut shape = small_shape();
+    let mut store = small_store();
     if at < SHAPE_LENGTH {
-        shape[at] = word;
+        store.shape[at] = word;
         print!(rt; "shape {at} {word}")?;
-        read(rt, &columns, &starts, &shape, 0, 9)?;
+        read(rt, &store, 0, 9)?;
     }
     Ok(())
 }
 
 fn row_start(rt: &impl Print, r: usize, start: u32) -> io::Result<()> {
-    let columns = small_columns();
-    let mut starts = small_starts();
-    let shape = small_shape();
+    let mut store = small_store();
     if r < ROW_STARTS_LENGTH {
-        starts[r] = start;
+        store.row_starts[r] = start;
         print!(rt; "start {r} {start}")?;
-        read(rt, &columns, &starts, &shape, 0, 9)?;
+        read(rt, &store, 0, 9)?;
     }
     Ok(())
 }
 
 fn column(rt: &impl Print, at: usize, column: u16) -> io::Result<()> {
-    let mut columns = small_columns();
-    let starts = small_starts();
-    let shape = small_shape();
+    let mut store = small_store();
     if at < ELEMENT_CEILING {
-        columns[at] = column;
+        store.columns[at] = column;
         print!(rt; "column {at} {column}")?;
-        read(rt, &columns, &starts, &shape, 0, 9)?;
+        read(rt, &store, 0, 9)?;
     }
     Ok(())
 }
 
 fn rows(rt: &impl Print) -> io::Result<()> {
-    row(rt, 0)?;
-    row(rt, 1)?;
-    row(rt, 2)?;
-    row(rt, 3)?;
-    row(rt, 4)?;
-    row(rt, ROW_CEILING)?;
-    row(rt, 18446744073709551615)
+    for r in [0, 1, 2, 3, 4, ROW_CEILING, usize::MAX] {
+        row(rt, r)?;
+    }
+    Ok(())
 }
 
 fn short_runs(rt: &impl Print) -> io::Result<()> {
-    short_run(rt, 0)?;
-    short_run(rt, 1)?;
-    short_run(rt, 2)?;
-    short_run(rt, 3)?;
-    short_run(rt, 4)?;
-    short_run(rt, 5)?;
-    short_run(rt, 6)?;
-    short_run(rt, 7)?;
-    short_run(rt, 8)
+    for k in 0..9 {
+        short_run(rt, k)?;
+    }
+    Ok(())
 }
 
 // The other sentinel, neither, each count over its ceiling, and an element count that the starts do not end at.
 fn counts(rt: &impl Print) -> io::Result<()> {
-    shape_word(rt, SENTINEL_AT, 1)?;
-    shape_word(rt, SENTINEL_AT, 2)?;
-    shape_word(rt, NODE_COUNT_AT, NODE_CEILING as u16 + 1)?;
-    shape_word(rt, EDGE_COUNT_AT, EDGE_CEILING as u16 + 1)?;
-    shape_word(rt, EDGE_COLUMN_COUNT_AT, EDGE_CEILING as u16 + 1)?;
-    shape_word(rt, SET_COUNT_AT, SET_CEILING as u16 + 1)?;
-    shape_word(rt, VARYING_COUNT_AT, ROW_CEILING as u16 - 1)?;
-    shape_word(rt, FIXED_COUNT_AT, ROW_CEILING as u16 - 1)?;
-    shape_word(rt, ELEMENT_COUNT_AT, ELEMENT_CEILING as u16 + 1)?;
-    shape_word(rt, NODE_ROW_COUNT_AT, NODE_ROW_CEILING as u16 + 1)?;
-    shape_word(rt, AGGREGATE_COUNT_AT, AGGREGATE_CEILING as u16 + 1)?;
-    shape_word(
-        rt,
-        VIRTUAL_STORAGE_COUNT_AT,
-        VIRTUAL_STORAGE_CEILING as u16 + 1,
-    )?;
-    shape_word(rt, ELEMENT_COUNT_AT, 3)
+    for (at, word) in [
+        (SENTINEL_AT, 1),
+        (SENTINEL_AT, 2),
+        (NODE_COUNT_AT, NODE_CEILING as u16 + 1),
+        (EDGE_COUNT_AT, EDGE_CEILING as u16 + 1),
+        (EDGE_COLUMN_COUNT_AT, EDGE_CEILING as u16 + 1),
+        (SET_COUNT_AT, SET_CEILING as u16 + 1),
+        (VARYING_COUNT_AT, ROW_CEILING as u16 - 1),
+        (FIXED_COUNT_AT, ROW_CEILING as u16 - 1),
+        (ELEMENT_COUNT_AT, ELEMENT_CEILING as u16 + 1),
+        (NODE_ROW_COUNT_AT, NODE_ROW_CEILING as u16 + 1),
+        (AGGREGATE_COUNT_AT, AGGREGATE_CEILING as u16 + 1),
+        (VIRTUAL_STORAGE_COUNT_AT, VIRTUAL_STORAGE_CEILING as u16 + 1),
+        (ELEMENT_COUNT_AT, 3),
+    ] {
+        shape_word(rt, at, word)?;
+    }
+    Ok(())
 }
 
 // A node's kind and flag; an edge's nodes and column; an aggregate's row; a virtual storage's row and flag.
 fn tables(rt: &impl Print) -> io::Result<()> {
-    shape_word(rt, NODES_AT, 3)?;
-    shape_word(rt, NODES_AT, 4)?;
-    shape_word(rt, NODES_AT + NODE_FLAG, 2)?;
-    shape_word(rt, EDGES_AT, 2)?;
-    shape_word(rt, EDGES_AT + EDGE_TO, 2)?;
-    shape_word(rt, EDGES_AT + MAPPED_COLUMN, 1)?;
-    shape_word(rt, AGGREGATES_AT, 1)?;
-    shape_word(rt, AGGREGATES_AT, 2)?;
-    shape_word(rt, VIRTUAL_STORAGES_AT, 2)?;
-    shape_word(rt, VIRTUAL_STORAGES_AT + PERIOD_FLAG, 0)?;
-    shape_word(rt, VIRTUAL_STORAGES_AT + PERIOD_FLAG, 2)
+    for (at, word) in [
+        (NODES_AT, 3),
+        (NODES_AT, 4),
+        (NODES_AT + NODE_FLAG, 2),
+        (EDGES_AT, 2),
+        (EDGES_AT + EDGE_TO, 2),
+        (EDGES_AT + MAPPED_COLUMN, 1),
+        (AGGREGATES_AT, 1),
+        (AGGREGATES_AT, 2),
+        (VIRTUAL_STORAGES_AT, 2),
+        (VIRTUAL_STORAGES_AT + PERIOD_FLAG, 0),
+        (VIRTUAL_STORAGES_AT + PERIOD_FLAG, 2),
+    ] {
+        shape_word(rt, at, word)?;
+    }
+    Ok(())
 }
 
 // The second node row: its node, its row (row 0 has no integer column), its type (without a type its set is not read) and its set.
 fn node_rows(rt: &impl Print) -> io::Result<()> {
-    shape_word(rt, SECOND_NODE_ROW, 2)?;
-    shape_word(rt, SECOND_NODE_ROW + NODE_ROW_ROW, 2)?;
-    shape_word(rt, SECOND_NODE_ROW + NODE_ROW_ROW, 0)?;
-    shape_word(rt, SECOND_NODE_ROW + NODE_ROW_TYPE, 2)?;
-    shape_word(rt, SECOND_NODE_ROW + NODE_ROW_TYPE, 3)?;
-    shape_word(rt, SECOND_NODE_ROW + NODE_ROW_SET, 1)?;
-    shape_word(rt, NODE_ROWS_AT + NODE_ROW_SET, 1)
+    for (at, word) in [
+        (SECOND_NODE_ROW, 2),
+        (SECOND_NODE_ROW + NODE_ROW_ROW, 2),
+        (SECOND_NODE_ROW + NODE_ROW_ROW, 0),
+        (SECOND_NODE_ROW + NODE_ROW_TYPE, 2),
+        (SECOND_NODE_ROW + NODE_ROW_TYPE, 3),
+        (SECOND_NODE_ROW + NODE_ROW_SET, 1),
+        (NODE_ROWS_AT + NODE_ROW_SET, 1),
+    ] {
+        shape_word(rt, at, word)?;
+    }
+    Ok(())
 }
 
 // Of the first, the third and the last row's maker each word out of range; what stands behind the last is not read.
 fn maker_words(rt: &impl Print) -> io::Result<()> {
-    shape_word(rt, MAKERS_AT, 5)?;
-    shape_word(rt, MAKERS_AT + MAKER_INDEX, 1)?;
-    shape_word(rt, MAKERS_AT + MAKER_INDEX, 2)?;
-    shape_word(rt, MAKERS_AT + MAKER_SHARED_BY, 0)?;
-    shape_word(rt, THIRD_MAKER, 5)?;
-    shape_word(rt, THIRD_MAKER + MAKER_INDEX, 2)?;
-    shape_word(rt, THIRD_MAKER + MAKER_SHARED_BY, 0)?;
-    shape_word(rt, FOURTH_MAKER, 65535)?;
-    shape_word(rt, FOURTH_MAKER + MAKER_INDEX, 1)?;
-    shape_word(rt, FOURTH_MAKER + MAKER_SHARED_BY, 0)?;
-    shape_word(rt, FOURTH_MAKER + MAKER_SHARED_BY, 65535)?;
-    shape_word(rt, FIFTH_MAKER, 5)?;
-    shape_word(rt, FIFTH_MAKER + MAKER_INDEX, 65535)
+    for (at, word) in [
+        (MAKERS_AT, 5),
+        (MAKERS_AT + MAKER_INDEX, 1),
+        (MAKERS_AT + MAKER_INDEX, 2),
+        (MAKERS_AT + MAKER_SHARED_BY, 0),
+        (THIRD_MAKER, 5),
+        (THIRD_MAKER + MAKER_INDEX, 2),
+        (THIRD_MAKER + MAKER_SHARED_BY, 0),
+        (FOURTH_MAKER, 65535),
+        (FOURTH_MAKER + MAKER_INDEX, 1),
+        (FOURTH_MAKER + MAKER_SHARED_BY, 0),
+        (FOURTH_MAKER + MAKER_SHARED_BY, 65535),
+        (FIFTH_MAKER, 5),
+        (FIFTH_MAKER + MAKER_INDEX, 65535),
+    ] {
+        shape_word(rt, at, word)?;
+    }
+    Ok(())
 }
 
 // Each kind with its last index and the one behind it, of two nodes, one aggregate and one virtual storage; shared by none; no such kind.
 fn makers(rt: &impl Print) -> io::Result<()> {
-    maker(rt, 0, 1, 1)?;
-    maker(rt, 0, 2, 1)?;
-    maker(rt, 0, 1, 0)?;
-    maker(rt, 1, 1, 1)?;
-    maker(rt, 1, 2, 1)?;
-    maker(rt, 1, 1, 0)?;
-    maker(rt, 2, 0, 1)?;
-    maker(rt, 2, 1, 1)?;
-    maker(rt, 2, 0, 0)?;
-    maker(rt, 3, 0, 1)?;
-    maker(rt, 3, 1, 1)?;
-    maker(rt, 3, 0, 0)?;
-    maker(rt, 4, 0, 1)?;
-    maker(rt, 4, 1, 1)?;
-    maker(rt, 4, 0, 0)?;
-    maker(rt, 5, 0, 1)
+    for (kind, index, shared_by) in [
+        (0, 1, 1),
+        (0, 2, 1),
+        (0, 1, 0),
+        (1, 1, 1),
+        (1, 2, 1),
+        (1, 1, 0),
+        (2, 0, 1),
+        (2, 1, 1),
+        (2, 0, 0),
+        (3, 0, 1),
+        (3, 1, 1),
+        (3, 0, 0),
+        (4, 0, 1),
+        (4, 1, 1),
+        (4, 0, 0),
+        (5, 0, 1),
+    ] {
+        maker(rt, kind, index, shared_by)?;
+    }
+    Ok(())
 }
 
 // Not from 0; falling; not ending at the element count; row 2 empty and row 3 not; row 2 with columns 1, 0; row 1 with columns 0, 0, 1.
 fn row_starts(rt: &impl Print) -> io::Result<()> {
-    row_start(rt, 0, 1)?;
-    row_start(rt, 1, 4)?;
-    row_start(rt, 4, 5)?;
-    row_start(rt, 3, 3)?;
-    row_start(rt, 2, 2)?;
-    row_start(rt, 1, 0)
+    for (r, start) in [(0, 1), (1, 4), (4, 5), (3, 3), (2, 2), (1, 0)] {
+        row_start(rt, r, start)?;
+    }
+    Ok(())
 }
 
 // Out of range; row 1 with columns 1, 1 and 0, 0; another column in row 2; a column behind the last row, which is not read.
 fn columns(rt: &impl Print) -> io::Result<()> {
-    column(rt, 0, 2)?;
-    column(rt, 1, 1)?;
-    column(rt, 2, 0)?;
-    column(rt, 3, 1)?;
-    column(rt, 4, 2)
+    for (at, word) in [(0, 2), (1, 1), (2, 0), (3, 1), (4, 2)] {
+        column(rt, at, word)?;
+    }
+    Ok(())
 }
 
 fn main(rt: HostRuntime) -> io::Result<()> {

@@ -2,8 +2,8 @@
 use mathlib.Core.Path.{◌≡◌, refl, sym, ap, ap₂, ◌∙◌, subst}
 use mathlib.Core.List.{List, [], ◌∷◌, map}
 use mathlib.Core.Bool.{Bool, true}
-use Rattle.pywr.specs.declared.Answer.{Answer}
-use Rattle.pywr.specs.declared.Answer.TheVariants.{Accepted}
+use Rattle.std.specs.Prelude.{Ok}
+use Rattle.pywr.specs.Answer.{Answer}
 use Rattle.pywr.specs.Result.{Result, value, refused}
 use Rattle.pywr.specs.Answers.{answer_of}
 use Rattle.pywr.specs.NetworkFile.{parse_network}
@@ -34,15 +34,15 @@ reported (ExportedRun.more {s} {t} {last} {a} c r) =
     (ap accepts c.after.answer ∙ answer_tells (step_answer s a.call.file a.call.work) ∙ sym (step_zero c))
     (reported r)
 
-accepted_is : {A : Type 0} (r : Result A) → is_accepted r ≡ true → answer_of r ≡ Accepted
+accepted_is : {A : Type 0} (r : Result A) → is_accepted r ≡ true → answer_of r ≡ Ok tt
 unfolding answer_of is_accepted
 accepted_is (value x) e = refl
 accepted_is (refused n p) e = cc
 
 pub exported_correspondence : ExportedCorrespondence
 exported_correspondence network_file infinite old built words words' numbers numbers' place net parsed crossed factors calls last r any plan =
-    let accepted : crossed.answer ≡ Accepted = crossed.after.answer ∙ accepted_is (build_answer (picked infinite) network_file old words numbers) (sym (build_zero crossed)) in
-    let after : AfterBuild (picked infinite) network_file old words numbers Accepted built words' numbers' = subst
+    let accepted : crossed.answer ≡ Ok tt = crossed.after.answer ∙ accepted_is (build_answer (picked infinite) network_file old words numbers) (sym (build_zero crossed)) in
+    let after : AfterBuild (picked infinite) network_file old words numbers (Ok tt) built words' numbers' = subst
     (λ (a : Answer). AfterBuild (picked infinite) network_file old words numbers a built words' numbers') accepted crossed.after in
     port_correspondence network_file (picked infinite) old built words words' numbers numbers' net parsed after factors (answered r) last (port_run r) (ap any_accepted (reported r) ∙ any) plan
     ∙ ap (λ (ts : List Report). network_allows (parse_network network_file) (picked infinite) ts plan) (reported r)

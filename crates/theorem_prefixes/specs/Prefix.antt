@@ -2,7 +2,7 @@
 use Rattle.std.specs.Prelude.{◌≡◌, ℕ, ◌+◌, ◌*◌, ◌≤◌, List, true, length, take, Float}
 use Rattle.layout.specs.Layout.{node_ceiling, edge_ceiling, aggregate_ceiling, virtual_storage_ceiling, aggregate_set_ceiling, part_ceiling, set_size_ceiling}
 use Rattle.pywr.specs.declared.Sentinel.{Sentinel}
-use Rattle.pywr.specs.declared.Answer.{Answer}
+use Rattle.pywr.specs.Answer.{Answer}
 use Rattle.pywr.specs.Build.{build}
 use Rattle.pywr.specs.Store.{Store}
 use Rattle.pywr.specs.Calls.{build_answer, build_store, AfterBuild, step_answer, step_store, AfterStep, is_accepted}

@@ -11,7 +11,7 @@ add_variable_row-requires c = (
   holding_lent _ _ _ c.requires.2.numbers_room c.requires.3 _ _ _ _ c.aggregate_row-n.ensures,
 )
 
-pub returns : goal.returns
-returns c =
+pub returns-clause-row : goal.returns-clause-row
+returns-clause-row c =
     λ rows held. asked_lent _ _ _ c.requires.2.numbers_room c.requires.3 _ _ _ _ c.aggregate_row-n.ensures _ _ _ _
-    c.add_variable_row.ensures rows held
+    c.add_variable_row.ensures.row rows held

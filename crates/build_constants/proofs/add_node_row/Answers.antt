@@ -27,8 +27,8 @@ add_fixed_row-requires c =
     let a = c.add_node-n.ensures in (
       record {
         words_room = c.requires.2.words_room;
-        numbers_room = lent_long c.args.numbers.now
-            c.add_node-n.new.elements (2048 + c.args.f.elements)
+        numbers_room = lent_long c.args.lp.now.numbers.now
+            c.add_node-n.new.elements (2048 + c.args.lp.now.filled.elements)
             c.add_node-n.auto.elements c.requires.2.numbers_room;
       },
       a.few,
@@ -37,9 +37,9 @@ add_fixed_row-requires c =
       a.rising,
     )
 
-pub returns : goal.returns
+pub returns-clause-rows : goal.returns-clause-rows
 unfolding one64 of_bits
-returns c =
+returns-clause-rows c =
     let room = lent_room _ _ _ c.requires.3 c.requires.2.numbers_room in
     lent_row _ _ _ _ _ refl room.0 _ _ _ _ _ _ _ _ _ _ c.min.ensures c.max.ensures
-    (node_row_lem _ _ _ _ _ _ _ _ _ refl c.add_node-n.ensures) c.add_fixed_row.ensures
+    (node_row_lem _ _ _ _ _ _ _ _ _ refl c.add_node-n.ensures) c.add_fixed_row.ensures.rows

@@ -3,23 +3,22 @@ use mathlib.Core.Path.{sym}
 use native.Mathlib.Nat.{zero-add}
 use native.Mathlib.Omega.{arith}
 use Rattle.build_join.proofs.PositionLaws.{found, passed_next, none_equal}
-use borrow.Author.Rules.{rules}
 use Rattle.build_join.proofs.position.Goals as goal
 
 pub loop-k-init : goal.loop-k-init
-loop-k-init c = (search rules, λ rows held. sym (zero-add _))
+loop-k-init c = λ rows held. sym (zero-add _)
 
 pub same_row-requires : goal.same_row-requires
 same_row-requires c =
     let p = c.requires in
-    (p.0, p.1, omega arith, c.loop-k-test.true, p.2)
+    (p.0, p.1, c.loop-k-test.true, p.2)
 
 pub returns-then-same_row : goal.returns-then-same_row
-returns-then-same_row c = found _ _ _ _ _ c.loop-k.invariant.1 _ c.same_row.ensures c.if-same_row.true c.loop-k-test.true
+returns-then-same_row c = found _ _ _ _ _ c.loop-k.invariant _ c.same_row.ensures c.if-same_row.true c.loop-k-test.true
 
 pub loop-k-preserved : goal.loop-k-preserved
 loop-k-preserved c =
-    (search rules, passed_next _ _ _ _ _ c.loop-k.invariant.1 _ c.same_row.ensures c.if-same_row.false c.loop-k-test.true)
+    passed_next _ _ _ _ _ c.loop-k.invariant _ c.same_row.ensures c.if-same_row.false c.loop-k-test.true
 
 pub returns : goal.returns
-returns c = none_equal _ _ _ _ _ c.loop-k.invariant.1 (omega arith)
+returns c = none_equal _ _ _ _ _ c.loop-k.invariant (omega arith)

@@ -1,8 +1,10 @@
 -- `build_mass::create_mass_balance_constraints` meets its contract.
-use mathlib.Core.Path.{refl, ◌∙◌}
-use Prim.Native.Nat.{◌-◌, ◌≤◌}
+use mathlib.Core.Path.{refl, ◌∙◌, ap}
+use Prim.Native.Nat.{◌≤◌}
 use native.Mathlib.Omega.{arith}
 use lib.ListN.{length}
+use Rattle.build_append.specs.LpBuilder.{filled_then}
+use Rattle.std.proofs.lemmas.Result.{err_from_is_err_and}
 use Rattle.layout.specs.Layout.{shape_made_at, words_length}
 use Rattle.laws.proofs.Tails.{tail_kept, tail_length}
 use Rattle.pywr.specs.FixedRows.{mass_rows_from}
@@ -15,74 +17,67 @@ use borrow.Author.Rules.{rules}
 use Rattle.build_mass.proofs.create_mass_balance_constraints.Goals as goal
 
 pub loop-i-init : goal.loop-i-init
-loop-i-init c = (search rules, (λ rows makers h. making_first rows _ makers _ _ _ _ h), refl, refl)
+loop-i-init c = (search rules, (λ rows makers h. making_first rows _ makers _ _ _ _ h), record { words = refl; numbers = refl; words_long = refl; numbers_long = refl; sentinel = refl })
 
-pub narrow16-index-requires : goal.narrow16-index-requires
-narrow16-index-requires c = omega (arith, c.loop-i-test.true, c.requires.0.sections.few_nodes)
+pub overflow_cast-index : goal.overflow_cast-index
+overflow_cast-index c = omega (arith, c.loop-i-test.true, c.requires.0.sections.few_nodes)
 
-pub add_mass_row-r-requires : goal.add_mass_row-r-requires
-add_mass_row-r-requires c =
+pub add_mass_row-requires : goal.add_mass_row-requires
+add_mass_row-requires c =
     let l = c.loop-i.invariant in (
       c.requires.0,
-      omega (arith, c.narrow16-index.ensures, c.loop-i-test.true),
+      c.loop-i-test.true,
       record {
-        words_room = omega (arith, l.2, c.requires.1.words_room);
+        words_room = omega (arith, l.2.words_long, c.requires.1.words_room);
         numbers_room = omega
-            (arith, l.3, c.requires.1.numbers_room);
+            (arith, l.2.numbers_long, c.requires.1.numbers_room);
       },
       making_holding _ _ _ _ _ _ _ _ (l.1 c.requires.2.rows c.requires.2.makers c.requires.2.held),
     )
 
-pub shape_of-words-in-Full : goal.shape_of-words-in-Full
-shape_of-words-in-Full c = c.add_mass_row-r.auto.words ∙ c.loop-i.invariant.2
-
-pub shape_of-numbers-in-Full : goal.shape_of-numbers-in-Full
-shape_of-numbers-in-Full c = c.add_mass_row-r.auto.numbers ∙ c.loop-i.invariant.3
-
-pub returns-in-Full : goal.returns-in-Full
+pub returns-in_err-add_mass_row-clause-rows : goal.returns-in_err-add_mass_row-clause-rows
 unfolding mass_makers
-returns-in-Full c =
-    λ rows makers h. node_over by_mass (mass_rows_from _) (masses_in_turn _) _ _ _ _ _ _ _ _ _ _ _ _ (c.loop-i.invariant.1 rows makers h)
-    c.loop-i-test.true _ c.narrow16-index.ensures _ _ _ c.add_mass_row-r.ensures c.in-Full.is
+returns-in_err-add_mass_row-clause-rows c =
+    let p = err_from_is_err_and c.from_residual.result c.from_residual.ensures.1 in
+    rw p.1 (λ rows makers h. node_over by_mass (mass_rows_from _) (masses_in_turn _) _ _ _ _ _ _ _ _ _ _ _ _ (c.loop-i.invariant.1 rows makers h)
+    c.loop-i-test.true _ refl _ _ _ c.add_mass_row.ensures.rows _ (ap (λ r. filled_then r c.add_mass_row.new.lp.filled) c.in_err-add_mass_row.was))
 
 pub put_makers-requires : goal.put_makers-requires
 unfolding mass_makers
 put_makers-requires c =
     -- the words after the rows are long enough
-    let room : words_length ≤ length c.add_mass_row-r.new.words = omega (arith, c.add_mass_row-r.auto.words, c.loop-i.invariant.2, c.requires.1.words_room) in
+    let room : words_length ≤ length c.add_mass_row.new.lp.words.now = omega (arith, c.add_mass_row.ensures.same.words_long, c.loop-i.invariant.2.words_long, c.requires.1.words_room) in
     let h = c.requires.2 in
     let rise = node_rise by_mass (mass_rows_from _) (masses_in_turn _) _ _ _ _ _ _ _ _ _ _ _ _ (c.loop-i.invariant.1 h.rows h.makers h.held)
-    c.loop-i-test.true _ c.narrow16-index.ensures _ _ _ c.add_mass_row-r.ensures _ c.in-Done.is in
-    (rise.0, rise.1, omega (arith, room, tail_length shape_made_at c.add_mass_row-r.new.words))
+    c.loop-i-test.true _ refl _ _ _ c.add_mass_row.ensures.rows _ (ap (λ r. filled_then r c.add_mass_row.new.lp.filled) c.in_ok-add_mass_row.was) in
+    (rise.0, rise.1, omega (arith, room, tail_length shape_made_at c.add_mass_row.new.lp.words.now))
 
-pub slice_bounds-put_makers-start : goal.slice_bounds-put_makers-start
-slice_bounds-put_makers-start c =
+pub slice_bounds-shape-start : goal.slice_bounds-shape-start
+slice_bounds-shape-start c =
     -- the words after the rows are long enough
-    let room : words_length ≤ length c.add_mass_row-r.new.words = omega (arith, c.add_mass_row-r.auto.words, c.loop-i.invariant.2, c.requires.1.words_room) in
+    let room : words_length ≤ length c.add_mass_row.new.lp.words.now = omega (arith, c.add_mass_row.ensures.same.words_long, c.loop-i.invariant.2.words_long, c.requires.1.words_room) in
     omega (arith, room)
 
 pub loop-i-preserved : goal.loop-i-preserved
 unfolding mass_makers
 loop-i-preserved c =
     -- the words after the rows are long enough
-    let room : words_length ≤ length c.add_mass_row-r.new.words = omega (arith, c.add_mass_row-r.auto.words, c.loop-i.invariant.2, c.requires.1.words_room) in
-    let words₁ = c.add_mass_row-r.new.words in (
+    let room : words_length ≤ length c.add_mass_row.new.lp.words.now = omega (arith, c.add_mass_row.ensures.same.words_long, c.loop-i.invariant.2.words_long, c.requires.1.words_room) in
+    let words₁ = c.add_mass_row.new.lp.words.now in (
       omega (arith, c.loop-i-test.true),
       (λ rows makers h. node_more by_mass (mass_rows_from _) (masses_in_turn _) _ _ _ _ _ _ _ _ _ _ _ _ (c.loop-i.invariant.1 rows makers h)
-          c.loop-i-test.true _ c.narrow16-index.ensures _ _ _ c.add_mass_row-r.ensures _ c.in-Done.is
+          c.loop-i-test.true _ refl _ _ _ c.add_mass_row.ensures.rows _ (ap (λ r. filled_then r c.add_mass_row.new.lp.filled) c.in_ok-add_mass_row.was)
           _ room c.put_makers.ensures),
-      tail_kept shape_made_at words₁ c.put_makers.new.shape c.put_makers.auto.shape
-          ∙ c.add_mass_row-r.auto.words ∙ c.loop-i.invariant.2,
-      c.add_mass_row-r.auto.numbers ∙ c.loop-i.invariant.3,
+      record {
+        words = c.add_mass_row.ensures.same.words ∙ c.loop-i.invariant.2.words;
+        numbers = c.add_mass_row.ensures.same.numbers ∙ c.loop-i.invariant.2.numbers;
+        words_long = tail_kept shape_made_at words₁ c.put_makers.new.shape c.put_makers.auto.shape ∙ c.add_mass_row.ensures.same.words_long ∙ c.loop-i.invariant.2.words_long;
+        numbers_long = c.add_mass_row.ensures.same.numbers_long ∙ c.loop-i.invariant.2.numbers_long;
+        sentinel = c.add_mass_row.ensures.same.sentinel ∙ c.loop-i.invariant.2.sentinel;
+      },
     )
 
-pub shape_of-words : goal.shape_of-words
-shape_of-words c = c.loop-i.invariant.2
-
-pub shape_of-numbers : goal.shape_of-numbers
-shape_of-numbers c = c.loop-i.invariant.3
-
-pub returns : goal.returns
+pub returns-clause-rows : goal.returns-clause-rows
 unfolding mass_makers
-returns c =
+returns-clause-rows c =
     λ rows makers h. nodes_done_lem by_mass (mass_rows_from _) (masses_in_turn _) _ _ _ _ _ _ _ _ _ _ _ _ (c.loop-i.invariant.1 rows makers h) c.loop-i-test.false

@@ -14,9 +14,9 @@ add_node_row-requires c =
       c.requires.5,
     )
 
-pub returns : goal.returns
-returns c =
+pub returns-clause-rows : goal.returns-clause-rows
+returns-clause-rows c =
     let ys = c.bounded_row-n.new.elements in
     let long = c.requires.3.numbers_room in
-    λ t et asks h. request_lent _ asks _ _ ys _ long h _ _ _ _ _ _ _ _ _ c.bounded_row-n.ensures.is
-    (c.add_node_row.ensures t et asks (rows_lent _ asks _ _ ys _ long h))
+    λ asks h. request_lent _ asks _ _ ys _ long h _ _ _ _ _ _ _ _ _ c.bounded_row-n.ensures.is
+    (c.add_node_row.ensures.rows asks (rows_lent _ asks _ _ ys _ long h))

@@ -3,8 +3,6 @@ use mathlib.Core.Path.{refl}
 use lib.Ieee.{of_bits}
 use Rattle.pywr.specs.Numbers.{one64}
 use Rattle.pywr.specs.Misshapen.{columns_rise}
-use Rattle.pywr.specs.Written.{row_type_word}
-use Rattle.pywr.specs.Programme.{continuous}
 use Rattle.build_node_table.proofs.Table.{rows_lent, request_lent}
 use Rattle.build_node_request.proofs.NodeGathered.{node_gathered}
 use borrow.Author.Rules.{rules}
@@ -25,10 +23,10 @@ add_node_row-requires c =
       c.requires.4,
     )
 
-pub returns : goal.returns
-unfolding one64 of_bits row_type_word
-returns c =
+pub returns-clause-rows : goal.returns-clause-rows
+unfolding one64 of_bits
+returns-clause-rows c =
     let ys = c.add_node-n.new.elements in
     let long = c.requires.2.numbers_room in
     λ asks h. request_lent _ asks _ _ ys _ long h _ _ _ _ _ _ _ _ _ (node_gathered _ _ _ _ _ _ _ _ _ refl c.add_node-n.ensures).is
-    (c.add_node_row.ensures continuous refl asks (rows_lent _ asks _ _ ys _ long h))
+    (c.add_node_row.ensures.rows asks (rows_lent _ asks _ _ ys _ long h))

@@ -1,36 +1,40 @@
 -- `build_node_row::add_node` meets its contract.
+use mathlib.Core.Path.{refl, sym, ap, ◌∙◌}
 use native.Mathlib.Omega.{arith}
-use Rattle.build_node_row.proofs.NodeColumns.{in_listed, out_listed, output_added, outgoing_added, storage_added}
+use Rattle.network_node.specs.Node.{node_kind}
+use Rattle.network_node.proofs.KindLaws.{is_output, is_storage}
+use Rattle.build_node_row.proofs.NodeColumns.{in_listed, out_listed, under_ceiling, kind_most, output_added, outgoing_added, storage_added}
 use Rattle.build_node_row.proofs.add_node.Goals as goal
 
-pub add_columns-requires : goal.add_columns-requires
-add_columns-requires c = (c.requires.2, c.requires.3, c.requires.4, in_listed _ _ _ _ _ _ _ c.requires.0 c.wide16-k.result)
+pub add_edges-requires : goal.add_edges-requires
+add_edges-requires c = (under_ceiling _ _ _ c.requires.0 _ c.requires.1, c.requires.2, c.requires.3, c.requires.4, in_listed _ _ _ c.requires.0 _)
 
-pub returns-then-kind-eq1 : goal.returns-then-kind-eq1
-returns-then-kind-eq1 c =
-    output_added _ _ _ _ _ _ _ c.requires.0 _ c.wide16-k.result c.wide16-k.ensures.0 c.requires.1 _ c.kind-kind.ensures _ _ _ _ _ _ _
-    c.if-kind-eq1.true c.add_columns.ensures
+pub add_edges-m-requires : goal.add_edges-m-requires
+add_edges-m-requires c = (under_ceiling _ _ _ c.requires.0 _ c.requires.1, c.requires.2, c.requires.3, c.requires.4, in_listed _ _ _ c.requires.0 _)
 
-pub add_columns-m-requires : goal.add_columns-m-requires
-add_columns-m-requires c = (c.requires.2, c.requires.3, c.requires.4, in_listed _ _ _ _ _ _ _ c.requires.0 c.wide16-k.result)
-
-pub add_columns-requires-then-kind-eq3 : goal.add_columns-requires-then-kind-eq3
-add_columns-requires-then-kind-eq3 c = (
-  c.add_columns-m.ensures.few,
-  omega (arith, c.add_columns-m.auto.elements, c.requires.3),
-  c.add_columns-m.ensures.rising,
-  out_listed _ _ _ _ _ _ _ c.requires.0 c.wide16-k.result,
+pub add_edges-requires-in-Storage : goal.add_edges-requires-in-Storage
+add_edges-requires-in-Storage c = (
+  under_ceiling _ _ _ c.requires.0 _ c.requires.1,
+  c.add_edges-m.ensures.few,
+  omega (arith, c.add_edges-m.auto.elements, c.requires.3),
+  c.add_edges-m.ensures.rising,
+  out_listed _ _ _ c.requires.0 _,
 )
 
-pub returns-then-kind-eq3 : goal.returns-then-kind-eq3
-returns-then-kind-eq3 c =
-    storage_added _ _ _ _ _ _ _ c.requires.0 _ c.wide16-k.result c.wide16-k.ensures.0 c.requires.1 _ c.kind-kind.ensures _ _ _ _ _ _ _ _ _ _
-    c.if-kind-eq3.true c.add_columns-m.ensures c.add_columns-then-kind-eq3.ensures
+pub add_edges-requires-in_default : goal.add_edges-requires-in_default
+add_edges-requires-in_default c = (under_ceiling _ _ _ c.requires.0 _ c.requires.1, c.requires.2, c.requires.3, c.requires.4, out_listed _ _ _ c.requires.0 _)
 
-pub add_columns-requires-2 : goal.add_columns-requires-2
-add_columns-requires-2 c = (c.requires.2, c.requires.3, c.requires.4, out_listed _ _ _ _ _ _ _ c.requires.0 c.wide16-k.result)
+pub returns-in-Output : goal.returns-in-Output
+returns-in-Output c =
+    output_added _ _ _ c.requires.0 _ c.requires.1 _ refl _ _ _ _ _ _ _ (is_output _ (sym c.kind.ensures ∙ c.in-Output.is)) c.add_edges.ensures
 
-pub returns : goal.returns
-returns c =
-    outgoing_added _ _ _ _ _ _ _ c.requires.0 _ c.wide16-k.result c.wide16-k.ensures.0 c.requires.1 _ c.kind-kind.ensures _ _ _ _ _ _ _
-    c.if-kind-eq1.false c.if-kind-eq3.false c.add_columns-2.ensures
+pub returns-in-Storage : goal.returns-in-Storage
+returns-in-Storage c =
+    storage_added _ _ _ c.requires.0 _ c.requires.1 _ refl _ _ _ _ _ _ _ _ _ _
+    (is_storage _ (kind_most _ _ _ c.requires.0 _ c.requires.1) (sym c.kind.ensures ∙ c.in-Storage.is)) c.add_edges-m.ensures c.add_edges-in-Storage.ensures
+
+pub returns-in_default : goal.returns-in_default
+unfolding node_kind
+returns-in_default c =
+    outgoing_added _ _ _ c.requires.0 _ c.requires.1 _ refl _ _ _ _ _ _ _
+    (λ q. c.in_default.not-Output (c.kind.ensures ∙ ap node_kind q)) (λ q. c.in_default.not-Storage (c.kind.ensures ∙ ap node_kind q)) c.add_edges-in_default.ensures

@@ -1,30 +1,31 @@
 -- `build_node_table::add_node_row` meets its contract.
+use mathlib.Core.Path.{refl, ap}
 use native.Mathlib.Omega.{arith}
-use Rattle.layout.specs.Layout.{shape_made_at}
-use Rattle.laws.proofs.Tails.{tail_length}
+use Rattle.std.proofs.lemmas.Result.{err_from_is_err_and}
+use Rattle.build_join.specs.VariableRow.{placed_then}
 use Rattle.build_node_table.specs.NodeTable.{joined}
 use Rattle.build_node_table.proofs.Table.{place_fits, row_full, row_placed}
 use Rattle.build_node_table.proofs.add_node_row.Goals as goal
 
-pub narrow16-requires : goal.narrow16-requires
-narrow16-requires c =
+pub overflow_cast-row : goal.overflow_cast-row
+overflow_cast-row c =
     let h = c.requires.3 in
-    place_fits _ (joined h.asks).rows _ _ _ _ _ _ _ h.held.held
-    (c.add_variable_row-r.ensures (joined h.asks).rows h.held.held) _ _ c.in-At.is
+    let under = place_fits _ (joined h.asks).rows _ _ _ _ _ _ _ h.held.held
+    (c.add_variable_row.ensures.row (joined h.asks).rows h.held.held) _ _ (ap (λ r. placed_then r c.add_variable_row.new.lp.filled) c.in_ok-row.was) in
+    omega arith
 
-pub put_node_row-requires : goal.put_node_row-requires
-put_node_row-requires c =
-    omega (arith, tail_length shape_made_at c.add_variable_row-r.new.words, c.add_variable_row-r.auto.words, c.requires.0.words_room, c.requires.4)
+pub returns-in_err-row-clause-rows : goal.returns-in_err-row-clause-rows
+returns-in_err-row-clause-rows c =
+    let p = err_from_is_err_and c.from_residual.result c.from_residual.ensures.1 in
+    rw p.1 (λ asks h. row_full _ asks _ _ _ _ _ _ _ h (c.add_variable_row.ensures.row (joined asks).rows h.held) _
+    (ap (λ r. placed_then r c.add_variable_row.new.lp.filled) c.in_err-row.was))
 
-pub returns-in-Full : goal.returns-in-Full
-returns-in-Full c =
-    λ t et asks h. row_full _ asks _ _ _ _ _ _ _ h (c.add_variable_row-r.ensures (joined asks).rows h.held) c.in-Full.is
-
-pub returns-in-At : goal.returns-in-At
-returns-in-At c =
+pub returns-clause-rows : goal.returns-clause-rows
+returns-clause-rows c =
     let room = c.requires.4 in
     let long = c.requires.0.words_room in
-    let kept = c.add_variable_row-r.auto.words in
-    λ t et asks h.
-    row_placed _ asks _ _ _ _ _ _ _ h (c.add_variable_row-r.ensures (joined asks).rows h.held) _ _ c.in-At.is _ _ _
-    c.narrow16.ensures et (omega arith) c.put_node_row.ensures
+    let kept = c.add_variable_row.ensures.same.words_long in
+    λ asks h.
+    row_placed _ asks _ _ _ _ _ _ _ h (c.add_variable_row.ensures.row (joined asks).rows h.held) _ _
+    (ap (λ r. placed_then r c.add_variable_row.new.lp.filled) c.in_ok-row.was) _ _ _
+    refl refl (omega arith) c.put_node_row.ensures

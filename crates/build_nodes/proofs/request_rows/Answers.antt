@@ -4,17 +4,17 @@ use Rattle.build_nodes.proofs.NodeOrder.{node_within, node_under, constant_after
 use Rattle.build_nodes.proofs.request_rows.Goals as goal
 
 pub is_constant-requires : goal.is_constant-requires
-is_constant-requires c = node_within _ _ _ _ _ _ _ c.requires.0 _ c.requires.1
+is_constant-requires c = node_within _ _ _ c.requires.0 _ c.requires.1
 
-pub returns-then-is_constant : goal.returns-then-is_constant
-returns-then-is_constant c =
+pub returns-then-is_constant-clause-rows : goal.returns-then-is_constant-clause-rows
+returns-then-is_constant-clause-rows c =
     let p = c.requires in
-    constant_after _ _ _ _ _ _ _ p.0 _ p.1 _ c.is_constant.ensures c.if-is_constant.true _ _ _ _ p.5
+    constant_after _ _ _ p.0 _ p.1 _ c.is_constant.ensures c.if-is_constant.true _ _ _ _ p.5
 
-pub bounds-first_membership-k : goal.bounds-first_membership-k
-bounds-first_membership-k c =
-    let under = node_under _ _ _ _ _ _ _ c.requires.0 _ c.requires.1 in
-    omega (arith, c.wide16-k.ensures.0)
+pub bounds-memberships-from : goal.bounds-memberships-from
+bounds-memberships-from c =
+    let under = node_under _ _ _ c.requires.0 _ c.requires.1 in
+    omega (arith, c.from.ensures)
 
 pub request_node_row-requires : goal.request_node_row-requires
 request_node_row-requires c =
@@ -23,15 +23,15 @@ request_node_row-requires c =
       p.1,
       p.4,
       record { asks = _; held = p.5 },
-      own_room _ _ _ _ _ _ _ p.0 _ _ p.3 _ _ c.wide16-k.ensures.0 p.1 _
-          c.is_constant.ensures c.if-is_constant.false c.if-first_membership-k-eq0.true _ _ _ _ p.5,
+      own_room _ _ _ p.0 _ p.3 _ _ c.from.ensures p.1 _
+          c.is_constant.ensures c.if-is_constant.false c.if-memberships-from-eq0.true _ _ _ _ p.5,
     )
 
-pub returns-then-first_membership-k-eq0 : goal.returns-then-first_membership-k-eq0
-returns-then-first_membership-k-eq0 c =
+pub returns-then-memberships-from-eq0-clause-rows : goal.returns-then-memberships-from-eq0-clause-rows
+returns-then-memberships-from-eq0-clause-rows c =
     let p = c.requires in
-    own_after _ _ _ _ _ _ _ p.0 _ _ p.3 _ _ c.wide16-k.ensures.0 p.1 _ c.is_constant.ensures c.if-is_constant.false
-    c.if-first_membership-k-eq0.true _ _ _ _ (c.request_node_row.ensures _ p.5)
+    own_after _ _ _ p.0 _ p.3 _ _ c.from.ensures p.1 _ c.is_constant.ensures c.if-is_constant.false
+    c.if-memberships-from-eq0.true _ _ _ _ (c.request_node_row.ensures.rows _ p.5)
 
 pub request_exclusive_rows-requires : goal.request_exclusive_rows-requires
 request_exclusive_rows-requires c =
@@ -42,12 +42,12 @@ request_exclusive_rows-requires c =
       p.3,
       p.4,
       p.5,
-      listed_room _ _ _ _ _ _ _ p.0 _ _ p.3 _ _ c.wide16-k.ensures.0 p.1 _
-          c.is_constant.ensures c.if-is_constant.false c.if-first_membership-k-eq0.false,
+      listed_room _ _ _ p.0 _ p.3 _ _ c.from.ensures p.1 _
+          c.is_constant.ensures c.if-is_constant.false c.if-memberships-from-eq0.false,
     )
 
-pub returns : goal.returns
-returns c =
+pub returns-clause-rows : goal.returns-clause-rows
+returns-clause-rows c =
     let p = c.requires in
-    listed_after _ _ _ _ _ _ _ p.0 _ _ p.3 _ _ c.wide16-k.ensures.0 p.1 _ c.is_constant.ensures c.if-is_constant.false
-    c.if-first_membership-k-eq0.false _ _ _ _ c.request_exclusive_rows.ensures
+    listed_after _ _ _ p.0 _ p.3 _ _ c.from.ensures p.1 _ c.is_constant.ensures c.if-is_constant.false
+    c.if-memberships-from-eq0.false _ _ _ _ c.request_exclusive_rows.ensures.rows

@@ -21,7 +21,7 @@ write_tables-requires c =
       omega (arith, t.sections.fixed, t.sections.inside, c.requires.2, c.requires.3),
       c.requires.5,
       c.requires.4,
-      λ e h. placed _ _ _ _ _ _ _ t e (omega (arith, c.requires.3)),
+      λ e h. placed _ _ _ t e (omega (arith, c.requires.3)),
     )
 
 pub slice_bounds-write_flow_order-count : goal.slice_bounds-write_flow_order-count
@@ -61,7 +61,7 @@ returns c =
     -- the words with the tables of nodes and edges and the counts
     let words₁ : List ℕ = c.write_tables.new.words in
     let a = c.args in
-    let order : List ℕ = flow_order (network_of a.s.now a.c) in
+    let order : List ℕ = flow_order (network_of a.tables.now.file.now a.tables.now.counts) in
     tail_written shape_made_at words₁ flow_order_at flow_order_made_at _ order refl
-    (c.write_flow_order.ensures a.c.aggregates a.c.virtual_storages)
+    (c.write_flow_order.ensures a.tables.now.counts.aggregates a.tables.now.counts.virtual_storages)
     ∙ ap (λ (l : List ℕ). sets l flow_order_made_at order) c.write_tables.ensures

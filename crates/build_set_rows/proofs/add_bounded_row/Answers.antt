@@ -16,8 +16,8 @@ add_fixed_row-requires c =
     let g = c.bounded_row-n.ensures in (
       record {
         words_room = c.requires.3.words_room;
-        numbers_room = lent_long c.args.numbers.now
-            c.bounded_row-n.new.elements (2048 + c.args.f.elements)
+        numbers_room = lent_long c.args.lp.now.numbers.now
+            c.bounded_row-n.new.elements (2048 + c.args.lp.now.filled.elements)
             c.bounded_row-n.auto.elements c.requires.3.numbers_room;
       },
       g.few,
@@ -26,8 +26,8 @@ add_fixed_row-requires c =
       g.rising,
     )
 
-pub returns : goal.returns
+pub returns-clause-rows : goal.returns-clause-rows
 unfolding zero64 of_bits
-returns c =
+returns-clause-rows c =
     let room = lent_room _ _ _ c.requires.4 c.requires.3.numbers_room in
-    lent_row _ _ _ _ _ refl room.0 _ _ _ _ _ _ _ _ _ _ refl c.high.ensures c.bounded_row-n.ensures.is c.add_fixed_row.ensures
+    lent_row _ _ _ _ _ refl room.0 _ _ _ _ _ _ _ _ _ _ refl c.high.ensures c.bounded_row-n.ensures.is c.add_fixed_row.ensures.rows

@@ -1,6 +1,5 @@
 -- `build_sharers::put_varying_makers` meets its contract.
 use native.Mathlib.Omega.{arith}
-use mathlib.Core.Path.{◌∙◌}
 use Rattle.build_sharers.proofs.Table.{nodes_ready, aggregates_ready, virtual_storages_ready, all_counted}
 use Rattle.build_sharers.proofs.put_varying_makers.Goals as goal
 
@@ -39,10 +38,6 @@ add_sharers-requires-2 c =
       virtual_storages_ready _ _ _ _ _ p.0 p.1 p.2 p.3 p.4 p.5 _ c.put_makers.ensures _
           c.add_node_sharers.ensures _ c.add_sharers.ensures,
     )
-
-pub shape_of-shape : goal.shape_of-shape
-shape_of-shape c =
-    c.add_sharers-2.auto.shape ∙ c.add_sharers.auto.shape ∙ c.add_node_sharers.auto.shape ∙ c.put_makers.auto.shape
 
 pub returns : goal.returns
 returns c =

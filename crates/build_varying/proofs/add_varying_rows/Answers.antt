@@ -1,128 +1,97 @@
 -- `build_varying::add_varying_rows` meets its contract.
-use mathlib.Core.Path.{sym, ◌∙◌}
+use mathlib.Core.Path.{sym, ap}
 use native.Mathlib.Omega.{arith}
+use Rattle.build_append.specs.LpBuilder.{filled_then}
+use Rattle.build_append.specs.LpBuilder.{filled_then}
+use Rattle.build_node_table.specs.NodeTable.{node_rows_then}
+use Rattle.std.proofs.lemmas.Result.{err_from_is_err_and}
 use Rattle.network_laws.proofs.Index.{aggregate_count_lem, virtual_storage_count_lem}
 use Rattle.build_node_row.specs.Tables.{network_of}
 use Rattle.build_varying.proofs.Varying.{rows₁, rows₂, nodes_full, aggregates_full, virtual_storages_full, full_only, nodes_holding, aggregates_holding, all_laid, asks_few}
 use Rattle.build_varying.proofs.add_varying_rows.Goals as goal
 
-pub create_aggregated_node_constraints-a-requires : goal.create_aggregated_node_constraints-a-requires
-create_aggregated_node_constraints-a-requires c =
-    let h = c.create_node_constraints-n.ensures.done _ c.in-Done.is in (
+pub create_aggregated_node_constraints-requires : goal.create_aggregated_node_constraints-requires
+create_aggregated_node_constraints-requires c =
+    let h = c.create_node_constraints.ensures.rows.done _ (ap (λ r. node_rows_then r c.create_node_constraints.new.lp) c.in_ok-node_rows.was) in (
       c.requires.0,
       record {
         words_room = omega
-            (arith, c.create_node_constraints-n.auto.words, c.requires.3.words_room);
+            (arith, c.create_node_constraints.ensures.same.words_long, c.requires.3.words_room);
         numbers_room = omega (
           arith,
-          c.create_node_constraints-n.auto.numbers,
+          c.create_node_constraints.ensures.same.numbers_long,
           c.requires.3.numbers_room,
         );
       },
-      nodes_holding c.args.sentinel (network_of c.args.s.now c.args.c) _ _ _ h,
+      rw c.create_node_constraints.ensures.same.sentinel (nodes_holding c.args.lp.now.sentinel (network_of c.args.tables.now.file.now c.args.tables.now.counts) _ _ _ h),
     )
 
-pub create_virtual_storage_constraints-v-requires : goal.create_virtual_storage_constraints-v-requires
-create_virtual_storage_constraints-v-requires c =
-    let h = c.create_node_constraints-n.ensures.done _ c.in-Done.is in
-    let g = c.create_aggregated_node_constraints-a.ensures (rows₁ c.args.sentinel (network_of c.args.s.now c.args.c)) h.held in (
+pub create_virtual_storage_constraints-requires : goal.create_virtual_storage_constraints-requires
+create_virtual_storage_constraints-requires c =
+    let h = c.create_node_constraints.ensures.rows.done _ (ap (λ r. node_rows_then r c.create_node_constraints.new.lp) c.in_ok-node_rows.was) in
+    let g = (rw c.create_node_constraints.ensures.same.sentinel at c.create_aggregated_node_constraints.ensures.rows) (rows₁ c.args.lp.now.sentinel (network_of c.args.tables.now.file.now c.args.tables.now.counts)) h.held in (
       c.requires.0,
       record {
         words_room = omega (
           arith,
-          c.create_node_constraints-n.auto.words,
-          c.create_aggregated_node_constraints-a.auto.words,
+          c.create_node_constraints.ensures.same.words_long,
+          c.create_aggregated_node_constraints.ensures.same.words_long,
           c.requires.3.words_room,
         );
         numbers_room = omega (
           arith,
-          c.create_node_constraints-n.auto.numbers,
-          c.create_aggregated_node_constraints-a.auto.numbers,
+          c.create_node_constraints.ensures.same.numbers_long,
+          c.create_aggregated_node_constraints.ensures.same.numbers_long,
           c.requires.3.numbers_room,
         );
       },
-      aggregates_holding c.args.sentinel (network_of c.args.s.now c.args.c) _ _ _ _ _ g _ c.in-Done-a.is,
+      rw (c.create_aggregated_node_constraints.ensures.same.sentinel, c.create_node_constraints.ensures.same.sentinel)
+          (aggregates_holding c.args.lp.now.sentinel (network_of c.args.tables.now.file.now c.args.tables.now.counts) _ _ _ _ _ g _ (ap (λ r. filled_then r c.create_aggregated_node_constraints.new.lp.filled) c.in_ok-create_aggregated_node_constraints.was)),
     )
 
-pub shape_of-words-in-Full : goal.shape_of-words-in-Full
-shape_of-words-in-Full c = c.create_node_constraints-n.auto.words
+pub returns-in_err-node_rows-clause-rows : goal.returns-in_err-node_rows-clause-rows
+returns-in_err-node_rows-clause-rows c =
+    let p = err_from_is_err_and c.from_residual.result c.from_residual.ensures.1 in
+    rw p.1 (full_only _ _ _ _ (nodes_full _ _ (c.create_node_constraints.ensures.rows.full _ (ap (λ r. node_rows_then r c.create_node_constraints.new.lp) c.in_err-node_rows.was))) _)
 
-pub shape_of-numbers-in-Full : goal.shape_of-numbers-in-Full
-shape_of-numbers-in-Full c = c.create_node_constraints-n.auto.numbers
+pub returns-in_err-create_aggregated_node_constraints-clause-rows : goal.returns-in_err-create_aggregated_node_constraints-clause-rows
+returns-in_err-create_aggregated_node_constraints-clause-rows c =
+    let p = err_from_is_err_and c.from_residual-in_err-create_aggregated_node_constraints.result c.from_residual-in_err-create_aggregated_node_constraints.ensures.1 in
+    rw p.1 (let h = c.create_node_constraints.ensures.rows.done _ (ap (λ r. node_rows_then r c.create_node_constraints.new.lp) c.in_ok-node_rows.was) in
+    full_only _ _ _ _ (aggregates_full c.args.lp.now.sentinel (network_of c.args.tables.now.file.now c.args.tables.now.counts)
+    (((rw c.create_node_constraints.ensures.same.sentinel at c.create_aggregated_node_constraints.ensures.rows)
+    (rows₁ c.args.lp.now.sentinel (network_of c.args.tables.now.file.now c.args.tables.now.counts)) h.held).full _ (ap (λ r. filled_then r c.create_aggregated_node_constraints.new.lp.filled) c.in_err-create_aggregated_node_constraints.was))) _)
 
-pub returns-in-Full : goal.returns-in-Full
-returns-in-Full c = full_only _ _ _ _ (nodes_full _ _ (c.create_node_constraints-n.ensures.full c.in-Full.is))
+pub returns-in_err-create_virtual_storage_constraints-clause-rows : goal.returns-in_err-create_virtual_storage_constraints-clause-rows
+returns-in_err-create_virtual_storage_constraints-clause-rows c =
+    let p = err_from_is_err_and c.from_residual-in_err-create_virtual_storage_constraints.result c.from_residual-in_err-create_virtual_storage_constraints.ensures.1 in
+    rw p.1 (let h = c.create_node_constraints.ensures.rows.done _ (ap (λ r. node_rows_then r c.create_node_constraints.new.lp) c.in_ok-node_rows.was) in
+    let g = (rw c.create_node_constraints.ensures.same.sentinel at c.create_aggregated_node_constraints.ensures.rows) (rows₁ c.args.lp.now.sentinel (network_of c.args.tables.now.file.now c.args.tables.now.counts)) h.held in
+    full_only _ _ _ _ (virtual_storages_full c.args.lp.now.sentinel (network_of c.args.tables.now.file.now c.args.tables.now.counts)
+    (((rw (c.create_aggregated_node_constraints.ensures.same.sentinel, c.create_node_constraints.ensures.same.sentinel) at c.create_virtual_storage_constraints.ensures.rows)
+    (rows₂ c.args.lp.now.sentinel (network_of c.args.tables.now.file.now c.args.tables.now.counts)) (g.held _ (ap (λ r. filled_then r c.create_aggregated_node_constraints.new.lp.filled) c.in_ok-create_aggregated_node_constraints.was))).full _ (ap (λ r. filled_then r c.create_virtual_storage_constraints.new.lp.filled) c.in_err-create_virtual_storage_constraints.was))) _)
 
-pub shape_of-words-in-Full-a : goal.shape_of-words-in-Full-a
-shape_of-words-in-Full-a c =
-    c.create_aggregated_node_constraints-a.auto.words
-    ∙ c.create_node_constraints-n.auto.words
-
-pub shape_of-numbers-in-Full-a : goal.shape_of-numbers-in-Full-a
-shape_of-numbers-in-Full-a c =
-    c.create_aggregated_node_constraints-a.auto.numbers
-    ∙ c.create_node_constraints-n.auto.numbers
-
-pub returns-in-Full-a : goal.returns-in-Full-a
-returns-in-Full-a c =
-    let h = c.create_node_constraints-n.ensures.done _ c.in-Done.is in
-    full_only _ _ _ _ (aggregates_full c.args.sentinel (network_of c.args.s.now c.args.c)
-    ((c.create_aggregated_node_constraints-a.ensures
-    (rows₁ c.args.sentinel (network_of c.args.s.now c.args.c)) h.held).full c.in-Full-a.is))
-
-pub shape_of-words-in-Full-v : goal.shape_of-words-in-Full-v
-shape_of-words-in-Full-v c =
-    c.create_virtual_storage_constraints-v.auto.words
-    ∙ c.create_aggregated_node_constraints-a.auto.words
-    ∙ c.create_node_constraints-n.auto.words
-
-pub shape_of-numbers-in-Full-v : goal.shape_of-numbers-in-Full-v
-shape_of-numbers-in-Full-v c =
-    c.create_virtual_storage_constraints-v.auto.numbers
-    ∙ c.create_aggregated_node_constraints-a.auto.numbers
-    ∙ c.create_node_constraints-n.auto.numbers
-
-pub returns-in-Full-v : goal.returns-in-Full-v
-returns-in-Full-v c =
-    let h = c.create_node_constraints-n.ensures.done _ c.in-Done.is in
-    let g = c.create_aggregated_node_constraints-a.ensures (rows₁ c.args.sentinel (network_of c.args.s.now c.args.c)) h.held in
-    full_only _ _ _ _ (virtual_storages_full c.args.sentinel (network_of c.args.s.now c.args.c)
-    ((c.create_virtual_storage_constraints-v.ensures
-    (rows₂ c.args.sentinel (network_of c.args.s.now c.args.c)) (g.held _ c.in-Done-a.is)).full c.in-Full-v.is))
-
-pub shape_of-words-in-Done-v : goal.shape_of-words-in-Done-v
-shape_of-words-in-Done-v c =
-    c.create_virtual_storage_constraints-v.auto.words
-    ∙ c.create_aggregated_node_constraints-a.auto.words
-    ∙ c.create_node_constraints-n.auto.words
-
-pub shape_of-numbers-in-Done-v : goal.shape_of-numbers-in-Done-v
-shape_of-numbers-in-Done-v c =
-    c.create_virtual_storage_constraints-v.auto.numbers
-    ∙ c.create_aggregated_node_constraints-a.auto.numbers
-    ∙ c.create_node_constraints-n.auto.numbers
-
-pub returns-in-Done-v : goal.returns-in-Done-v
-returns-in-Done-v c =
-    let c₀ = c.args.c in
-    let h = c.create_node_constraints-n.ensures.done _ c.in-Done.is in
-    let g = c.create_aggregated_node_constraints-a.ensures (rows₁ c.args.sentinel (network_of c.args.s.now c.args.c)) h.held in
-    let v = c.create_virtual_storage_constraints-v.ensures
-    (rows₂ c.args.sentinel (network_of c.args.s.now c.args.c)) (g.held _ c.in-Done-a.is) in
-    all_laid c.args.sentinel (network_of c.args.s.now c.args.c) c₀.aggregates c₀.virtual_storages
+pub returns-clause-rows : goal.returns-clause-rows
+returns-clause-rows c =
+    let c₀ = c.args.tables.now.counts in
+    let h = c.create_node_constraints.ensures.rows.done _ (ap (λ r. node_rows_then r c.create_node_constraints.new.lp) c.in_ok-node_rows.was) in
+    let g = (rw c.create_node_constraints.ensures.same.sentinel at c.create_aggregated_node_constraints.ensures.rows) (rows₁ c.args.lp.now.sentinel (network_of c.args.tables.now.file.now c.args.tables.now.counts)) h.held in
+    let v = (rw (c.create_aggregated_node_constraints.ensures.same.sentinel, c.create_node_constraints.ensures.same.sentinel) at c.create_virtual_storage_constraints.ensures.rows)
+    (rows₂ c.args.lp.now.sentinel (network_of c.args.tables.now.file.now c.args.tables.now.counts)) (g.held _ (ap (λ r. filled_then r c.create_aggregated_node_constraints.new.lp.filled) c.in_ok-create_aggregated_node_constraints.was)) in
+    all_laid c.args.lp.now.sentinel (network_of c.args.tables.now.file.now c.args.tables.now.counts) c₀.aggregates c₀.virtual_storages
     (sym (aggregate_count_lem _ c₀.nodes c₀.edges c₀.aggregates c₀.virtual_storages))
     (sym (virtual_storage_count_lem _ c₀.nodes c₀.edges c₀.aggregates c₀.virtual_storages)) _ _ _ _ _ _ _ _ _ _ _
-    (omega (arith, h.counted, asks_few _ _ _ _ _ _ _ _ _ c.requires.0 c.requires.1))
-    (omega (arith, c.create_node_constraints-n.auto.words, c.requires.3.words_room))
+    (omega (arith, h.counted, asks_few _ _ _ _ c.requires.0 c.requires.1))
+    (omega (arith, c.create_node_constraints.ensures.same.words_long, c.requires.3.words_room))
     (omega (
       arith,
-      c.create_node_constraints-n.auto.words,
-      c.create_aggregated_node_constraints-a.auto.words,
+      c.create_node_constraints.ensures.same.words_long,
+      c.create_aggregated_node_constraints.ensures.same.words_long,
       c.requires.3.words_room,
     )) (omega (
       arith,
-      c.create_node_constraints-n.auto.words,
-      c.create_aggregated_node_constraints-a.auto.words,
-      c.create_virtual_storage_constraints-v.auto.words,
+      c.create_node_constraints.ensures.same.words_long,
+      c.create_aggregated_node_constraints.ensures.same.words_long,
+      c.create_virtual_storage_constraints.ensures.same.words_long,
       c.requires.3.words_room,
-    )) c.requires.0.sections.few_aggregates_lem h g c.in-Done-a.is v c.in-Done-v.is
+    )) c.requires.0.sections.few_aggregates_lem h g (ap (λ r. filled_then r c.create_aggregated_node_constraints.new.lp.filled) c.in_ok-create_aggregated_node_constraints.was) v (ap (λ r. filled_then r c.create_virtual_storage_constraints.new.lp.filled) c.in_ok-create_virtual_storage_constraints.was)

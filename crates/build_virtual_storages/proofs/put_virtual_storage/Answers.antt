@@ -1,10 +1,11 @@
 -- `build_virtual_storages::put_virtual_storage` meets its contract.
+use mathlib.Core.Path.{◌∙◌}
 use Prim.Native.Nat.{◌+◌, ◌*◌}
 use native.Mathlib.Omega.{arith}
 use lib.ListN.{length-set}
 use Rattle.layout.specs.Layout.{virtual_storages_at}
 use Rattle.network_virtual_storage.specs.PeriodOf.{period_of}
-use Rattle.build_virtual_storages.proofs.VirtualStorageLaws.{entry_written}
+use Rattle.build_virtual_storages.proofs.VirtualStorageLaws.{entry_written, flag_is}
 use Rattle.build_virtual_storages.proofs.put_virtual_storage.Goals as goal
 
 pub bounds-shape-at-2 : goal.bounds-shape-at-2
@@ -28,5 +29,5 @@ shape_of-shape c = simp length-set
 pub returns : goal.returns
 returns c =
     let a = c.args in
-    entry_written a.shape.now (virtual_storages_at + 6 * a.i) _ _ _ _ _ _ (period_of a.period) c.period_word.ensures c.byte_to_u16.ensures.0
-    c.byte_to_u16-2.ensures.0 c.byte_to_u16-3.ensures.0 c.byte_to_u16-4.ensures.0
+    entry_written a.shape.now (virtual_storages_at + 6 * a.i) _ _ _ _ _ _ (period_of a.period) (c.from.ensures ∙ flag_is _) c.from-2.ensures
+    c.from-3.ensures c.from-4.ensures c.from-5.ensures

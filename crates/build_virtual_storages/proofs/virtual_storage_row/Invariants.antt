@@ -1,13 +1,9 @@
 -- `build_virtual_storages::virtual_storage_row` meets its contract. The invariant: the parts left, added to the row so far, make the virtual storage's row.
 use mathlib.Core.Path.{◌≡◌}
-use Prim.Native.Nat.{◌-◌}
 use lib.ListN.{length}
 use Rattle.build_virtual_storages.proofs.VirtualStorageLaws.{AddingParts}
 use Rattle.build_virtual_storages.proofs.virtual_storage_row.Given as goal
 
 abbrev pub invariant-loop-k : goal.invariant-loop-k
 invariant-loop-k l =
-    AddingParts l.s l.c l.at l.k l.columns l.elements l.n × (length l.elements ≡ length l.initial.elements)
-
-abbrev pub decreases-loop-k : goal.decreases-loop-k
-decreases-loop-k l = l.parts - l.k
+    AddingParts l.fn.tables.file.now l.fn.tables.counts l.fn.at l.k l.columns l.elements l.n × (length l.elements ≡ length l.initial.elements)

@@ -5,7 +5,7 @@ use Rattle.build_write.proofs.write_columns.Goals as goal
 pub returns : goal.returns
 returns c =
     record {
-      lowers = lowers_are c.args.sentinel c.args.z _ _ c.fill_f64.ensures;
-      uppers = uppers_are c.args.sentinel c.args.z _ _ _ _ c.high.ensures c.fill_f64-2.ensures c.fill_f64-3.ensures;
-      costs = costs_are c.args.sentinel c.args.z _ _ c.fill_f64-4.ensures;
+      lowers = lowers_are c.args.sentinel c.args.z _ _ c.fill.ensures;
+      uppers = uppers_are c.args.sentinel c.args.z _ _ _ _ c.high.ensures c.fill-2.ensures c.fill-3.ensures;
+      costs = costs_are c.args.sentinel c.args.z _ _ c.fill-4.ensures;
     }

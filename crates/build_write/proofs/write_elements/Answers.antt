@@ -1,50 +1,37 @@
 -- `build_write::write_elements` meets its contract. The loop's invariant: the first r rows are written.
-use Prim.Native.Nat.{◌-◌}
 use native.Mathlib.Omega.{arith}
-use Rattle.build_write.proofs.RowByRow.{none, more, all, row_fits}
+use Rattle.build_write.proofs.RowByRow.{more, row_fits}
 use borrow.Author.Rules.{rules}
 use Rattle.build_write.proofs.write_elements.Goals as goal
-
-pub loop-r-init : goal.loop-r-init
-loop-r-init c = none c.args.z _ c.requires.1 _ _
-
-pub slice_bounds-row-count : goal.slice_bounds-row-count
-slice_bounds-row-count c =
-    let p = c.requires in
-    (row_fits c.args.z _ p.1 _ _ _ c.loop-r.r _ _ p.0 p.2.numbers_room p.3 c.loop-r-test.true
-    c.wide16-start.ensures.0 c.wide16-end.ensures.0 c.loop-r.invariant).rises
 
 pub slice_bounds-row-end : goal.slice_bounds-row-end
 slice_bounds-row-end c =
     let p = c.requires in
     (row_fits c.args.z _ p.1 _ _ _ c.loop-r.r _ _ p.0 p.2.numbers_room p.3 c.loop-r-test.true
-    c.wide16-start.ensures.0 c.wide16-end.ensures.0 c.loop-r.invariant).held
+    c.from-start.ensures c.from-end.ensures c.loop-r.invariant).held
 
 pub slice_bounds-write_row-count : goal.slice_bounds-write_row-count
 slice_bounds-write_row-count c =
     let p = c.requires in
     let fits = row_fits c.args.z _ p.1 _ _ _ c.loop-r.r _ _ p.0 p.2.numbers_room p.3 c.loop-r-test.true
-    c.wide16-start.ensures.0 c.wide16-end.ensures.0 c.loop-r.invariant in
+    c.from-start.ensures c.from-end.ensures c.loop-r.invariant in
     omega (arith, fits.within)
 
 pub write_row-requires : goal.write_row-requires
 write_row-requires c =
     let p = c.requires in
     (row_fits c.args.z _ p.1 _ _ _ c.loop-r.r _ _ p.0 p.2.numbers_room p.3 c.loop-r-test.true
-    c.wide16-start.ensures.0 c.wide16-end.ensures.0 c.loop-r.invariant).room _ (omega arith)
+    c.from-start.ensures c.from-end.ensures c.loop-r.invariant).room _ (omega arith)
 
 pub loop-r-preserved : goal.loop-r-preserved
 loop-r-preserved c =
     let p = c.requires in
     more c.args.z _ p.1 _ _ _ _ c.loop-r.r _ _ p.0 p.2.numbers_room p.3 c.loop-r-test.true
-    c.wide16-start.ensures.0 c.wide16-end.ensures.0 c.write_row.ensures c.write_row.auto.elements c.loop-r.invariant
-
-pub returns : goal.returns
-returns c = all c.args.z _ c.requires.1 _ _ _ _ c.loop-r-test.false c.loop-r.invariant
+    c.from-start.ensures c.from-end.ensures c.write_row.ensures c.write_row.auto.elements c.loop-r.invariant
 
 pub slice_bounds-write_row-start : goal.slice_bounds-write_row-start
 slice_bounds-write_row-start c =
     let p = c.requires in
     let fits = row_fits c.args.z _ p.1 _ _ _ c.loop-r.r _ _ p.0 p.2.numbers_room p.3 c.loop-r-test.true
-    c.wide16-start.ensures.0 c.wide16-end.ensures.0 c.loop-r.invariant in
+    c.from-start.ensures c.from-end.ensures c.loop-r.invariant in
     search (rules, fits.within)

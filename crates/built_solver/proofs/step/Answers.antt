@@ -7,8 +7,10 @@ use Rattle.pywr.specs.Calls.{step_room}
 use Rattle.store.proofs.Passed.{lengths, shaped}
 use Rattle.step_rows.specs.ConstraintBounds as rows
 use Rattle.step_checks.proofs.JudgeLaws.{room_store, room_work}
-use Rattle.built_solver.proofs.FinishLaws.{store_of, edges_fit, order_fits, short, refuse, finish}
-use Rattle.built_solver.proofs.step.Goals.{Else-not-has_room}
+use Rattle.built_solver.proofs.FinishLaws.{store_of, edges_fit, order_fits, short, was_ok, refuse, finish}
+use Rattle.runs.proofs.Copied.{zeros}
+use Rattle.built_solver.proofs.step.Goals.{Else-not-has_room, then-is_ok, else-is_ok}
+use borrow.Author.Rules.{rules}
 use Rattle.built_solver.proofs.step.Goals as goal
 
 -- the store that was lent, and the place where it was
@@ -25,19 +27,20 @@ enough-room c =
 pub returns-then-not-has_room : goal.returns-then-not-has_room
 returns-then-not-has_room c =
     let call = c.has_room in
-    short c.args.file.now _ c.args.work.now (sym (call.ensures _ c.args.work.now (lengths _) refl) ∙ c.if-not-has_room.true)
+    rw c.at.ensures (short c.args.file.now _ c.args.work.now (sym (call.ensures _ c.args.work.now (lengths _) refl) ∙ c.if-not-has_room.true))
 
-pub judge-answer-requires : goal.judge-answer-requires
-judge-answer-requires c =
-    let ok = enough-room (goal.at.judge-answer-requires c).Else-not-has_room in
-    let h = room_store (lent (goal.at.judge-answer-requires c).Else-not-has_room) c.args.work.now ok in (h.columns, h.row_starts, h.shape, room_work (lent (goal.at.judge-answer-requires c).Else-not-has_room) c.args.work.now ok)
+pub judge-judged-requires : goal.judge-judged-requires
+judge-judged-requires c =
+    let ok = enough-room (goal.at.judge-judged-requires c).Else-not-has_room in
+    let h = room_store (lent (goal.at.judge-judged-requires c).Else-not-has_room) c.args.work.now ok in (h.columns, h.row_starts, h.shape, room_work (lent (goal.at.judge-judged-requires c).Else-not-has_room) c.args.work.now ok)
 
 pub update-requires : goal.update-requires
 update-requires c =
     let a = c.args in
     let ok = enough-room (goal.at.update-requires c).Else-not-has_room in
     let h = room_store (lent (goal.at.update-requires c).Else-not-has_room) a.work.now ok in
-    let ready = (c.judge-answer.ensures (lent (goal.at.update-requires c).Else-not-has_room) refl refl refl).ready c.in-Accepted.is in
+    let yes = was_ok _ (sym c.is_ok.ensures.value ∙ c.if-is_ok.true) in
+    let ready = (c.judge-judged.ensures (lent (goal.at.update-requires c).Else-not-has_room) refl refl refl).ready yes in
     let n = shaped (lent (goal.at.update-requires c).Else-not-has_room) ready.shaped in
     let r = rows.store_of a.row_lower.now a.row_upper.now a.elements.now a.columns.now a.row_starts.now a.shape.now in (
       (
@@ -58,23 +61,29 @@ update-requires c =
         columns_long = h.columns;
         row_starts_long = h.row_starts;
         shape_long = h.shape;
-        work_long = omega (arith, c.judge-answer.auto.work, room_work (lent (goal.at.update-requires c).Else-not-has_room) a.work.now ok);
-        well_shaped_lem = ((c.judge-answer.ensures r refl refl refl).ready c.in-Accepted.is).shaped;
+        work_long = omega (arith, c.judge-judged.auto.work, room_work (lent (goal.at.update-requires c).Else-not-has_room) a.work.now ok);
+        well_shaped_lem = ((c.judge-judged.ensures r refl refl refl).ready yes).shaped;
       },
     )
 
-pub returns-in-Refused : goal.returns-in-Refused
-returns-in-Refused c =
-    rw c.refuse.ensures.0
-    (refuse c.args.file.now (lent (goal.at.returns-in-Refused c).Else-not-has_room) c.args.work.now (enough-room (goal.at.returns-in-Refused c).Else-not-has_room) c.judge-answer.result _
-    (c.judge-answer.ensures (lent (goal.at.returns-in-Refused c).Else-not-has_room) refl refl refl) _ c.refuse.ensures.1 c.judge-answer.auto.work c.in-Refused.is)
-
-pub returns-in-Accepted : goal.returns-in-Accepted
-returns-in-Accepted c =
-    let call = c.update in
-    let j = c.judge-answer.ensures (lent (goal.at.returns-in-Accepted c).Else-not-has_room) refl refl refl in
-    let yes = c.in-Accepted.is in
-    finish c.args.file.now (lent (goal.at.returns-in-Accepted c).Else-not-has_room) c.args.work.now (enough-room (goal.at.returns-in-Accepted c).Else-not-has_room) c.judge-answer.result _ j _
-    c.zero_f64.ensures c.judge-answer.auto.work yes
-    (call.ensures.0 (lent (goal.at.returns-in-Accepted c).Else-not-has_room) _ _ refl)
-    (call.ensures.1 (lent (goal.at.returns-in-Accepted c).Else-not-has_room) _ (record { row_lower_lem = refl; row_upper_lem = refl; elements_are = refl; columns_are = refl; row_starts_lem = refl; shape_is = refl }) (j.ready yes).held)
+pub returns : goal.returns
+returns c =
+    let a = c.args in
+    let before = (goal.at.returns c).Else-not-has_room in
+    let j = c.judge-judged.ensures (lent before) refl refl refl in
+    let zeroed = c.fill_whole.ensures ∙ zeros _ in
+    elim c.if-is_ok.branch [
+      | then-is_ok w ↦
+          (let yes = sym c.is_ok.ensures.value ∙ w.if-is_ok.true in
+          let lower : c.if-is_ok.row_lower ≡ w.update.new.store.row_lower.now = search rules in
+          let upper : c.if-is_ok.row_upper ≡ w.update.new.store.row_upper.now = search rules in
+          let factors : c.if-is_ok.elements ≡ w.update.new.store.elements.now = search rules in
+          rw (w.col_obj_coef-is, lower, upper, factors)
+          (finish a.file.now (lent before) a.work.now (enough-room before) c.judge-judged.result _ j _ zeroed c.judge-judged.auto.work yes
+          (w.update.ensures.written.0 (lent before) _ _ refl)
+          (w.update.ensures.written.1 (lent before) _ (record { row_lower_lem = refl; row_upper_lem = refl; elements_are = refl; columns_are = refl; row_starts_lem = refl; shape_is = refl })
+          (j.ready (was_ok _ yes)).held)))
+      | else-is_ok w ↦ rw (w.col_obj_coef-is, w.row_lower-is, w.row_upper-is, w.elements-is)
+          (refuse a.file.now (lent before) a.work.now (enough-room before) c.judge-judged.result _ j _ zeroed c.judge-judged.auto.work
+          (sym c.is_ok.ensures.value ∙ w.if-is_ok.false))
+    ]

@@ -1,9 +1,7 @@
 -- `listing_fields::bits` meets its contract.
-use Rattle.listing_fields.proofs.FieldLaws.{a_number, no_number}
+use Rattle.std.proofs.Common.{sym, ◌∙◌}
+use Rattle.listing_fields.proofs.FieldLaws.{nan_pattern}
 use Rattle.listing_fields.proofs.bits.Goals as goal
 
-pub float_to_bits-result : goal.float_to_bits-result
-float_to_bits-result c = a_number _ c.if-x.true
-
-pub returns : goal.returns
-returns c = no_number _ c.if-x.false
+pub returns-then-is_nan : goal.returns-then-is_nan
+returns-then-is_nan c = nan_pattern _ (sym c.if-is_nan.true ∙ c.is_nan.ensures.value)

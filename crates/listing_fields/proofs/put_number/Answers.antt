@@ -7,5 +7,5 @@ use Rattle.listing_fields.proofs.put_number.Goals as goal
 pub returns : goal.returns
 unfolding number_field
 returns c =
-    let d = put_decimal (rw c.usize_to_u64.ensures at c.put_decimal.ensures) in
+    let d = put_decimal c.put_decimal.ensures in
     record { put = put_then c.put-a.ensures d.put; end = omega (arith, c.put-a.ensures.next, d.end) }

@@ -6,17 +6,10 @@ use Rattle.listing_rows.proofs.ElementLaws.{text_from}
 use Rattle.listing_rows.proofs.list_elements.Given as goal
 
 abbrev pub invariant-loop-i : goal.invariant-loop-i
-invariant-loop-i g l =
-    (l.at ≤ length l.out)
-    × (length l.out ≡ length l.initial.out)
-    × (l.first ≤ l.i)
-    × (l.i ≤ l.end)
-    × (l.bytes ≤ line_room * (l.i - l.first))
-    × (IsErr l.fn.so_far → l.written ≡ l.fn.so_far)
-    × (
-    (before : List ℕ) × (l.bytes ≡ length before) × (before ++ text_from l.columns l.elements l.i l.end ≡ text_from l.columns l.elements l.first l.end)
-    × OnOk l.written (Gathers (g.W.Write.contents l.initial.writer) (take l.from l.initial.out) (g.W.Write.contents l.writer) (take l.at l.out) before)
-    )
-
-abbrev pub decreases-loop-i : goal.decreases-loop-i
-decreases-loop-i g l = l.end - l.i
+invariant-loop-i g l = record {
+  within : l.room.at ≤ length l.out;
+  most : l.bytes ≤ line_room * (l.i - l.first);
+  failed : IsErr l.fn.from.written → l.room.written ≡ l.fn.from.written;
+  text : (before : List ℕ) × (l.bytes ≡ length before) × (before ++ text_from l.store.columns.now l.store.elements.now l.i l.end ≡ text_from l.store.columns.now l.store.elements.now l.first l.end)
+      × OnOk l.room.written (Gathers (g.W.Write.contents l.initial.writer) (take l.fn.from.at l.initial.out) (g.W.Write.contents l.writer) (take l.room.at l.out) before);
+}

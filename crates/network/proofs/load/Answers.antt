@@ -1,20 +1,22 @@
 -- `network::load` meets its contract: what the records and the checks answered.
+use Rattle.std.proofs.lemmas.Result.{err_from_is_err_and}
 use Rattle.pywr.specs.Result.{◌>>=◌}
 use Rattle.pywr.specs.NetworkFile.{parse_network}
 use Rattle.network.proofs.load.Goals as goal
 
-pub check_network-f-requires : goal.check_network-f-requires
-check_network-f-requires c = rw c.in-Accepted.is at c.scan-r.ensures.1
-
-pub returns-in-Refused : goal.returns-in-Refused
+pub returns-in_err-c : goal.returns-in_err-c
 unfolding parse_network ◌>>=◌
-returns-in-Refused c = (rw (c.scan-r.ensures.0, c.in-Refused.is), tt)
+returns-in_err-c c =
+    let e = err_from_is_err_and c.from_residual.result c.from_residual.ensures.1 in
+    (rw (c.scan.ensures.0, c.in_err-c.was, e.1, e.2), rw (e.1) tt)
 
-pub returns-in-At : goal.returns-in-At
+pub returns-in_err-check_network : goal.returns-in_err-check_network
 unfolding parse_network ◌>>=◌
-returns-in-At c = (rw (c.scan-r.ensures.0, c.in-Accepted.is, c.check_network-f.ensures, c.in-At.is), tt)
+returns-in_err-check_network c =
+    let e = err_from_is_err_and c.from_residual-in_err-check_network.result c.from_residual-in_err-check_network.ensures.1 in
+    (rw (c.scan.ensures.0, c.in_ok-c.was, c.check_network.ensures, c.in_err-check_network.was, e.1, e.2), rw (e.1) tt)
 
-pub returns-in-Nothing : goal.returns-in-Nothing
+pub returns : goal.returns
 unfolding parse_network ◌>>=◌
-returns-in-Nothing c =
-    (rw (c.scan-r.ensures.0, c.in-Accepted.is, c.check_network-f.ensures, c.in-Nothing.is), (rw c.in-Accepted.is at c.scan-r.ensures.1))
+returns c =
+    (rw (c.scan.ensures.0, c.in_ok-c.was, c.check_network.ensures, c.in_ok-check_network.was), (rw c.in_ok-c.was at c.scan.ensures.1))

@@ -4,7 +4,7 @@ use Rattle.network.proofs.ScanLoop.{ScanInvariant}
 use Rattle.network.proofs.scan.Given as goal
 
 abbrev pub invariant-loop-at : goal.invariant-loop-at
-invariant-loop-at l = ScanInvariant l.s l.at l.stage l.n l.e l.a l.v l.virtual_storages_at
+invariant-loop-at l = ScanInvariant l.s l.at l.stage l.c
 
 abbrev pub decreases-loop-at : goal.decreases-loop-at
-decreases-loop-at l = 864 - (l.n + l.e + l.a + l.v)
+decreases-loop-at l = 864 - (l.c.nodes + l.c.edges + l.c.aggregates + l.c.virtual_storages)

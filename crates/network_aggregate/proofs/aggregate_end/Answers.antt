@@ -1,5 +1,4 @@
 -- `network_aggregate::aggregate_end` meets its contract. The invariant: the record ends where the sets from `here` on do.
-use native.Mathlib.Nat.{sub-zero}
 use native.Mathlib.Omega.{arith}
 use mathlib.Core.Path.{◌≡◌, sym, ◌∙◌, ap}
 use Prim.Native.Nat.{ℕ, ◌+◌, ◌-◌, ◌<◌, ◌≤◌}
@@ -25,20 +24,17 @@ set_count-count-requires c = fields-inside c.args.s.now c.args.at c.requires
 pub overflow_add-here : goal.overflow_add-here
 overflow_add-here c = omega (arith, fields-inside c.args.s.now c.args.at c.requires)
 
-pub loop-i-init : goal.loop-i-init
-loop-i-init c = rw (sub-zero, c.set_count-count.ensures.0)
-
 pub set_end-here-requires : goal.set_end-here-requires
 set_end-here-requires c =
     omega (
       arith,
-      set-inside c.args.s.now c.args.at c.set_count-count.result c.loop-i.i c.loop-i.here c.requires
-          c.loop-i.invariant c.loop-i-test.true,
+      set-inside c.args.s.now c.args.at c.set_count-count.result c.loop.counter c.loop.here c.requires
+          c.loop.invariant c.loop-test.true,
     )
 
-pub loop-i-preserved : goal.loop-i-preserved
-loop-i-preserved c =
-    c.loop-i.invariant ∙ end_left _ _ _ _ c.loop-i-test.true ∙ ap (records_end (set_end c.args.s.now) _) (sym c.set_end-here.ensures)
+pub loop-preserved : goal.loop-preserved
+loop-preserved c =
+    c.loop.invariant ∙ end_left _ _ _ _ c.loop-test.true ∙ ap (records_end (set_end c.args.s.now) _) (sym c.set_end-here.ensures)
 
 pub returns : goal.returns
-returns c = sym (c.loop-i.invariant ∙ end_over _ _ _ _ c.loop-i-test.false)
+returns c = sym (c.loop.invariant ∙ end_over _ _ _ _ c.loop-test.false)

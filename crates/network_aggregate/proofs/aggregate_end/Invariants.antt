@@ -5,8 +5,5 @@ use Rattle.fields.specs.Records.{records_end}
 use Rattle.network_aggregate.specs.AggregatedNode.{set_end, aggregate_end}
 use Rattle.network_aggregate.proofs.aggregate_end.Given as goal
 
-abbrev pub invariant-loop-i : goal.invariant-loop-i
-invariant-loop-i l = aggregate_end l.s l.at ≡ records_end (set_end l.s) (l.count - l.i) l.here
-
-abbrev pub decreases-loop-i : goal.decreases-loop-i
-decreases-loop-i l = l.count - l.i
+abbrev pub invariant-loop : goal.invariant-loop
+invariant-loop l = aggregate_end l.s l.at ≡ records_end (set_end l.s) (l.count - l.counter) l.here

@@ -6,9 +6,6 @@ use Rattle.fields.specs.Records.{check_each}
 use Rattle.network_aggregate.specs.AggregatedNode.{check_member}
 use Rattle.network_aggregate.proofs.check_members.Given as goal
 
-abbrev pub invariant-loop-i : goal.invariant-loop-i
-invariant-loop-i l =
-    (l.here ≤ length l.s) × (check_each (check_member l.s l.place l.nodes) l.count l.at ≡ check_each (check_member l.s l.place l.nodes) (l.count - l.i) l.here)
-
-abbrev pub decreases-loop-i : goal.decreases-loop-i
-decreases-loop-i l = l.count - l.i
+abbrev pub invariant-loop : goal.invariant-loop
+invariant-loop l =
+    (l.here ≤ length l.s) × (check_each (check_member l.s l.place l.nodes) l.count l.at ≡ check_each (check_member l.s l.place l.nodes) (l.count - l.counter) l.here)

@@ -10,9 +10,6 @@ use Rattle.network_laws.proofs.Passed.{aggregate_more}
 use Rattle.network_checks.proofs.MarkLaws.{exclusive_marked}
 use Rattle.network_checks.proofs.check_constants.Goals as goal
 
-pub edges_end-requires : goal.edges_end-requires
-edges_end-requires c = omega (arith, c.requires.few_nodes, c.requires.few_edges)
-
 pub mark_exclusive-requires : goal.mark_exclusive-requires
 mark_exclusive-requires c =
     rw c.edges_end.ensures (fixed_within _ _ _ _ _ _ c.requires, λ k lt. aggregate_more _ _ _ _ c.requires.few_nodes (aggregate_accepted _ _ _ _ _ _ c.requires k lt))

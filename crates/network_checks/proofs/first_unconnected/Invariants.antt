@@ -11,9 +11,6 @@ use Rattle.network_checks.proofs.first_unconnected.Given as goal
 
 abbrev pub invariant-loop-i : goal.invariant-loop-i
 invariant-loop-i l =
-    (l.i ≤ l.c.nodes)
-    × (first_refused (unconnected_link (network_of l.s l.c)) 0 (node_records l.s l.c.nodes)
-    ≡ first_refused (unconnected_link (network_of l.s l.c)) l.i (records_at (node_at l.s) (λ at. at + 20) (l.c.nodes - l.i) (20 * l.i)))
-
-abbrev pub decreases-loop-i : goal.decreases-loop-i
-decreases-loop-i l = l.c.nodes - l.i
+    (l.i ≤ l.fn.c.nodes)
+    × (first_refused (unconnected_link (network_of l.s l.fn.c)) 0 (node_records l.s l.fn.c.nodes)
+    ≡ first_refused (unconnected_link (network_of l.s l.fn.c)) l.i (records_at (node_at l.s) (λ at. at + 20) (l.fn.c.nodes - l.i) (20 * l.i)))

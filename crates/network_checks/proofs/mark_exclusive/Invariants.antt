@@ -6,11 +6,8 @@ use Rattle.network_aggregate.specs.AggregatedNode.{aggregate_at, aggregate_end}
 use Rattle.network_checks.specs.Marks.{mark_exclusive}
 use Rattle.network_checks.proofs.mark_exclusive.Given as goal
 
-abbrev pub invariant-loop-k : goal.invariant-loop-k
-invariant-loop-k l =
-    (l.k ≤ l.a)
-    × (l.at ≡ records_end (aggregate_end l.s) l.k l.start)
-    × (mark_exclusive (records_at (aggregate_at l.s) (aggregate_end l.s) l.a l.start) l.initial.marks ≡ mark_exclusive (records_at (aggregate_at l.s) (aggregate_end l.s) (l.a - l.k) l.at) l.marks)
-
-abbrev pub decreases-loop-k : goal.decreases-loop-k
-decreases-loop-k l = l.a - l.k
+abbrev pub invariant-loop : goal.invariant-loop
+invariant-loop l =
+    (l.counter ≤ l.a)
+    × (l.at ≡ records_end (aggregate_end l.s) l.counter l.start)
+    × (mark_exclusive (records_at (aggregate_at l.s) (aggregate_end l.s) l.a l.start) l.initial.marks ≡ mark_exclusive (records_at (aggregate_at l.s) (aggregate_end l.s) (l.a - l.counter) l.at) l.marks)

@@ -10,6 +10,3 @@ use Rattle.network_checks.proofs.mark_set.Given as goal
 abbrev pub invariant-loop-k : goal.invariant-loop-k
 invariant-loop-k l =
     (l.k ≤ l.size) × (mark_all (aggregate_set_at l.s l.at) l.initial.marks ≡ mark_all (records_at (le16 l.s) (λ at. at + 2) (l.size - l.k) (l.at + 1 + 2 * l.k)) l.marks)
-
-abbrev pub decreases-loop-k : goal.decreases-loop-k
-decreases-loop-k l = l.size - l.k

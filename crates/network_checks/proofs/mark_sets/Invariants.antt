@@ -6,11 +6,8 @@ use Rattle.network_aggregate.specs.AggregatedNode.{aggregate_set_at, set_end, ag
 use Rattle.network_checks.specs.Marks.{mark_sets}
 use Rattle.network_checks.proofs.mark_sets.Given as goal
 
-abbrev pub invariant-loop-i : goal.invariant-loop-i
-invariant-loop-i l =
-    (l.i ≤ l.count)
-    × (l.here ≡ records_end (set_end l.s) l.i (l.at + 12))
-    × (mark_sets (aggregate_at l.s l.at).sets l.initial.marks ≡ mark_sets (records_at (aggregate_set_at l.s) (set_end l.s) (l.count - l.i) l.here) l.marks)
-
-abbrev pub decreases-loop-i : goal.decreases-loop-i
-decreases-loop-i l = l.count - l.i
+abbrev pub invariant-loop : goal.invariant-loop
+invariant-loop l =
+    (l.counter ≤ l.count)
+    × (l.here ≡ records_end (set_end l.s) l.counter (l.at + 12))
+    × (mark_sets (aggregate_at l.s l.at).sets l.initial.marks ≡ mark_sets (records_at (aggregate_set_at l.s) (set_end l.s) (l.count - l.counter) l.here) l.marks)

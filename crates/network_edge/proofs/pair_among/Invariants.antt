@@ -1,12 +1,7 @@
--- `network_edge::pair_among` meets its contract. The invariant: the answer is that of the edges from `at` on.
-use mathlib.Core.Path.{◌≡◌}
-use Prim.Native.Nat.{◌+◌, ◌*◌, ◌-◌, ◌≤◌}
-use Rattle.network_edge.specs.Edge.{pair_among}
+-- `network_edge::pair_among` meets its contract. The invariant: none of the edges so far has these ends.
+use Rattle.std.proofs.Common.{◌≡◌, ℕ, ◌+◌, ◌*◌, ◌<◌}
+use Rattle.pywr.specs.Bytes.{le32}
 use Rattle.network_edge.proofs.pair_among.Given as goal
 
 abbrev pub invariant-loop-i : goal.invariant-loop-i
-invariant-loop-i l =
-    (l.i ≤ l.count) × (l.at ≡ l.start + 6 * l.i) × (pair_among l.s l.count l.start l.f l.t ≡ pair_among l.s (l.count - l.i) l.at l.f l.t)
-
-abbrev pub decreases-loop-i : goal.decreases-loop-i
-decreases-loop-i l = l.count - l.i
+invariant-loop-i l = (k : ℕ) → k < l.i → le32 l.s (l.start + 6 * k + 2) ≡ l.pair → ⊥

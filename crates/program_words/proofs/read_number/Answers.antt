@@ -1,29 +1,27 @@
--- `program_words::read_number` meets its contract. The loop's invariant: the word is the number whose first i digits have the value so far.
-use mathlib.Core.Path.{refl}
-use Rattle.program_words.proofs.WordLaws.{empty, begins, ends, under_digits, over_digits, too_large, goes_on}
-use borrow.Author.Rules.{rules}
+-- `program_words::read_number` meets its contract.
+use Rattle.std.proofs.Common.{rules, sym, arith, ◌∙◌}
+use Rattle.std.proofs.lemmas.Grind.{common_steps}
+use Rattle.program_words.proofs.WordLaws.{empty, begins, ends, no_digit, too_large, goes_on}
 use Rattle.program_words.proofs.read_number.Goals as goal
+use Rattle.program_words.proofs.read_number.Goals.{then-not-is_ascii_digit-via-then-not-is_ascii_digit, then-not-is_ascii_digit-via-else-not-is_ascii_digit+then-value-gt99999}
 
-pub returns-then-word-eq0 : goal.returns-then-word-eq0
-returns-then-word-eq0 c = empty _ c.if-word-eq0.true
+pub loop-b-init : goal.loop-b-init
+loop-b-init c = (search rules, begins _ (grind (arith, common_steps)))
 
-pub loop-i-init : goal.loop-i-init
-loop-i-init c = (search rules, search rules, begins _ c.if-word-eq0.false)
-
-pub returns-then-b-lt48 : goal.returns-then-b-lt48
-returns-then-b-lt48 c = under_digits _ _ _ _ c.loop-i-test.true refl c.loop-i.invariant.2 c.if-b-lt48.true
-
-pub returns-then-b-gt57 : goal.returns-then-b-gt57
-returns-then-b-gt57 c = over_digits _ _ _ _ c.loop-i-test.true refl c.loop-i.invariant.2 c.if-b-lt48.false c.if-b-gt57.true
-
-pub returns-then-value-gt99999 : goal.returns-then-value-gt99999
-returns-then-value-gt99999 c =
-    too_large _ _ _ _ c.loop-i-test.true refl c.loop-i.invariant.2 c.if-b-lt48.false c.if-b-gt57.false c.if-value-gt99999.true
-
-pub loop-i-preserved : goal.loop-i-preserved
-loop-i-preserved c =
-    let goes = goes_on _ _ _ _ c.loop-i-test.true refl c.loop-i.invariant.2 c.if-b-lt48.false c.if-b-gt57.false c.if-value-gt99999.false in
-    (search rules, search rules, rw c.wide8.ensures.0 goes)
+pub returns-then-is_empty : goal.returns-then-is_empty
+returns-then-is_empty c = empty _ (grind (arith, common_steps))
 
 pub returns : goal.returns
-returns c = ends _ _ _ c.loop-i-test.false c.loop-i.invariant.2
+returns c = ends _ _ _ c.loop-b-test.false c.loop-b.invariant.1
+
+pub returns-then-not-is_ascii_digit : goal.returns-then-not-is_ascii_digit
+returns-then-not-is_ascii_digit c =
+    elim c.then-not-is_ascii_digit.branch [
+      | then-not-is_ascii_digit-via-then-not-is_ascii_digit w ↦ no_digit _ _ _ c.loop-b-test.true c.loop-b.invariant.1 (sym c.is_ascii_digit.ensures.value ∙ w.if-not-is_ascii_digit.true)
+      | then-not-is_ascii_digit-via-else-not-is_ascii_digit+then-value-gt99999 w ↦ too_large _ _ _ c.loop-b-test.true c.loop-b.invariant.1 w.if-value-gt99999.true
+    ]
+
+pub loop-b-preserved : goal.loop-b-preserved
+loop-b-preserved c =
+    let goes = goes_on _ _ _ c.loop-b-test.true c.loop-b.invariant.1 (sym c.is_ascii_digit.ensures.value ∙ c.if-not-is_ascii_digit.false) c.if-value-gt99999.false in
+    (grind (arith, common_steps), rw c.from.ensures goes)

@@ -2,9 +2,6 @@
 use Rattle.pywr_c_answers.proofs.CrossingLaws.{inside_rises, row_crossed}
 use Rattle.pywr_c.proofs.pywr_row.Goals as goal
 
-pub row_answer-answer-requires : goal.row_answer-answer-requires
-row_answer-answer-requires c = tt
-
 pub part_of-requires : goal.part_of-requires
 part_of-requires c = let answered = c.row_answer-answer in inside_rises answered.result _ answered.ensures.inside
 

@@ -20,10 +20,10 @@ pub loop-i-preserved : goal.loop-i-preserved
 unfolding aggregate_numbered aggregate_step_at
 loop-i-preserved c =
     writing_more _ (record { lower = c.aggregate_lower-lower.result; upper = c.aggregate_upper-upper.result }) refl (search rules) (search rules) c.loop-i-test.true
-    (rw (c.aggregate_lower-lower.ensures, c.aggregate_upper-upper.ensures, c.wide16-nodes.ensures.0)) c.loop-i.invariant
+    (rw (c.aggregate_lower-lower.ensures, c.aggregate_upper-upper.ensures, c.from-nodes.ensures)) c.loop-i.invariant
 
 pub shape_of-work : goal.shape_of-work
 shape_of-work c = c.loop-i.invariant.long
 
 pub returns : goal.returns
-returns c = rw (← c.wide16-aggregates.ensures.0) (writing_all c.loop-i-test.false c.loop-i.invariant)
+returns c = rw (← c.from-aggregates.ensures) (writing_all c.loop-i-test.false c.loop-i.invariant)

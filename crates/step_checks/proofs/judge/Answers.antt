@@ -1,6 +1,7 @@
 -- `step_checks::judge` meets its contract.
 use mathlib.Core.Path.{◌≡◌, refl, sym, ◌∙◌}
 use mathlib.Core.Bool.{true}
+use Rattle.std.proofs.lemmas.Result.{err_from_is_err_and}
 use Rattle.pywr.specs.Store.{Store}
 use Rattle.pywr.specs.Misshapen.{well_shaped}
 use Rattle.step_intervals.specs.Found.{intervals_in}
@@ -22,7 +23,7 @@ is-shaped c = sym (c.well_shaped.ensures (lent c) refl refl refl) ∙ c.if-not-w
 
 pub returns-then-not-well_shaped : goal.returns-then-not-well_shaped
 returns-then-not-well_shaped c =
-    λ s ec es eh. judged_shape s c.args.file.now _ (sym (c.well_shaped.ensures s ec es eh) ∙ c.if-not-well_shaped.true)
+    λ s ec es eh. rw c.at.ensures (judged_shape s c.args.file.now _ (sym (c.well_shaped.ensures s ec es eh) ∙ c.if-not-well_shaped.true))
 
 pub walk_file-requires : goal.walk_file-requires
 walk_file-requires c =
@@ -38,9 +39,9 @@ returns-then-walk_file c =
     judged_intervals s c.args.file.now _ (sym (c.well_shaped.ensures s ec es eh) ∙ c.if-not-well_shaped.false)
     (sym walked.read) _ walked.found.answer walked.found.held
 
-pub read_step-read-requires : goal.read_step-read-requires
-read_step-read-requires c =
-    let n = (shaped (lent (goal.at.read_step-read-requires c).Else-not-well_shaped) (is-shaped (goal.at.read_step-read-requires c).Else-not-well_shaped)).counts in
+pub read_step-requires : goal.read_step-requires
+read_step-requires c =
+    let n = (shaped (lent (goal.at.read_step-requires c).Else-not-well_shaped) (is-shaped (goal.at.read_step-requires c).Else-not-well_shaped)).counts in
     (c.requires.2, n.nodes, n.aggregates, n.virtual_storages)
 
 pub find_intervals-requires : goal.find_intervals-requires
@@ -53,18 +54,20 @@ find_intervals-requires c =
       n.aggregates,
       n.virtual_storages,
       long (lent (goal.at.find_intervals-requires c).Else-not-well_shaped) c.args.file.now c.args.work.now (is-shaped (goal.at.find_intervals-requires c).Else-not-well_shaped)
-          (sym c.in-Accepted.is ∙ c.read_step-read.ensures (lent (goal.at.find_intervals-requires c).Else-not-well_shaped) refl),
+          (sym c.in_ok-read_step.was ∙ c.read_step.ensures (lent (goal.at.find_intervals-requires c).Else-not-well_shaped) refl),
     )
 
-pub returns-in-Refused : goal.returns-in-Refused
-returns-in-Refused c =
-    λ s ec es eh. judged_file s c.args.file.now _ (sym (c.well_shaped.ensures s ec es eh) ∙ c.if-not-well_shaped.false)
-    (sym c.in-Refused.is ∙ c.read_step-read.ensures s eh)
+pub returns-in_err-read_step : goal.returns-in_err-read_step
+returns-in_err-read_step c =
+    let p = err_from_is_err_and c.from_residual.result c.from_residual.ensures.1 in
+    λ s ec es eh. rw (p.1, p.2)
+    (judged_file s c.args.file.now _ (sym (c.well_shaped.ensures s ec es eh) ∙ c.if-not-well_shaped.false)
+    (sym c.in_err-read_step.was ∙ c.read_step.ensures s eh))
 
-pub returns-in-Accepted : goal.returns-in-Accepted
+pub returns : goal.returns
 unfolding intervals_in
-returns-in-Accepted c =
+returns c =
     λ s ec es eh.
     judged_intervals s c.args.file.now _ (sym (c.well_shaped.ensures s ec es eh) ∙ c.if-not-well_shaped.false)
-    (sym c.in-Accepted.is ∙ c.read_step-read.ensures s eh)
+    (sym c.in_ok-read_step.was ∙ c.read_step.ensures s eh)
     c.find_intervals.result (c.find_intervals.ensures s eh).answer (c.find_intervals.ensures s eh).held

@@ -1,10 +1,6 @@
 -- `step_costs::update_edge_objectives` meets its contract. The loop's invariant: the costs of i edges of the flow order were added.
-use Prim.Native.Nat.{◌-◌}
 use Rattle.step_costs.proofs.CostLaws.{Added}
 use Rattle.step_costs.proofs.update_edge_objectives.Given as goal
 
 abbrev pub invariant-loop-i : goal.invariant-loop-i
 invariant-loop-i l = Added l.file l.shape l.initial.col_obj_coef l.col_obj_coef l.i
-
-abbrev pub decreases-loop-i : goal.decreases-loop-i
-decreases-loop-i l = l.edges - l.i

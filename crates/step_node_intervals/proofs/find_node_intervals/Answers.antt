@@ -5,14 +5,14 @@ use Rattle.step_node_intervals.proofs.find_node_intervals.Goals as goal
 
 pub returns-then-first-written : goal.returns-then-first-written
 returns-then-first-written c =
-    beyond_refused _ _ _ _ _ _ _ _ c.write_node_intervals-written.ensures c.first_beyond-first.ensures c.if-first-written.true
+    rw c.at.ensures (beyond_refused _ _ _ _ _ _ _ _ c.write_node_intervals-written.ensures c.first_beyond-first.ensures c.if-first-written.true)
 
 pub returns-then-written-nodes : goal.returns-then-written-nodes
 returns-then-written-nodes c =
-    crossed_refused _ _ _ _ _ _ _ _ c.write_node_intervals-written.ensures c.first_beyond-first.ensures c.if-first-written.false
-    (omega (arith, c.wide16-nodes.ensures.0, c.if-written-nodes.true))
+    rw c.at-then-written-nodes.ensures
+    (crossed_refused _ _ _ _ _ _ _ _ c.write_node_intervals-written.ensures c.first_beyond-first.ensures c.if-first-written.false (omega arith))
 
 pub returns : goal.returns
 returns c =
     none_bad _ _ _ _ _ _ _ _ c.write_node_intervals-written.ensures c.first_beyond-first.ensures c.if-first-written.false
-    (omega (arith, c.wide16-nodes.ensures.0, c.if-written-nodes.false))
+    (omega arith)

@@ -17,8 +17,7 @@ shape_of-work-then-is_crossed c = c.loop-i.invariant.writing.long
 pub returns-then-is_crossed : goal.returns-then-is_crossed
 returns-then-is_crossed c =
     let a = c.args in
-    let is = c.node_interval-x.ensures ∙ ap (node_numbered a.sentinel a.days a.shape.now a.file.now) c.narrow16.ensures in
-    rw (← c.wide16-nodes.ensures.0) (passed_stops _ _ c.loop-i-test.true is c.is_crossed.ensures c.loop-i.invariant c.if-is_crossed.true)
+    rw (← c.from-nodes.ensures) (passed_stops _ _ c.loop-i-test.true c.node_interval-x.ensures c.is_crossed.ensures c.loop-i.invariant c.if-is_crossed.true)
 
 pub bounds-work-i-in-loop-i : goal.bounds-work-i-in-loop-i
 bounds-work-i-in-loop-i c =
@@ -27,12 +26,11 @@ bounds-work-i-in-loop-i c =
 pub loop-i-preserved : goal.loop-i-preserved
 loop-i-preserved c =
     let a = c.args in
-    let is = c.node_interval-x.ensures ∙ ap (node_numbered a.sentinel a.days a.shape.now a.file.now) c.narrow16.ensures in
-    passed_more _ _ c.loop-i-test.true is c.is_crossed.ensures c.loop-i.invariant c.loop-i.i (sym (zero-add c.loop-i.i))
+    passed_more _ _ c.loop-i-test.true c.node_interval-x.ensures c.is_crossed.ensures c.loop-i.invariant c.loop-i.i (sym (zero-add c.loop-i.i))
     (search rules) (search rules) c.if-is_crossed.false
 
 pub shape_of-work : goal.shape_of-work
 shape_of-work c = c.loop-i.invariant.writing.long
 
 pub returns : goal.returns
-returns c = rw (← c.wide16-nodes.ensures.0) (passed_all c.loop-i-test.false c.loop-i.invariant)
+returns c = rw (← c.from-nodes.ensures) (passed_all c.loop-i-test.false c.loop-i.invariant)

@@ -1,12 +1,15 @@
 -- `coefficient` meets its contract.
-use borrow.Author.Tests.{eq-eqb, ne_eqb}
+use mathlib.Core.Path.{◌≡◌}
+use native.Mathlib.Omega.{arith}
+use borrow.Author.Tests.{ne_eqb}
 use Rattle.step_node_rows.specs.NodeConstraintBounds.{coefficient_by_word}
 use Rattle.step_node_rows.proofs.coefficient.Goals as goal
 
-pub returns-then-row_type-eq1 : goal.returns-then-row_type-eq1
+pub returns-in-BinaryUpper : goal.returns-in-BinaryUpper
 unfolding coefficient_by_word
-returns-then-row_type-eq1 c = rw (eq-eqb _ _ c.if-row_type-eq1.true)
+returns-in-BinaryUpper c = λ word is. let one : word ≡ 1 = rw c.in-BinaryUpper.is at is in (λ e. omega arith, rw one)
 
-pub returns-else-row_type-eq1 : goal.returns-else-row_type-eq1
+pub returns-in-BinaryLower : goal.returns-in-BinaryLower
 unfolding coefficient_by_word
-returns-else-row_type-eq1 c = rw (ne_eqb _ _ c.if-row_type-eq1.false)
+returns-in-BinaryLower c =
+    λ word is. let other = rw c.in-BinaryLower.is at is in (other.0, rw (ne_eqb word 1 other.1))

@@ -1,16 +1,29 @@
 -- `update_constraint_bounds` meets its contract.
-use mathlib.Core.Path.{◌∙◌}
 use native.Mathlib.Omega.{arith}
+use Rattle.step_row_bounds.specs.SameRuns.{BoundsAlone}
+use Rattle.step_row_bounds.proofs.SameRuns.{same_then, alone_then}
 use Rattle.step_rows.specs.ConstraintBounds.{store_of}
 use Rattle.step_rows.proofs.Fitting.{Fitting, fitting}
 use Rattle.step_rows.proofs.Stepped.{step_written}
-use Rattle.step_rows.proofs.update_constraint_bounds.Goals.{Start}
+use Rattle.step_rows.proofs.update_constraint_bounds.Goals.{Start, After-update_node_constraint_bounds, After-apply_intervals, After-apply_intervals-2}
 use Rattle.step_rows.proofs.update_constraint_bounds.Goals as goal
 
-fits : (c : Start) → Fitting c.args.columns.now c.args.row_starts.now c.args.shape.now
+fits : (c : Start) → Fitting c.args.store.now.columns.now c.args.store.now.row_starts.now c.args.store.now.shape.now
 fits c =
-    let a = c.args in
-    fitting (store_of a.row_lower.now a.row_upper.now a.elements.now a.columns.now a.row_starts.now a.shape.now) c.requires
+    let s = c.args.store.now in
+    fitting (store_of s.row_lower.now s.row_upper.now s.elements.now s.columns.now s.row_starts.now s.shape.now) c.requires
+
+-- the calls so far changed bounds alone
+nodes_alone : (c : After-update_node_constraint_bounds) → BoundsAlone c.args.store.now c.update_node_constraint_bounds.new.store
+nodes_alone c = alone_then c.reset_row_bounds.ensures.alone c.update_node_constraint_bounds.ensures.alone
+
+aggregates_alone : (c : After-apply_intervals) → BoundsAlone c.args.store.now c.apply_intervals.new.store
+aggregates_alone c = alone_then (alone_then c.reset_row_bounds.ensures.alone c.update_node_constraint_bounds.ensures.alone) c.apply_intervals.ensures.alone
+
+intervals_alone : (c : After-apply_intervals-2) → BoundsAlone c.args.store.now c.apply_intervals-2.new.store
+intervals_alone c =
+    alone_then (alone_then (alone_then c.reset_row_bounds.ensures.alone c.update_node_constraint_bounds.ensures.alone) c.apply_intervals.ensures.alone)
+    c.apply_intervals-2.ensures.alone
 
 pub reset_row_bounds-requires : goal.reset_row_bounds-requires
 reset_row_bounds-requires c =
@@ -20,90 +33,68 @@ reset_row_bounds-requires c =
 pub update_node_constraint_bounds-requires : goal.update_node_constraint_bounds-requires
 update_node_constraint_bounds-requires c =
     let p = c.requires in
-    let f = fits (goal.at.update_node_constraint_bounds-requires c).Start in (
-      omega (arith, c.reset_row_bounds.auto.row_lower, p.row_lower_long),
-      omega (arith, c.reset_row_bounds.auto.row_upper, p.row_upper_long),
+    let f = fits (goal.at.update_node_constraint_bounds-requires c).Start in
+    let same = c.reset_row_bounds.ensures.alone.runs in (
+      omega (arith, p.row_lower_long, same.lower_long),
+      omega (arith, p.row_upper_long, same.upper_long),
       p.work_long,
-      f.shape_fits,
-      f.node_rows_few,
-      λ k lt. (f.node_rows_lem k lt).within,
+      rw same.shape f.shape_fits,
+      rw same.shape f.node_rows_few,
+      rw same.shape (λ k lt. (f.node_rows_lem k lt).within),
     )
 
 pub apply_intervals-requires : goal.apply_intervals-requires
 apply_intervals-requires c =
     let p = c.requires in
-    let f = fits (goal.at.apply_intervals-requires c).Start in (
-      rw c.wide16-aggregates.ensures.0 f.aggregates,
-      omega (arith, c.update_node_constraint_bounds.auto.row_lower, c.reset_row_bounds.auto.row_lower, p.row_lower_long),
-      omega (arith, c.update_node_constraint_bounds.auto.row_upper, c.reset_row_bounds.auto.row_upper, p.row_upper_long),
+    let f = fits (goal.at.apply_intervals-requires c).Start in
+    let same = (nodes_alone (goal.at.apply_intervals-requires c).After-update_node_constraint_bounds).runs in
+    let counted = rw same.shape at c.from-aggregates.ensures in (
+      rw (same.shape, counted) f.aggregates,
+      omega (arith, p.row_lower_long, same.lower_long),
+      omega (arith, p.row_upper_long, same.upper_long),
       p.work_long,
-      omega (arith, c.wide16-aggregates.ensures.0, f.aggregates_few),
+      omega (arith, counted, f.aggregates_few),
     )
 
 pub apply_intervals-requires-2 : goal.apply_intervals-requires-2
 apply_intervals-requires-2 c =
     let p = c.requires in
-    let f = fits (goal.at.apply_intervals-requires-2 c).Start in (
-      rw c.wide16-virtual_storages.ensures.0 f.virtual_storages,
-      omega (
-        arith,
-        c.apply_intervals.auto.row_lower,
-        c.update_node_constraint_bounds.auto.row_lower,
-        c.reset_row_bounds.auto.row_lower,
-        p.row_lower_long,
-      ),
-      omega (
-        arith,
-        c.apply_intervals.auto.row_upper,
-        c.update_node_constraint_bounds.auto.row_upper,
-        c.reset_row_bounds.auto.row_upper,
-        p.row_upper_long,
-      ),
+    let f = fits (goal.at.apply_intervals-requires-2 c).Start in
+    let same = (aggregates_alone (goal.at.apply_intervals-requires-2 c).After-apply_intervals).runs in
+    let counted = rw same.shape at c.from-virtual_storages.ensures in (
+      rw (same.shape, counted) f.virtual_storages,
+      omega (arith, p.row_lower_long, same.lower_long),
+      omega (arith, p.row_upper_long, same.upper_long),
       p.work_long,
-      omega (arith, c.wide16-virtual_storages.ensures.0, f.virtual_storages_few),
+      omega (arith, counted, f.virtual_storages_few),
     )
 
 pub update_binary_rows-requires : goal.update_binary_rows-requires
 update_binary_rows-requires c =
     let p = c.requires in
-    let f = fits (goal.at.update_binary_rows-requires c).Start in (
-      omega (
-        arith,
-        c.apply_intervals-2.auto.row_lower,
-        c.apply_intervals.auto.row_lower,
-        c.update_node_constraint_bounds.auto.row_lower,
-        c.reset_row_bounds.auto.row_lower,
-        p.row_lower_long,
-      ),
-      omega (
-        arith,
-        c.apply_intervals-2.auto.row_upper,
-        c.apply_intervals.auto.row_upper,
-        c.update_node_constraint_bounds.auto.row_upper,
-        c.reset_row_bounds.auto.row_upper,
-        p.row_upper_long,
-      ),
-      p.elements_long,
+    let f = fits (goal.at.update_binary_rows-requires c).Start in
+    let same = (intervals_alone (goal.at.update_binary_rows-requires c).After-apply_intervals-2).runs in (
+      omega (arith, p.row_lower_long, same.lower_long),
+      omega (arith, p.row_upper_long, same.upper_long),
+      omega (arith, p.elements_long, same.elements_long),
       p.work_long,
-      f.varying,
-      f.node_rows_few,
-      f.node_rows_lem,
+      rw (same.columns, same.row_starts, same.shape) f.varying,
+      rw same.shape f.node_rows_few,
+      rw (same.columns, same.row_starts, same.shape) f.node_rows_lem,
     )
-
-pub shape_of-row_lower : goal.shape_of-row_lower
-shape_of-row_lower c =
-    c.update_binary_rows.auto.row_lower ∙ c.apply_intervals-2.auto.row_lower ∙ c.apply_intervals.auto.row_lower
-    ∙ c.update_node_constraint_bounds.auto.row_lower ∙ c.reset_row_bounds.auto.row_lower
-
-pub shape_of-row_upper : goal.shape_of-row_upper
-shape_of-row_upper c =
-    c.update_binary_rows.auto.row_upper ∙ c.apply_intervals-2.auto.row_upper ∙ c.apply_intervals.auto.row_upper
-    ∙ c.update_node_constraint_bounds.auto.row_upper ∙ c.reset_row_bounds.auto.row_upper
 
 pub returns : goal.returns
 returns c =
-    λ s i has held.
-    step_written _ _ _ _ _ _ _ (fits (goal.at.returns c).Start).varying c.requires.elements_long s _ _ _ _ _ _ _ _ _ _ _ _ _
-    c.reset_row_bounds.ensures c.update_node_constraint_bounds.ensures
-    c.wide16-aggregates.ensures.0 c.apply_intervals.ensures
-    c.wide16-virtual_storages.ensures.0 c.apply_intervals-2.ensures c.update_binary_rows.ensures i has held
+    let reset = c.reset_row_bounds.ensures in
+    let nodes = nodes_alone (goal.at.returns c).After-update_node_constraint_bounds in
+    let aggregates = aggregates_alone (goal.at.returns c).After-apply_intervals in
+    let all = intervals_alone (goal.at.returns c).After-apply_intervals-2 in
+    record {
+      rows = λ s i has held.
+          step_written _ _ _ _ _ _ _ (fits (goal.at.returns c).Start).varying c.requires.elements_long s _ _ _ _ _ _ _ _ _ _ _ _ _
+          reset.rows (rw reset.alone.runs.shape at c.update_node_constraint_bounds.ensures.rows)
+          (rw nodes.runs.shape at c.from-aggregates.ensures) (rw nodes.runs.shape at c.apply_intervals.ensures.rows)
+          (rw aggregates.runs.shape at c.from-virtual_storages.ensures) (rw aggregates.runs.shape at c.apply_intervals-2.ensures.rows)
+          (rw (all.runs.columns, all.runs.row_starts, all.runs.shape, all.factors) at c.update_binary_rows.ensures.rows) i has held;
+      same = same_then all.runs c.update_binary_rows.ensures.same;
+    }

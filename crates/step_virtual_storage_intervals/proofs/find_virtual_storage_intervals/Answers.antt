@@ -18,7 +18,7 @@ bounds-work-k-in-loop-i c =
       length-set c.loop-i.work (virtual_storages_held_at + c.loop-i.i) c.virtual_storage_interval-x.result.lower,
       c.loop-i.invariant.long,
       c.loop-i-test.true,
-      c.wide16-virtual_storages.ensures.0,
+      c.from-virtual_storages.ensures,
       c.requires.1,
       c.requires.4,
     )
@@ -26,11 +26,11 @@ bounds-work-k-in-loop-i c =
 pub loop-i-preserved : goal.loop-i-preserved
 unfolding virtual_storage_numbered
 loop-i-preserved c =
-    writing_more _ c.virtual_storage_interval-x.result refl (omega (arith, c.wide16-virtual_storages.ensures.0, c.requires.4)) c.requires.1 c.loop-i-test.true
-    (c.virtual_storage_interval-x.ensures ∙ rw (c.virtual_storage_at.ensures, c.wide16-nodes.ensures.0, c.wide16-aggregates.ensures.0)) c.loop-i.invariant
+    writing_more _ c.virtual_storage_interval-x.result refl (omega (arith, c.from-virtual_storages.ensures, c.requires.4)) c.requires.1 c.loop-i-test.true
+    (c.virtual_storage_interval-x.ensures ∙ rw (c.virtual_storage_at.ensures, c.from-nodes.ensures, c.from-aggregates.ensures)) c.loop-i.invariant
 
 pub shape_of-work : goal.shape_of-work
 shape_of-work c = c.loop-i.invariant.long
 
 pub returns : goal.returns
-returns c = rw (← c.wide16-virtual_storages.ensures.0) (writing_all c.loop-i-test.false c.loop-i.invariant)
+returns c = rw (← c.from-virtual_storages.ensures) (writing_all c.loop-i-test.false c.loop-i.invariant)

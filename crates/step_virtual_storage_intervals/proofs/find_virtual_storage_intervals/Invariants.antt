@@ -1,5 +1,4 @@
 -- `find_virtual_storage_intervals` meets its contract. The loop's invariant: i intervals are written.
-use Prim.Native.Nat.{◌-◌}
 use Rattle.layout.specs.Layout.{virtual_storages_held_at}
 use Rattle.step_virtual_storage_intervals.specs.VirtualStorageIntervals.{virtual_storage_numbered}
 use Rattle.step_work.proofs.WrittenLaws.{Writing}
@@ -7,6 +6,3 @@ use Rattle.step_virtual_storage_intervals.proofs.find_virtual_storage_intervals.
 
 abbrev pub invariant-loop-i : goal.invariant-loop-i
 invariant-loop-i l = Writing (virtual_storage_numbered l.sentinel l.days l.shape l.file) virtual_storages_held_at l.virtual_storages l.initial.work l.work l.i
-
-abbrev pub decreases-loop-i : goal.decreases-loop-i
-decreases-loop-i l = l.virtual_storages - l.i

@@ -1,11 +1,7 @@
 -- `none_beyond` meets its contract. The loop's invariant: the first i node rows have no such node.
-use Prim.Native.Nat.{◌-◌, ◌≤◌}
 use Rattle.layout.specs.Layout.{nodes_in}
 use Rattle.step_node_intervals.proofs.BinaryRowLaws.{LeastTo}
 use Rattle.step_walk.proofs.none_beyond.Given as goal
 
 abbrev pub invariant-loop-i : goal.invariant-loop-i
-invariant-loop-i l = (l.i ≤ l.node_rows) × LeastTo l.sentinel l.work l.shape (nodes_in l.shape) l.i (nodes_in l.shape)
-
-abbrev pub decreases-loop-i : goal.decreases-loop-i
-decreases-loop-i l = l.node_rows - l.i
+invariant-loop-i l = LeastTo l.sentinel l.work l.shape (nodes_in l.shape) l.i (nodes_in l.shape)

@@ -1,7 +1,7 @@
 -- `walk_file` meets its contract: the tables one after the other, each good.
 use mathlib.Core.Path.{sym, ◌∙◌}
 use native.Mathlib.Omega.{arith}
-use Rattle.step_walk.proofs.WalkLaws.{stopped}
+use Rattle.step_walk.proofs.WalkLaws.{stopped, passed_check}
 use Rattle.step_walk.proofs.FileLaws.{file_walked}
 use Rattle.step_walk.proofs.walk_file.Goals as goal
 
@@ -17,14 +17,14 @@ returns-then-not-none_beyond c = stopped
 pub returns-then-not-walk_aggregates : goal.returns-then-not-walk_aggregates
 returns-then-not-walk_aggregates c = stopped
 
-pub returns-in-Refused : goal.returns-in-Refused
-returns-in-Refused c = stopped
+pub returns-then-is_err : goal.returns-then-is_err
+returns-then-is_err c = stopped
 
-pub returns-else-not-walk_aggregates : goal.returns-else-not-walk_aggregates
-returns-else-not-walk_aggregates c =
+pub returns : goal.returns
+returns c =
     λ good s e. file_walked s c.args.shape.now c.args.file.now e
-    (omega (arith, c.if-file-length.false, c.wide16-nodes.ensures.0, c.wide16-aggregates.ensures.0, c.wide16-virtual_storages.ensures.0))
-    (sym c.check_date-date.ensures ∙ c.in-Accepted.is) c.days-days.result c.days-days.ensures c.kept_sentinel-sentinel.result
+    (omega (arith, c.if-file-length.false, c.from-nodes.ensures, c.from-aggregates.ensures, c.from-virtual_storages.ensures))
+    (sym c.check_date.ensures ∙ passed_check _ (sym c.is_err.ensures.value ∙ c.if-is_err.false)) c.days-days.result c.days-days.ensures c.kept_sentinel-sentinel.result
     c.kept_sentinel-sentinel.ensures _ _ _ _
     (c.walk_nodes.ensures (c.if-not-walk_nodes.false))
     (c.none_beyond.ensures (c.if-not-none_beyond.false))

@@ -8,21 +8,21 @@ use Rattle.step_walk.proofs.walk_nodes.Goals as goal
 pub loop-i-init : goal.loop-i-init
 loop-i-init c = walking_nodes_none _ _ _ _ _ _
 
-pub shape_of-work-in-Stopped : goal.shape_of-work-in-Stopped
-shape_of-work-in-Stopped c = c.loop-i.invariant.passed.writing.long
+pub shape_of-work-in_default : goal.shape_of-work-in_default
+shape_of-work-in_default c = c.loop-i.invariant.passed.writing.long
 
-pub returns-in-Stopped : goal.returns-in-Stopped
-returns-in-Stopped c = stopped
+pub returns-in_default : goal.returns-in_default
+returns-in_default c = stopped
 
-pub bounds-work-i-in-Good : goal.bounds-work-i-in-Good
-bounds-work-i-in-Good c = omega (arith, length-set c.loop-i.work c.loop-i.i c.in-Good.x.lower, c.loop-i.invariant.passed.writing.long)
+pub bounds-work-i-in-loop-i : goal.bounds-work-i-in-loop-i
+bounds-work-i-in-loop-i c = omega (arith, length-set c.loop-i.work c.loop-i.i c.in-Some.x.lower, c.loop-i.invariant.passed.writing.long)
 
 pub loop-i-preserved : goal.loop-i-preserved
 loop-i-preserved c =
-    walking_nodes_more c.loop-i.invariant _ c.in-Good.x c.walk_node-node.ensures c.in-Good.is (search rules) (search rules) c.loop-i-test.true
+    walking_nodes_more c.loop-i.invariant _ c.in-Some.x c.walk_node.ensures c.in-Some.is (search rules) (search rules) c.loop-i-test.true
 
 pub shape_of-work : goal.shape_of-work
 shape_of-work c = c.loop-i.invariant.passed.writing.long
 
 pub returns : goal.returns
-returns c = λ e. walking_nodes_all c.loop-i.invariant c.wide16-nodes.ensures.0 c.loop-i-test.false
+returns c = λ e. walking_nodes_all c.loop-i.invariant c.from-nodes.ensures c.loop-i-test.false

@@ -9,19 +9,19 @@ pub returns-then-not-is_marked : goal.returns-then-not-is_marked
 returns-then-not-is_marked c = aggregate_stopped _ _
 
 pub float_from_bits-result : goal.float_from_bits-result
-float_from_bits-result c = flow_bits _ (flows_fit _ _ (sym c.are_flows.ensures ∙ c.if-are_flows.true)).lower
+float_from_bits-result c = flow_bits _ (flows_fit _ _ (sym c.are_flows.ensures ∙ c.if-not-are_flows.false)).lower
 
-pub float_from_bits-result-then-are_flows : goal.float_from_bits-result-then-are_flows
-float_from_bits-result-then-are_flows c = flow_bits _ (flows_fit _ _ (sym c.are_flows.ensures ∙ c.if-are_flows.true)).upper
+pub float_from_bits-result-2 : goal.float_from_bits-result-2
+float_from_bits-result-2 c = flow_bits _ (flows_fit _ _ (sym c.are_flows.ensures ∙ c.if-not-are_flows.false)).upper
 
-pub returns-then-are_flows : goal.returns-then-are_flows
+pub returns : goal.returns
 unfolding of_pattern
-returns-then-are_flows c =
+returns c =
     aggregate_walked _ _ _ _ c.requires
     (sym c.is_marked.ensures ∙ c.if-not-is_marked.false)
     c.u64_at-lower.ensures
     c.u64_at-upper.ensures
-    (sym c.are_flows.ensures ∙ c.if-are_flows.true)
+    (sym c.are_flows.ensures ∙ c.if-not-are_flows.false)
 
-pub returns : goal.returns
-returns c = aggregate_stopped _ _
+pub returns-then-not-are_flows : goal.returns-then-not-are_flows
+returns-then-not-are_flows c = aggregate_stopped _ _

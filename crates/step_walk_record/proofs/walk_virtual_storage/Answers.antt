@@ -6,7 +6,7 @@ use Rattle.pywr.specs.Numbers.{of_pattern}
 use Rattle.pywr.specs.Interval.{virtual_bounds}
 use Rattle.pywr.specs.Period.{is_active, virtual_interval}
 use Rattle.step_period.specs.PeriodAt.{period_at}
-use Rattle.step_walk_record.specs.declared.Walked.TheVariants.{Good}
+use Rattle.std.specs.Prelude.{Some}
 use Rattle.step_walk_record.specs.Fields.{are_volumes}
 use Rattle.step_walk_record.specs.WalkedRecord.{VirtualStorageWalked}
 use Rattle.step_walk_record.proofs.GoodLaws.{volumes_fit, small_bits}
@@ -21,7 +21,7 @@ tested c =
 abbrev interval : Else-not-are_volumes → Interval
 interval c =
     let a = c.args in
-    let active = is_active (period_at a.shape.now a.place) a.month a.day in
+    let active = is_active (period_at a.shape.now a.place) a.date.month a.date.day in
     let min = of_pattern c.u64_at-min.result in
     let max = of_pattern c.u64_at-max.result in
     let volume = of_pattern c.u64_at-volume.result in
@@ -30,7 +30,7 @@ interval c =
 abbrev VirtualStorage : Else-not-are_volumes → Interval → Type 0
 VirtualStorage c x =
     let a = c.args in
-    VirtualStorageWalked a.shape.now a.file.now a.place a.at a.month a.day a.days a.sentinel (Good x)
+    VirtualStorageWalked a.shape.now a.file.now a.place a.at a.date.month a.date.day a.days a.sentinel (Some x)
 
 -- behind the mark and the volumes
 interval-walked : (c : Else-not-are_volumes) (x : Interval) → x ≡ interval c → VirtualStorage c x
@@ -64,7 +64,7 @@ returns-then-is_active_at c =
     interval-walked (goal.at.returns-then-is_active_at c).Else-not-are_volumes _
     (rw (← c.is_active_at.ensures, c.if-is_active_at.true, ← c.virtual_bounds-bounds.ensures) c.interval_of.ensures)
 
-pub returns : goal.returns
+pub returns-else-is_active_at : goal.returns-else-is_active_at
 unfolding virtual_interval
-returns c =
-    interval-walked (goal.at.returns c).Else-not-are_volumes _ (rw (← c.is_active_at.ensures, c.if-is_active_at.false) c.sentinels.ensures)
+returns-else-is_active_at c =
+    interval-walked (goal.at.returns-else-is_active_at c).Else-not-are_volumes _ (rw (← c.is_active_at.ensures, c.if-is_active_at.false) c.sentinels.ensures)

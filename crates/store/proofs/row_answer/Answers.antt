@@ -53,7 +53,7 @@ starts_there c =
 
 pub returns-then-not-has_room : goal.returns-then-not-has_room
 returns-then-not-has_room c =
-    short (sym (c.has_room.ensures _ (lengths _)) ∙ c.if-not-has_room.true)
+    rw c.at.ensures (short (sym (c.has_room.ensures _ (lengths _)) ∙ c.if-not-has_room.true))
 
 pub well_shaped-requires : goal.well_shaped-requires
 well_shaped-requires c =
@@ -61,14 +61,16 @@ well_shaped-requires c =
 
 pub returns-then-not-well_shaped : goal.returns-then-not-well_shaped
 returns-then-not-well_shaped c =
-    misshapen (room (goal.at.returns-then-not-well_shaped c).Else-not-has_room) (sym (c.well_shaped.ensures _ refl refl refl) ∙ c.if-not-well_shaped.true)
+    rw c.at-then-not-well_shaped.ensures
+    (misshapen (room (goal.at.returns-then-not-well_shaped c).Else-not-has_room) (sym (c.well_shaped.ensures _ refl refl refl) ∙ c.if-not-well_shaped.true))
 
 pub row_count-requires : goal.row_count-requires
 row_count-requires c = (roomy _ (room (goal.at.row_count-requires c).Else-not-has_room)).shape
 
 pub returns-then-row_count-row : goal.returns-then-row_count-row
 returns-then-row_count-row c =
-    no_row (room (goal.at.returns-then-row_count-row c).Else-not-has_room) (shape_fits (goal.at.returns-then-row_count-row c).Else-not-well_shaped _ refl refl refl) (omega (arith, c.row_count.ensures, c.if-row_count-row.true))
+    rw c.at-then-row_count-row.ensures
+    (no_row (room (goal.at.returns-then-row_count-row c).Else-not-has_room) (shape_fits (goal.at.returns-then-row_count-row c).Else-not-well_shaped _ refl refl refl) (omega (arith, c.row_count.ensures, c.if-row_count-row.true)))
 
 pub offset_bounds-row_starts-row : goal.offset_bounds-row_starts-row
 offset_bounds-row_starts-row c = let h = starts_there (goal.at.offset_bounds-row_starts-row c).Else-row_count-row in search rules
@@ -76,8 +78,8 @@ offset_bounds-row_starts-row c = let h = starts_there (goal.at.offset_bounds-row
 pub bounds-row_starts-row : goal.bounds-row_starts-row
 bounds-row_starts-row c = let h = starts_there (goal.at.bounds-row_starts-row c).Else-row_count-row in search rules
 
-pub overflow_add-row : goal.overflow_add-row
-overflow_add-row c = let h = starts_there (goal.at.overflow_add-row c).Else-row_count-row in search rules
+pub overflow_add-result : goal.overflow_add-result
+overflow_add-result c = let h = starts_there (goal.at.overflow_add-result c).Else-row_count-row in search rules
 
 pub offset_bounds-row_starts-row-2 : goal.offset_bounds-row_starts-row-2
 offset_bounds-row_starts-row-2 c = let h = starts_there (goal.at.offset_bounds-row_starts-row-2 c).Else-row_count-row in search rules
@@ -87,4 +89,4 @@ bounds-row_starts-row-2 c = let h = starts_there (goal.at.bounds-row_starts-row-
 
 pub returns : goal.returns
 returns c =
-    rw (c.wide32.ensures.0, c.wide32-2.ensures.0) (row_part_lem (room (goal.at.returns c).Else-not-has_room) (shape_fits (goal.at.returns c).Else-not-well_shaped _ refl refl refl) (omega (arith, c.row_count.ensures, c.if-row_count-row.false)))
+    row_part_lem (room (goal.at.returns c).Else-not-has_room) (shape_fits (goal.at.returns c).Else-not-well_shaped _ refl refl refl) (omega (arith, c.row_count.ensures, c.if-row_count-row.false))

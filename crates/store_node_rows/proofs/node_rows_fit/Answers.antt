@@ -11,15 +11,15 @@ loop-i-init c = tested_none _ _ _ _
 
 pub loop-i-preserved : goal.loop-i-preserved
 loop-i-preserved c =
-    tested_pass c.loop-i.invariant c.loop-i-test.true (sym (c.node_row_fits.ensures (of_runs _ _ _) refl refl refl) ∙ c.if-node_row_fits.true)
+    tested_pass c.loop-i.invariant c.loop-i-test.true (sym (c.node_row_fits.ensures (of_runs _ _ _) refl refl refl) ∙ c.if-not-node_row_fits.false)
 
-pub returns-else-node_row_fits : goal.returns-else-node_row_fits
+pub returns-then-not-node_row_fits : goal.returns-then-not-node_row_fits
 unfolding node_row_fits columns_of_row
-returns-else-node_row_fits c =
-    λ s ec er es. rw (ec, er, es, ← c.wide16-node_rows.ensures.0)
-    (tested_fail c.loop-i.invariant c.loop-i-test.true (sym (c.node_row_fits.ensures (of_runs _ _ _) refl refl refl) ∙ c.if-node_row_fits.false))
+returns-then-not-node_row_fits c =
+    λ s ec er es. rw (ec, er, es, ← c.from-node_rows.ensures)
+    (tested_fail c.loop-i.invariant c.loop-i-test.true (sym (c.node_row_fits.ensures (of_runs _ _ _) refl refl refl) ∙ c.if-not-node_row_fits.true))
 
 pub returns : goal.returns
 unfolding node_row_fits columns_of_row
 returns c =
-    λ s ec er es. rw (ec, er, es, ← c.wide16-node_rows.ensures.0) (tested_all c.loop-i.invariant c.loop-i-test.false)
+    λ s ec er es. rw (ec, er, es, ← c.from-node_rows.ensures) (tested_all c.loop-i.invariant c.loop-i-test.false)

@@ -22,6 +22,6 @@ returns c =
       c.words_under-under.ensures,
       c.falls.ensures,
       c.start_falls.ensures,
-      c.wide16-kept.ensures.0,
+      c.from-kept.ensures,
       c.row_count.ensures,
     ) (sym (rising _ _ c.requires.starts (search rules)))

@@ -11,4 +11,4 @@ loop-r-preserved c = risen_more c.loop-r.invariant c.loop-r-test.true
 
 pub returns : goal.returns
 returns c =
-    λ s er es. rw (starts_same s (of_runs [] _ _) er es 0, er, es, ← c.row_count-rows.ensures, c.wide32.ensures.0, c.wide16.ensures.0) (risen_all c.loop-r.invariant c.loop-r-test.false)
+    λ s er es. rw (starts_same s (of_runs [] _ _) er es 0, er, es, ← c.row_count-rows.ensures, c.from.ensures) (risen_all c.loop-r.invariant c.loop-r-test.false)

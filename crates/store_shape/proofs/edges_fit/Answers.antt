@@ -9,14 +9,14 @@ loop-i-init c = tested_none _ _ _ _
 
 pub loop-i-preserved : goal.loop-i-preserved
 loop-i-preserved c =
-    tested_pass c.loop-i.invariant c.loop-i-test.true (sym (c.edge_fits.ensures (of_shape _) refl refl refl) ∙ c.if-edge_fits.true)
+    tested_pass c.loop-i.invariant c.loop-i-test.true (sym (c.edge_fits.ensures (of_shape _) refl refl refl) ∙ c.if-not-edge_fits.false)
 
-pub returns-else-edge_fits : goal.returns-else-edge_fits
+pub returns-then-not-edge_fits : goal.returns-then-not-edge_fits
 unfolding edge_fits
-returns-else-edge_fits c =
-    λ s e. rw (e, ← c.wide16-edges.ensures.0)
-    (tested_fail c.loop-i.invariant c.loop-i-test.true (sym (c.edge_fits.ensures (of_shape _) refl refl refl) ∙ c.if-edge_fits.false))
+returns-then-not-edge_fits c =
+    λ s e. rw (e, ← c.from-edges.ensures)
+    (tested_fail c.loop-i.invariant c.loop-i-test.true (sym (c.edge_fits.ensures (of_shape _) refl refl refl) ∙ c.if-not-edge_fits.true))
 
 pub returns : goal.returns
 unfolding edge_fits
-returns c = λ s e. rw (e, ← c.wide16-edges.ensures.0) (tested_all c.loop-i.invariant c.loop-i-test.false)
+returns c = λ s e. rw (e, ← c.from-edges.ensures) (tested_all c.loop-i.invariant c.loop-i-test.false)

@@ -9,13 +9,13 @@ loop-i-init c = tested_none _ _ _ _
 
 pub loop-i-preserved : goal.loop-i-preserved
 loop-i-preserved c =
-    tested_pass c.loop-i.invariant c.loop-i-test.true (sym (c.maker_fits.ensures (of_shape _) refl refl) ∙ c.if-maker_fits.true)
+    tested_pass c.loop-i.invariant c.loop-i-test.true (sym (c.maker_fits.ensures (of_shape _) refl refl) ∙ c.if-not-maker_fits.false)
 
-pub returns-else-maker_fits : goal.returns-else-maker_fits
+pub returns-then-not-maker_fits : goal.returns-then-not-maker_fits
 unfolding maker_fits makers_of_kind
-returns-else-maker_fits c =
+returns-then-not-maker_fits c =
     λ s e. rw (e, ← c.row_count-rows.ensures)
-    (tested_fail c.loop-i.invariant c.loop-i-test.true (sym (c.maker_fits.ensures (of_shape _) refl refl) ∙ c.if-maker_fits.false))
+    (tested_fail c.loop-i.invariant c.loop-i-test.true (sym (c.maker_fits.ensures (of_shape _) refl refl) ∙ c.if-not-maker_fits.true))
 
 pub returns : goal.returns
 unfolding maker_fits makers_of_kind

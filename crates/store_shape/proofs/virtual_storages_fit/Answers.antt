@@ -12,4 +12,4 @@ loop-i-preserved c = tested_more c.loop-i.invariant c.loop-i-test.true
 
 pub returns : goal.returns
 unfolding virtual_storage_fits
-returns c = λ s e. rw (e, ← c.wide16-virtual_storages.ensures.0) (tested_all c.loop-i.invariant c.loop-i-test.false)
+returns c = λ s e. rw (e, ← c.from-virtual_storages.ensures) (tested_all c.loop-i.invariant c.loop-i-test.false)

@@ -1,5 +1,0 @@
--- `step_fields::node_min` meets its contract.
-use Rattle.step_fields.proofs.node_min.Goals as goal
-
-pub returns : goal.returns
-returns c = rw (c.f64_at.ensures, c.wide16-k.ensures.0)
