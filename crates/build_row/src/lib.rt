@@ -12,13 +12,13 @@ use layout::{COLUMN_CEILING, EDGE_CEILING};
 use pywr::{ColumnIndex, ColumnNumber, EdgeIndex};
 
 // Where the column stands in the row, or else where it belongs.
-fn place_of(columns: &[ColumnNumber], column: ColumnNumber) -> Result<usize, usize>
+fn place_of(columns: &[ColumnNumber], column: ColumnIndex) -> Result<usize, usize>
     requires { columns_rise column_ceiling 0 columns.now ≡ true }
-    ensures { MatchResult result (Stands columns.now column) (Belongs columns.now column) }
+    ensures { MatchResult result (Stands columns.now column.0) (Belongs columns.now column.0) }
 {
     // a row is mostly gathered in rising order
     match columns.last() {
-        Some(&last) if column <= last => columns.binary_search(&column),
+        Some(&last) if column.0 <= last => columns.binary_search(&column.0),
         _ => Err(columns.len()),
     }
 }
@@ -28,7 +28,10 @@ fn insert_at<T: Copy>(run: &mut [T], n: usize, p: usize, x: T)
     requires { (p ≤ n) × (n < length run.old) }
     ensures { run.new ≡ insert_at n p x run.old }
 {
-    run.copy_within(p..n, p + 1);
+    // no copy_within, which calls memmove
+    for i in (p..n).rev() {
+        run[i + 1] = run[i];
+    }
     run[p] = x;
 }
 
@@ -43,7 +46,7 @@ pub fn add_element(
     requires { (n ≤ column_ceiling) × (column_ceiling ≤ length elements.old) × (column.0 < column_ceiling) × Rising columns.old n }
     ensures { ElementAdded columns.old elements.old n column.0 value columns.new elements.new result }
 {
-    match place_of(&columns[..n], column.0) {
+    match place_of(&columns[..n], column) {
         Ok(p) => {
             elements[p] += value;
             n

@@ -1,13 +1,11 @@
 -- A loop that writes the list xs into a run from place `to` on, at any element type. Assumes nothing.
 use Prim.Native.Nat.{ℕ, ◌+◌, ◌<◌, ◌≤◌}
-use mathlib.Core.Path.{◌≡◌, refl, sym, ◌∙◌, ap}
-use mathlib.Core.List.{List, ◌++◌}
+use mathlib.Core.Path.{◌≡◌, refl, ◌∙◌, ap}
+use mathlib.Core.List.{List}
 use native.Mathlib.Omega.{arith}
-use lib.ListN.{length, get_or, take, drop, set, replicate, length-set, length-replicate}
-use lib.Seq.{sets, sets-eq}
+use lib.ListN.{length, get_or, take, set, replicate, length-set, length-replicate}
+use lib.Seq.{sets}
 use lib.Ieee.{binary64, of_bits}
-use Rattle.std.proofs.lemmas.List.{drop-drop, append_assoc}
-use borrow.Rule.Slice.PartMut.{put_mid}
 use Rattle.laws.proofs.Sets.{sets_next, take_whole, sets_whole}
 use Rattle.pywr.specs.Numbers.{zero64}
 
@@ -33,12 +31,6 @@ module _ {A : Type 0} where
 
   pub all : (xs d₀ : List A) (to n : ℕ) (d : List A) (i : ℕ) → n ≤ i → Copied xs d₀ to n d i → d ≡ sets d₀ to xs
   all xs d₀ to n d i le c = c.run ∙ ap (sets d₀ to) (take_whole xs n i c.whole_length le)
-
-  -- the part from `to` on holds xs
-  pub put_sets : (d xs : List A) (to k : ℕ) → length xs ≡ k → to + k ≤ length d → put_mid to k d xs ≡ sets d to xs
-  put_sets d xs to k e le =
-      ap (λ (l : List A). take to d ++ (xs ++ l)) (drop-drop k to d ∙ ap (λ (n : ℕ). drop (to + n) d) (sym e))
-      ∙ sym (append_assoc (take to d) xs _) ∙ sym (sets-eq xs d to (omega (arith, e)))
 
   -- a run that is filled over its whole length
   pub filled : (w : List A) (v : A) → sets w 0 (replicate (length w) v) ≡ replicate (length w) v

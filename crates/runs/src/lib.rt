@@ -10,7 +10,10 @@ pub fn copy<T: Copy>(d: &mut [T], to: usize, s: &[T], at: usize, n: usize)
     requires { (to + n ≤ length d.old) × (at + n ≤ length s.now) }
     ensures { d.new ≡ sets d.old to (part at n s.now) }
 {
-    d[to..to + n].copy_from_slice(&s[at..at + n]);
+    // no copy_from_slice, which calls memmove: a C caller is asked for memcpy and memset alone
+    for i in 0..n {
+        d[to + i] = s[at + i];
+    }
 }
 
 // The same from u16 to u32.

@@ -1,15 +1,15 @@
 -- `runs::copy` meets its contract.
-use Rattle.std.proofs.Common.{◌+◌, ◌-◌, ◌≡◌, length, arith, ◌∙◌, ap}
-use Rattle.std.proofs.lemmas.List.Edits.{sets}
-use Rattle.laws.specs.Part.{part}
-use Rattle.laws.proofs.Sets.{length_part}
-use Rattle.runs.proofs.Copied.{put_sets}
+use mathlib.Core.Path.{sym, ◌∙◌}
+use Rattle.laws.proofs.Sets.{length_part, part_at}
+use Rattle.runs.proofs.Copied.{none, more, all}
 use Rattle.runs.proofs.copy.Goals as goal
 
+pub loop-i-init : goal.loop-i-init
+loop-i-init g c = none _ _ _ _ (length_part c.args.s.now c.args.at c.args.n c.requires.1)
+
+pub loop-i-preserved : goal.loop-i-preserved
+loop-i-preserved g c =
+    more _ _ _ _ _ _ _ _ c.loop-i-test.true (part_at c.args.s.now c.args.at c.args.n c.loop-i.i _ c.loop-i-test.true ∙ sym c.index-s-at.is) c.loop-i.invariant
+
 pub returns : goal.returns
-returns g c =
-    let copied = c.copy_from_slice.ensures.after in
-    let n : c.args.at + c.args.n - c.args.at ≡ c.args.n = omega arith in
-    let is : c.copy_from_slice.new.self ≡ part c.args.at c.args.n c.args.s.now = copied ∙ ap (λ k. part c.args.at k c.args.s.now) n in
-    let long = ap length is ∙ length_part c.args.s.now c.args.at c.args.n c.requires.1 in
-    put_sets c.args.d.now _ c.args.to _ (omega (arith, long)) (omega arith) ∙ ap (sets c.args.d.now c.args.to) is
+returns g c = all _ _ _ _ _ _ c.loop-i-test.false c.loop-i.invariant
