@@ -112,20 +112,19 @@ impl ExclusiveSets {
         Ok(())
     }
 
-    // The memberships of every node in these sets.
-    pub fn list_members(&self, s: &[u8]) -> Memberships
+    // The memberships of every node in these sets. They are lent, so that they stand on the stack once.
+    pub fn list_members(&self, s: &[u8], memberships: &mut Memberships)
         requires { SetsFit s.now self.now.at self.now.count }
-        ensures { (n : ℕ) → n < node_ceiling → Linked membership_ceiling result.next (get_or result.first n 0)
+        ensures { (n : ℕ) → n < node_ceiling → Linked membership_ceiling memberships.new.next (get_or memberships.new.first n 0)
             (memberships_of n 0 (sets_at s.now self.now.at self.now.count)) }
     {
-        let mut memberships = Memberships {
+        *memberships = Memberships {
             first: [0; NODE_CEILING],
             next: [0; MEMBERSHIP_CEILING],
         };
         for k in (0..self.count).rev() {
-            list_set(s, k, usize::from(self.at[k]), &mut memberships);
+            list_set(s, k, usize::from(self.at[k]), memberships);
         }
-        memberships
     }
 }
 

@@ -17,19 +17,20 @@ pub struct EdgeLists {
     pub next: [u16; EDGE_CEILING],
 }
 
-// Edge 0 up to edge `edges - 1` stand behind `nodes` nodes; the edges are listed by their `end`.
-pub fn list_edges(s: &[u8], nodes: usize, edges: usize, end: End) -> EdgeLists
+// Edge 0 up to edge `edges - 1` stand behind `nodes` nodes; the edges are listed by their `end`. The lists are lent, so that they stand on the stack once.
+pub fn list_edges(s: &[u8], nodes: usize, edges: usize, end: End, lists: &mut EdgeLists)
     requires { (nodes ≤ node_ceiling) × (edges ≤ edge_ceiling) × (edge_place nodes edges ≤ length s.now)
         × ((e : ℕ) → e < edges → end_of end (edge_at s.now (edge_place nodes e)) < nodes) }
-    ensures { EdgesListed (end_of end) s.now nodes edges result }
+    ensures { EdgesListed (end_of end) s.now nodes edges lists.new }
 {
-    let mut first = [0; NODE_CEILING];
-    let mut next = [0; EDGE_CEILING];
+    *lists = EdgeLists {
+        first: [0; NODE_CEILING],
+        next: [0; EDGE_CEILING],
+    };
     for e in (0..edges).rev() {
         let node = network_edge::end_node(s, nodes, EdgeIndex(e as u16), end);
         let n = usize::from(node.0);
-        next[e] = first[n];
-        first[n] = e as u16 + 1;
+        lists.next[e] = lists.first[n];
+        lists.first[n] = e as u16 + 1;
     }
-    EdgeLists { first, next }
 }

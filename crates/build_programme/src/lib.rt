@@ -11,8 +11,11 @@ ghost use Rattle.build_node_row.specs.Tables.{network_of, TablesHold};
 ghost use Rattle.build_rows.specs.Assembled.{AfterAssemble};
 ghost use Rattle.layout.specs.WorkRoom.{WorkRoom};
 
+use build_exclusive_sets::Memberships;
+use build_incident_edges::EdgeLists;
 use build_node_row::EdgeTables;
 use build_write::Sizes;
+use layout::{EDGE_CEILING, MEMBERSHIP_CEILING, NODE_CEILING};
 use network_edge::End;
 use network_record::Counts;
 use pywr::{Refusal, Sentinel};
@@ -29,7 +32,11 @@ fn assemble_rows(
     ensures { AfterAssemble sentinel tables.now.file.now result words.new numbers.new }
 {
     let sets = build_exclusive_sets::collect_sets(tables.file, tables.counts)?;
-    let memberships = sets.list_members(tables.file);
+    let mut memberships = Memberships {
+        first: [0; NODE_CEILING],
+        next: [0; MEMBERSHIP_CEILING],
+    };
+    sets.list_members(tables.file, &mut memberships);
     build_rows::add_rows(tables, &sets, &memberships, sentinel, words, numbers)
 }
 
@@ -44,18 +51,32 @@ fn assemble_columns(
     requires { (parse_network s.now ≡ value (network_of s.now c)) × SectionsOf s.now c × WorkRoom words.old numbers.old }
     ensures { AfterAssemble sentinel s.now result words.new numbers.new }
 {
-    let incoming = build_incident_edges::list_edges(s, c.nodes, c.edges, End::To);
-    let outgoing = build_incident_edges::list_edges(s, c.nodes, c.edges, End::From);
-    let map = build_col_edge_map::map_edges(s, c.nodes, c.edges, &incoming, &outgoing);
-    let edge_to_col = map.edge_to_col;
-    let tables = EdgeTables {
+    let mut tables = EdgeTables {
         file: s,
         counts: c,
-        edge_columns: map.count,
-        incoming,
-        outgoing,
-        edge_to_col,
+        edge_columns: 0,
+        incoming: EdgeLists {
+            first: [0; NODE_CEILING],
+            next: [0; EDGE_CEILING],
+        },
+        outgoing: EdgeLists {
+            first: [0; NODE_CEILING],
+            next: [0; EDGE_CEILING],
+        },
+        edge_to_col: [0; EDGE_CEILING],
     };
+    build_incident_edges::list_edges(s, c.nodes, c.edges, End::To, &mut tables.incoming);
+    build_incident_edges::list_edges(s, c.nodes, c.edges, End::From, &mut tables.outgoing);
+    let map = build_col_edge_map::map_edges(
+        s,
+        c.nodes,
+        c.edges,
+        &tables.incoming,
+        &tables.outgoing,
+    );
+    let edge_to_col = map.edge_to_col;
+    tables.edge_columns = map.count;
+    tables.edge_to_col = edge_to_col;
     assemble_rows(&tables, sentinel, words, numbers)
 }
 

@@ -17,7 +17,7 @@ use build_exclusive_sets::{ExclusiveSets, Memberships};
 use build_node_row::EdgeTables;
 use build_write::Sizes;
 use layout::{COLUMN_CEILING, EDGE_CEILING, SHAPE_MADE_AT};
-use pywr::{ColumnNumber, Refusal, Sentinel};
+use pywr::{Refusal, Sentinel};
 
 // The tables of nodes and edges, and the counts.
 fn write_tables(
@@ -122,11 +122,10 @@ pub fn add_rows(
     ensures { AfterAssemble sentinel tables.now.file.now result words.new numbers.new }
 {
     build_append::start_rows(words);
-    let columns: [ColumnNumber; COLUMN_CEILING] = [0; COLUMN_CEILING];
     let mut lp = LpBuilder {
         words,
         numbers,
-        columns,
+        columns: [0; COLUMN_CEILING],
         filled: Filled {
             rows: 0,
             elements: 0,
