@@ -13,9 +13,9 @@ ghost use Rattle.pywr.specs.VaryingRows.{fresh_row};
 ghost use Rattle.build_join.specs.VariableRow.{AfterVariableRow, placed_then};
 ghost use Rattle.layout.specs.WorkRoom.{WorkRoom};
 
-use build_append::LpBuilder;
+use build_append::{Filled, LpBuilder};
 use build_exclusive_sets::ProgrammeFull;
-use layout::{ELEMENTS_MADE_AT, STARTS_MADE_AT};
+use layout::{COLUMN_CEILING, ELEMENTS_MADE_AT, STARTS_MADE_AT};
 use pywr::ColumnNumber;
 
 // Whether the n elements from `at` on stand on the gathered row's columns and equal its elements, which stand from `from` on.
@@ -43,33 +43,53 @@ fn same_elements(
 }
 
 // Whether row k equals the gathered row.
-fn same_row(lp: &LpBuilder<'_>, n: usize, k: usize) -> bool
-    requires { WorkRoom lp.now.words.now lp.now.numbers.now × (n ≤ column_ceiling) × (k < lp.now.filled.rows) × Holding lp.now.words.now lp.now.numbers.now lp.now.filled }
-    ensures { (rows : List Row) → RowsHeld rows lp.now.words.now lp.now.numbers.now lp.now.filled
-        → result ≡ same_row (get_or (element_lists rows) k []) (gathered lp.now.columns (drop (elements_made_at + lp.now.filled.elements) lp.now.numbers.now) n) }
+fn same_row(
+    words: &[u16],
+    numbers: &[f64],
+    columns: &[ColumnNumber],
+    n: usize,
+    f: Filled,
+    k: usize,
+) -> bool
+    requires { WorkRoom words.now numbers.now × (n ≤ column_ceiling) × (n ≤ length columns.now) × (k < f.rows) × Holding words.now numbers.now f }
+    ensures { (rows : List Row) → RowsHeld rows words.now numbers.now f
+        → result ≡ same_row (get_or (element_lists rows) k []) (gathered columns.now (drop (elements_made_at + f.elements) numbers.now) n) }
 {
-    // a slice's length is known to the proof
-    let columns: &[ColumnNumber] = &lp.columns;
-    let at = usize::from(lp.words[STARTS_MADE_AT + k]);
-    let end = usize::from(lp.words[STARTS_MADE_AT + k + 1]);
+    let at = usize::from(words[STARTS_MADE_AT + k]);
+    let end = usize::from(words[STARTS_MADE_AT + k + 1]);
     if end - at != n {
         return false;
     }
-    same_elements(lp.words, lp.numbers, columns, n, at, lp.filled.elements)
+    same_elements(words, numbers, columns, n, at, f.elements)
 }
 
 // Where the first row that equals the gathered row stands; the count of rows if there is none.
-pub fn position(lp: &LpBuilder<'_>, n: usize) -> usize
+pub fn position(
+    words: &[u16],
+    numbers: &[f64],
+    columns: &[ColumnNumber; COLUMN_CEILING],
+    n: usize,
+    f: Filled,
+) -> usize
+    requires { WorkRoom words.now numbers.now × (n ≤ column_ceiling) × Holding words.now numbers.now f }
+    ensures { (rows : List Row) → RowsHeld rows words.now numbers.now f
+        → result ≡ position (gathered columns.now (drop (elements_made_at + f.elements) numbers.now) n) (element_lists rows) }
+{
+    for k in 0..f.rows {
+        if same_row(words, numbers, columns, n, f, k) {
+            return k;
+        }
+    }
+    f.rows
+}
+
+// The same of a builder.
+fn gathered_position(lp: &LpBuilder<'_>, n: usize) -> usize
     requires { WorkRoom lp.now.words.now lp.now.numbers.now × (n ≤ column_ceiling) × Holding lp.now.words.now lp.now.numbers.now lp.now.filled }
     ensures { (rows : List Row) → RowsHeld rows lp.now.words.now lp.now.numbers.now lp.now.filled
         → result ≡ position (gathered lp.now.columns (drop (elements_made_at + lp.now.filled.elements) lp.now.numbers.now) n) (element_lists rows) }
 {
-    for k in 0..lp.filled.rows {
-        if same_row(lp, n, k) {
-            return k;
-        }
-    }
-    lp.filled.rows
+    position(lp.words, lp.numbers, &lp.columns, n, lp.filled)
 }
 
 // A varying row is asked for: an equal one that stands already serves, else the gathered row becomes the last row. Answers the row's number.
@@ -82,7 +102,7 @@ pub fn add_variable_row(lp: &mut LpBuilder<'_>, n: usize) -> Result<usize, Progr
     ensures gathered { lp.new.columns ≡ lp.old.columns }
     ensures full { OnErr result (lp.new.filled ≡ lp.old.filled) }
 {
-    let k = position(lp, n);
+    let k = gathered_position(lp, n);
     if k < lp.filled.rows {
         return Ok(k);
     }

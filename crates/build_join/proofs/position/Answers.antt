@@ -11,7 +11,7 @@ loop-k-init c = λ rows held. sym (zero-add _)
 pub same_row-requires : goal.same_row-requires
 same_row-requires c =
     let p = c.requires in
-    (p.0, p.1, c.loop-k-test.true, p.2)
+    (p.0, p.1, omega arith, c.loop-k-test.true, p.2)
 
 pub returns-then-same_row : goal.returns-then-same_row
 returns-then-same_row c = found _ _ _ _ _ c.loop-k.invariant _ c.same_row.ensures c.if-same_row.true c.loop-k-test.true

@@ -6,4 +6,4 @@ use Rattle.build_join.proofs.PositionLaws.{Passed}
 use Rattle.build_join.proofs.position.Given as goal
 
 abbrev pub invariant-loop-k : goal.invariant-loop-k
-invariant-loop-k l = Passed l.fn.lp.words.now l.fn.lp.numbers.now l.fn.lp.filled (gathered l.fn.lp.columns (drop (2048 + l.fn.lp.filled.elements) l.fn.lp.numbers.now) l.fn.n) l.k
+invariant-loop-k l = Passed l.fn.words l.fn.numbers l.fn.f (gathered l.fn.columns (drop (2048 + l.fn.f.elements) l.fn.numbers) l.fn.n) l.k
